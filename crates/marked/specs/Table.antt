@@ -1,0 +1,85 @@
+-- The cases that 01 marks with a dot for proof, in its order, each computed by the checker from the definitions.
+-- Those of the crates above paths and numbers join this file when their definitions are there.
+use Prim.Native.Nat.{ℕ, _-_, _^_}
+use mathlib.Core.Path.{_≡_, refl}
+use mathlib.Core.List.{List, [], _∷_}
+use lib.IntN.{pos, negsuc}
+use Rattle.paths_numbers.specs.Byte.{digitOf}
+use Rattle.paths_numbers.specs.Text.{begins, same, startsWith}
+use Rattle.paths_numbers.specs.Path.{strip, found, nothing, join}
+use Rattle.paths_numbers.specs.Number.{unsignedNumber, unsigned, digits, behindSign, behindPrefix, baseOf, trimmed, isSuffix, intCode}
+use Rattle.paths_numbers.specs.Expression.{evalInfix, shiftLeft}
+use Rattle.paths_numbers.specs.Cell.{exprCell, cellCode, largest}
+use Rattle.paths_numbers.specs.Bytestring.{countOf, countCode, nibbles, pairs}
+use Rattle.paths_numbers.specs.Reference.{target, isBraced, innerText, inBraces, hasSlash, beforeSlash, behindSlash, labelPath}
+use Rattle.paths_numbers.specs.declared.expr_eval.IntErrorKind.the-variants.{Empty, PosOverflow}
+use Rattle.paths_numbers.specs.declared.expr_eval.ParsedInt.the-variants as Parsed
+use Rattle.paths_numbers.specs.declared.operators.Evaluated.the-variants as Evaluated
+use Rattle.paths_numbers.specs.declared.dt_property.BitsSize.the-variants.{Bits8}
+use Rattle.paths_numbers.specs.declared.dt_property.Cell.the-variants as Cell
+
+-- path "/ab", base "/a": nothing
+pub child-by-letters : strip (47 ∷ 97 ∷ 98 ∷ []) (47 ∷ 97 ∷ []) ≡ nothing
+unfolding strip same begins startsWith
+child-by-letters = refl
+
+-- path "", base "/": nothing
+pub empty-under-root : strip [] (47 ∷ []) ≡ nothing
+unfolding strip same begins startsWith
+empty-under-root = refl
+
+-- path "/", base "": "/"
+pub root-under-empty : strip (47 ∷ []) [] ≡ found (47 ∷ [])
+unfolding strip same begins startsWith
+root-under-empty = refl
+
+-- 8 bits: -128 gives 128
+pub smallest-in-8-bits : exprCell 8 (negsuc 127) ≡ Cell.Number 128
+unfolding exprCell
+smallest-in-8-bits = refl
+
+-- -129 gives 15
+pub below-8-bits : cellCode (exprCell 8 (negsuc 128)) ≡ 15
+unfolding exprCell
+below-8-bits = refl
+
+-- "0x" gives 16
+pub prefix-alone : unsignedNumber (largest Bits8) (48 ∷ 120 ∷ []) ≡ Parsed.Failed Empty
+unfolding unsignedNumber unsigned digits behindSign behindPrefix baseOf trimmed isSuffix digitOf
+prefix-alone = refl
+
+prefix-alone-code : intCode Empty ≡ 16
+prefix-alone-code = refl
+
+-- "256" in 8 bits gives 18
+pub above-8-bits : unsignedNumber (largest Bits8) (50 ∷ 53 ∷ 54 ∷ []) ≡ Parsed.Failed PosOverflow
+unfolding unsignedNumber unsigned digits behindSign behindPrefix baseOf trimmed isSuffix digitOf
+above-8-bits = refl
+
+above-8-bits-code : intCode PosOverflow ≡ 18
+above-8-bits-code = refl
+
+-- "010" gives 10
+pub leading-zero : unsignedNumber (largest Bits8) (48 ∷ 49 ∷ 48 ∷ []) ≡ Parsed.Value 10
+unfolding unsignedNumber unsigned digits behindSign behindPrefix baseOf trimmed isSuffix digitOf
+leading-zero = refl
+
+-- 1 << 63 is -2^63
+pub shift-to-the-sign : evalInfix 9 (pos 1) (pos 63) ≡ Evaluated.Value (negsuc (2 ^ 63 - 1))
+unfolding evalInfix shiftLeft
+shift-to-the-sign = refl
+
+-- [1 2 a] gives 11
+pub odd-digits : countCode (countOf (91 ∷ 49 ∷ 32 ∷ 50 ∷ 32 ∷ 97 ∷ 93 ∷ [])) ≡ 11
+unfolding countOf nibbles pairs digitOf
+odd-digits = refl
+
+-- `&{l//}` with l bound reaches "/" if live, the part of it that is this crate's: the text is the label l with the path "/", and any
+-- path joined with "/" is "/"
+pub label-with-root : target (38 ∷ 123 ∷ 108 ∷ 47 ∷ 47 ∷ 125 ∷ []) ≡ labelPath (108 ∷ []) (47 ∷ [])
+unfolding target isBraced innerText inBraces hasSlash beforeSlash behindSlash begins startsWith
+label-with-root = refl
+
+pub joined-with-root : (base : List ℕ) → join base (47 ∷ []) ≡ 47 ∷ []
+unfolding join same
+joined-with-root base = refl

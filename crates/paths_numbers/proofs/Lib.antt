@@ -1,0 +1,24 @@
+-- Laws by subject: texts and paths, numbers, operators, cells, bytestrings, references.
+pub mod Texts
+pub mod Written
+pub mod Lengths
+pub mod Strip
+pub mod Under
+pub mod Joined
+pub mod Good
+pub mod Suffixes
+pub mod Prefix
+pub mod Digits
+pub mod Signs
+pub mod Casts
+pub mod Integers
+pub mod Sums
+pub mod Products
+pub mod Quotients
+pub mod Bits
+pub mod Relations
+pub mod Cells
+pub mod Bytestring
+pub mod Braces
+pub mod Slashes
+pub mod Reference

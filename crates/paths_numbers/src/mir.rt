@@ -1,0 +1,87 @@
+// What mir.rs asks of paths.
+ghost use mathlib.Core.Bool.{false};
+ghost use mathlib.Core.Path.{_≡_};
+ghost use Rattle.paths_numbers.specs.Path.{atOrUnder, stripped, root, components, goodPath};
+ghost use Rattle.paths_numbers.specs.Text.{same};
+use crate::text::starts_with;
+
+// Whether `this` lies at or under `base`: whether stripping finds anything.
+pub fn lies_under(this: &[u8], base: &[u8]) -> bool
+    ensures { λ r. ⌜ r ≡ atOrUnder (now (this .entry)) (now (base .entry)) ⌝ }
+{
+    if !starts_with(this, base) {
+        return false;
+    }
+    let n = base.len();
+    if this.len() == n {
+        return true;
+    }
+    if is_root(base) {
+        return true;
+    }
+    this[n] == b'/'
+}
+
+// The end of `this` behind `base`, or its empty end where `this` does not lie at or under `base`.
+pub fn strip_base<'a, 'b>(this: &'a [u8], base: &'b [u8]) -> &'a [u8]
+    ensures { λ r. ⌜ now r ≡ stripped (now (this .entry)) (now (base .entry)) ⌝ }
+{
+    let end = this.len();
+    if !lies_under(this, base) {
+        return &this[end..];
+    }
+    if end == base.len() {
+        return &this[end..];
+    }
+    if is_root(base) {
+        return this;
+    }
+    let n = base.len();
+    &this[n..]
+}
+
+// Whether a path is "/".
+pub fn is_root(path: &[u8]) -> bool
+    ensures { λ r. ⌜ r ≡ same (now (path .entry)) root ⌝ }
+{
+    if path.len() != 1 {
+        return false;
+    }
+    path[0] == b'/'
+}
+
+// Whether a path has row 9's form: empty, "/", or "/" before each of its nonempty components.
+pub fn good_path(path: &[u8]) -> bool
+    ensures { λ r. ⌜ r ≡ goodPath (now (path .entry)) ⌝ }
+{
+    if path.len() == 0 {
+        return true;
+    }
+    if is_root(path) {
+        return true;
+    }
+    if path[0] != b'/' {
+        return false;
+    }
+    has_components(path)
+}
+
+// Whether nonempty components follow each other, each behind a "/".
+fn has_components(path: &[u8]) -> bool
+    ensures { λ r. ⌜ r ≡ components false (now (path .entry)) ⌝ }
+{
+    let mut after = false;
+    let mut i = 0;
+    while i < path.len() {
+        if path[i] == b'/' {
+            if after {
+                return false;
+            }
+            after = true;
+        } else {
+            after = false;
+        }
+        i += 1;
+    }
+    !after
+}

@@ -1,0 +1,97 @@
+// What lower_phandle of lowering/mod.rs makes of a raw reference text, `&{..}`.
+ghost use mathlib.Core.Path.{_≡_};
+ghost use Rattle.paths_numbers.specs.Reference.{isBraced, innerText, beforeSlash, target, kindOf, labelOf, pathOf};
+ghost use lib.ListN.{length};
+
+// What a raw reference names, by the names of the Rust's MirPhandleTarget; or that it cannot be read.
+pub enum MirPhandleTarget {
+    Label,
+    LabelPath,
+    Path,
+    Unreadable,
+}
+
+// What a raw reference names.
+pub fn lower_phandle(raw: &[u8]) -> MirPhandleTarget
+    ensures { λ r. ⌜ r ≡ kindOf (target (now (raw .entry))) ⌝ }
+{
+    if !is_braced(raw) {
+        return MirPhandleTarget::Unreadable;
+    }
+    let inner = inner_text(raw);
+    let k = first_slash(inner);
+    if k == inner.len() {
+        return MirPhandleTarget::Label;
+    }
+    if k == 0 {
+        return MirPhandleTarget::Path;
+    }
+    MirPhandleTarget::LabelPath
+}
+
+// The label that a raw reference names, empty where there is none.
+pub fn phandle_label(raw: &[u8]) -> &[u8]
+    ensures { λ r. ⌜ now r ≡ labelOf (target (now (raw .entry))) ⌝ }
+{
+    let inner = inner_text(raw);
+    let k = first_slash(inner);
+    &inner[..k]
+}
+
+// The path that a raw reference names, empty where there is none.
+pub fn phandle_path(raw: &[u8]) -> &[u8]
+    ensures { λ r. ⌜ now r ≡ pathOf (target (now (raw .entry))) ⌝ }
+{
+    let inner = inner_text(raw);
+    let k = first_slash(inner);
+    if k == inner.len() {
+        return &inner[k..];
+    }
+    if k == 0 {
+        return inner;
+    }
+    &inner[k + 1..]
+}
+
+// Whether a text has `&{` in front and, behind that, `}` at its end.
+fn is_braced(raw: &[u8]) -> bool
+    ensures { λ r. ⌜ r ≡ isBraced (now (raw .entry)) ⌝ }
+{
+    let n = raw.len();
+    if n < 3 {
+        return false;
+    }
+    if raw[0] != b'&' {
+        return false;
+    }
+    if raw[1] != b'{' {
+        return false;
+    }
+    raw[n - 1] == b'}'
+}
+
+// The text between the braces, empty where they are missing.
+fn inner_text(raw: &[u8]) -> &[u8]
+    ensures { λ r. ⌜ now r ≡ innerText (now (raw .entry)) ⌝ }
+{
+    if is_braced(raw) {
+        let n = raw.len() - 1;
+        return &raw[2..n];
+    }
+    let n = raw.len();
+    &raw[n..]
+}
+
+// The index of the first "/", the length where there is none.
+fn first_slash(s: &[u8]) -> usize
+    ensures { λ r. ⌜ r ≡ length (beforeSlash (now (s .entry))) ⌝ }
+{
+    let mut i = 0;
+    while i < s.len() {
+        if s[i] == b'/' {
+            return i;
+        }
+        i += 1;
+    }
+    i
+}
