@@ -1,0 +1,21 @@
+-- `told_count`: by the cases of what is told.
+use mathlib.Core.Path.{sym, ap}
+use Rattle.paths_numbers_c.specs.Told.{countTold}
+use borrow.Author.Needs.{needs}
+use Rattle.paths_numbers_c.proofs.told_count.Statement.{statement}
+use Rattle.paths_numbers_c.proofs.told_count.Tie as tie
+
+enum-known-c : tie.Need-enum-known-c
+enum-known-c c = search needs
+
+enum-told : tie.Need-enum-told
+enum-told c = search needs
+
+returns : tie.Need-returns
+returns c = sym (ap countTold (c .before .c .given .1))
+
+returns-2 : tie.Need-returns-2
+returns-2 c = sym (ap countTold (c .enum-told .given .1))
+
+pub told-count-spec : {M : Type 1} → statement M
+told-count-spec = tie.close (tie.spec enum-known-c enum-told returns returns-2)
