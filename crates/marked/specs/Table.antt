@@ -1,17 +1,23 @@
 -- The cases that 01 marks with a dot for proof, in its order, each computed by the checker from the definitions.
--- Those of the crates above paths and numbers join this file when their definitions are there.
 use Prim.Native.Nat.{ℕ, _-_, _^_}
+use mathlib.Core.Bool.{true}
 use mathlib.Core.Path.{_≡_, refl}
 use mathlib.Core.List.{List, [], _∷_}
 use lib.IntN.{pos, negsuc}
 use Rattle.paths_numbers.specs.Byte.{digitOf}
 use Rattle.paths_numbers.specs.Text.{begins, same, startsWith}
 use Rattle.paths_numbers.specs.Path.{strip, found, nothing, join}
-use Rattle.paths_numbers.specs.Number.{unsignedNumber, unsigned, digits, behindSign, behindPrefix, baseOf, trimmed, isSuffix, intCode}
-use Rattle.paths_numbers.specs.Expression.{evalInfix, shiftLeft}
+use Rattle.paths_numbers.specs.Number.{unsignedNumber, unsigned, signedNumber, signed, digits, behindSign, behindPrefix, baseOf, trimmed, isSuffix, intCode}
+use Rattle.paths_numbers.specs.Expression.{evalInfix, quotient, shiftLeft}
 use Rattle.paths_numbers.specs.Cell.{exprCell, cellCode, largest}
 use Rattle.paths_numbers.specs.Bytestring.{countOf, countCode, nibbles, pairs}
 use Rattle.paths_numbers.specs.Reference.{target, isBraced, innerText, inBraces, hasSlash, beforeSlash, behindSlash, labelPath}
+use Rattle.log.specs.Meaning.{Span, Def, Binding}
+use Rattle.queries.specs.Live.{containsNode}
+use Rattle.lowering.specs.Tree.{tree, empty, more}
+use Rattle.lowering.specs.Report.{noSpan}
+use Rattle.lowering.specs.Expr.{eval, evals, value}
+use Rattle.lowering.specs.Phandle.{resolve, reaches, firstBinding}
 use Rattle.paths_numbers.specs.declared.expr_eval.IntErrorKind.the-variants.{Empty, PosOverflow}
 use Rattle.paths_numbers.specs.declared.expr_eval.ParsedInt.the-variants as Parsed
 use Rattle.paths_numbers.specs.declared.operators.Evaluated.the-variants as Evaluated
@@ -64,6 +70,17 @@ pub leading-zero : unsignedNumber (largest Bits8) (48 ∷ 49 ∷ 48 ∷ []) ≡ 
 unfolding unsignedNumber unsigned digits behindSign behindPrefix baseOf trimmed isSuffix digitOf
 leading-zero = refl
 
+-- 0 && 1/0 is 0: an infix record && with the number 0 and an infix record / with the numbers 1 and 0
+pub and-decides-early :
+    eval
+    (tree 20 [] 11 noSpan
+    (more (tree 15 (48 ∷ []) 0 noSpan empty empty)
+    (more (tree 20 [] 4 noSpan (more (tree 15 (49 ∷ []) 0 noSpan empty empty) (more (tree 15 (48 ∷ []) 0 noSpan empty empty) empty)) empty) empty))
+    empty)
+    ≡ value (pos 0)
+unfolding eval evals signedNumber signed digits behindSign behindPrefix baseOf trimmed isSuffix digitOf evalInfix quotient
+and-decides-early = refl
+
 -- 1 << 63 is -2^63
 pub shift-to-the-sign : evalInfix 9 (pos 1) (pos 63) ≡ Evaluated.Value (negsuc (2 ^ 63 - 1))
 unfolding evalInfix shiftLeft
@@ -74,12 +91,13 @@ pub odd-digits : countCode (countOf (91 ∷ 49 ∷ 32 ∷ 50 ∷ 32 ∷ 97 ∷ 9
 unfolding countOf nibbles pairs digitOf
 odd-digits = refl
 
--- `&{l//}` with l bound reaches "/" if live, the part of it that is this crate's: the text is the label l with the path "/", and any
--- path joined with "/" is "/"
+-- `&{l//}` with l bound reaches "/" if live: the text is the label l with the path "/", and whatever l is bound to, it leads to "/" where that is
+-- a live node
 pub label-with-root : target (38 ∷ 123 ∷ 108 ∷ 47 ∷ 47 ∷ 125 ∷ []) ≡ labelPath (108 ∷ []) (47 ∷ [])
 unfolding target isBraced innerText inBraces hasSlash beforeSlash behindSlash begins startsWith
 label-with-root = refl
 
-pub joined-with-root : (base : List ℕ) → join base (47 ∷ []) ≡ 47 ∷ []
-unfolding join same
-joined-with-root base = refl
+pub label-reaches-root : (base : List ℕ) (span : Span) (binds : List Binding) (defs : List Def) → containsNode (47 ∷ []) defs ≡ true
+    → resolve (labelPath (108 ∷ []) (47 ∷ [])) (record { label = 108 ∷ []; path = base; span = span } ∷ binds) defs ≡ reaches (47 ∷ [])
+unfolding resolve firstBinding same join
+label-reaches-root base span binds defs live = rw live refl

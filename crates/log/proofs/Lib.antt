@@ -1,0 +1,21 @@
+-- Laws of logs that are lent: counting, the walk, what is reached, chains, what is written.
+pub mod Counts
+pub mod Walk
+pub mod Reached
+pub mod Places
+pub mod Chains
+pub mod Linked
+pub mod Alike
+pub mod WrittenTest
+pub mod WrittenExample
+pub mod Pinned
+-- Laws of the log in the making: a record more, its layout, and what is read back.
+pub mod Append
+pub mod Texts
+pub mod ReadEvents
+pub mod ReadLog
+pub mod Make
+pub mod Records
+pub mod Layouts
+pub mod Told
+pub mod MakeLayout

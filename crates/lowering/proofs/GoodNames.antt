@@ -1,0 +1,154 @@
+-- Names that keep row 5's rule: none is "/", so that a path that a name gives lies under its parent's.
+use Prim.Native.Nat.{ℕ}
+use mathlib.Core.Path.{_≡_, refl, sym, ap, _∙_}
+use mathlib.Core.Bool.{Bool, true, false, not, cond}
+use mathlib.Core.List.{List, [], _∷_, _++_, append-nil}
+use mathlib.Core.Option.{Option, some, none}
+use native.Mathlib.Omega.{arith}
+use borrow.Author.Tests.{not-true}
+use lib.Dec.{eqb}
+use Rattle.paths_numbers.specs.Byte.{slash, atSign}
+use Rattle.paths_numbers.specs.Text.{same, isEmpty}
+use Rattle.paths_numbers.specs.Path.{root, join, atOrUnder}
+use Rattle.paths_numbers.proofs.Texts.{by-test, not-both, is-false, both}
+use Rattle.paths_numbers.proofs.Under.{under-trans, under-join}
+use Rattle.queries.specs.Kind.{any}
+use Rattle.lowering.specs.Tree.{Tree, Trees, tree, empty, more, kindOf, textOf, childrenOf, firstOf, has, nameKind, unitAddressKind, referenceKind, macroKind, slashKind}
+use Rattle.lowering.specs.Report.{Got}
+use Rattle.lowering.specs.Name.{nameOr, nameOrMacro, withAddress, addressed, fullName}
+use Rattle.lowering.specs.TwoRuns.{goodName, goodNames, goodNamesIn, addressNamed, plainName}
+
+-- nothing is both there and not
+pub never : {A : Type 0} {B : Type 0} {a : A} → none ≡ some a → B
+never e = let z : _≡_ {A = ℕ} 0 1 = cc in absurd (omega arith)
+
+-- the first part of a kind, where there is one
+pub first-none : (k : ℕ) (ts : Trees) → has k ts ≡ false → firstOf k ts ≡ none
+unfolding has firstOf
+first-none k empty e = refl
+first-none k (more t ts) e =
+    by-test (eqb (kindOf t) k) (λ q. absurd (not-both {t = true} refl (rw q at e))) (λ q. rw q (first-none k ts (rw q at e)))
+
+pub first-some : (k : ℕ) (ts : Trees) → has k ts ≡ true → (t : Tree) × (firstOf k ts ≡ some t)
+unfolding has firstOf
+first-some k empty e = absurd (not-both {t = false} e refl)
+first-some k (more t ts) e =
+    by-test (eqb (kindOf t) k) (λ q. (t, rw q refl))
+    (λ q. let h = first-some k ts (rw q at e) in (h .0, rw q (h .1)))
+
+-- its name is good, and so are the names below it
+good-text : (t : Tree) → goodNames t ≡ true → eqb (kindOf t) nameKind ≡ true → goodName (textOf t) ≡ true
+unfolding goodNames
+good-text (tree k text w span parts second) g e = rw e at (both (cond (eqb k nameKind) (goodName text) true) _ g .0)
+
+good-below : (t : Tree) → goodNames t ≡ true → goodNamesIn (childrenOf t) ≡ true
+unfolding goodNames
+good-below (tree k text w span parts second) g =
+    both (goodNamesIn parts) (goodNamesIn second) (both (cond (eqb k nameKind) (goodName text) true) _ g .1) .0
+
+pub good-second : (k : ℕ) (text : List ℕ) (w : ℕ) (span : _) (parts second : Trees) → goodNames (tree k text w span parts second) ≡ true → goodNamesIn second ≡ true
+unfolding goodNames
+good-second k text w span parts second g =
+    both (goodNamesIn parts) (goodNamesIn second) (both (cond (eqb k nameKind) (goodName text) true) _ g .1) .1
+
+pub good-parts : (k : ℕ) (text : List ℕ) (w : ℕ) (span : _) (parts second : Trees) → goodNames (tree k text w span parts second) ≡ true → goodNamesIn parts ≡ true
+good-parts k text w span parts second g = good-below (tree k text w span parts second) g
+
+first-good : (ts : Trees) (t : Tree) (k : ℕ) → goodNamesIn ts ≡ true → firstOf k ts ≡ some t → (goodNames t ≡ true) × (eqb (kindOf t) k ≡ true)
+unfolding goodNamesIn firstOf
+first-good empty t k g e = never e
+first-good (more x ts) t k g e =
+    let h = both (goodNames x) (goodNamesIn ts) g in
+    by-test (eqb (kindOf x) k)
+    (λ q. let y : x ≡ t = cc (rw q at e) in (rw y at (h .0), rw y at q))
+    (λ q. first-good ts t k (h .1) (rw q at e))
+
+-- a good name is not "/", with or without more behind it
+good-not-root : (s x : List ℕ) → goodName s ≡ true → same (s ++ x) root ≡ false
+unfolding same any
+good-not-root [] x g = absurd (not-both {t = false} g refl)
+good-not-root (b ∷ s) x g = by-test (eqb b slash) (λ e. absurd (not-both {t = false} (rw e at g) refl)) (λ e. rw e refl)
+
+-- the name in a chain of parts
+name-good : (ts : Trees) (name : List ℕ) → goodNamesIn ts ≡ true → nameOrMacro ts .result ≡ some name → goodName name ≡ true
+unfolding nameOrMacro
+name-good ts name g e = go (firstOf nameKind ts) (firstOf macroKind ts) refl e
+  where
+    go : (o m : Option Tree) → firstOf nameKind ts ≡ o → nameOr o m .result ≡ some name → goodName name ≡ true
+    go (some n) m q r =
+        let h = first-good ts n nameKind g q in
+        let y : textOf n ≡ name = cc r in
+        rw y at (good-text n (h .0) (h .1))
+    go none (some m) q r = never r
+    go none none q r = never r
+
+-- and with its unit address
+address-good : (n u : Option (List ℕ)) (name : List ℕ) → ((x : List ℕ) → n ≡ some x → goodName x ≡ true) → withAddress n u ≡ some name → same name root ≡ false
+address-good (some x) (some y) name h e =
+    let q : x ++ atSign ∷ y ≡ name = cc e in
+    rw (← q) (good-not-root x (atSign ∷ y) (h x refl))
+address-good (some x) none name h e = never e
+address-good none u name h e = never e
+
+-- the name of what has good names
+pub full-good : (parts : Trees) (name : List ℕ) → goodNamesIn parts ≡ true → fullName parts .result ≡ some name → same name root ≡ false
+unfolding fullName
+full-good parts name g e = go (firstOf unitAddressKind parts) e
+  where
+    go : (o : Option Tree) → addressed (nameOrMacro parts) o .result ≡ some name → same name root ≡ false
+    go none r = rw append-nil at (good-not-root name [] (name-good parts name g r))
+    go (some u) r = address-good (nameOrMacro parts .result) (nameOrMacro (childrenOf u) .result) name (λ x q. name-good parts x g q) r
+
+-- so its path lies at or under what its parent's does
+pub full-under : (new parent : List ℕ) (parts : Trees) (name : List ℕ) → goodNamesIn parts ≡ true → fullName parts .result ≡ some name
+    → atOrUnder parent new ≡ true → atOrUnder (join parent name) new ≡ true
+full-under new parent parts name g e u =
+    under-trans (join parent name) parent new (under-join parent name (full-good parts name g e)) u
+
+-- a good first name's likewise
+pub first-under : (new parent : List ℕ) (parts : Trees) (n : Tree) → goodNamesIn parts ≡ true → firstOf nameKind parts ≡ some n
+    → atOrUnder parent new ≡ true → atOrUnder (join parent (textOf n)) new ≡ true
+first-under new parent parts n g e u =
+    let h = first-good parts n nameKind g e in
+    let q : same (textOf n) root ≡ false = rw append-nil at (good-not-root (textOf n) [] (good-text n (h .0) (h .1))) in
+    under-trans (join parent (textOf n)) parent new (under-join parent (textOf n) q) u
+
+-- a joined path is not empty
+append-filled : (p : List ℕ) (b : ℕ) (s : List ℕ) → isEmpty (p ++ b ∷ s) ≡ false
+unfolding isEmpty
+append-filled [] b s = refl
+append-filled (a ∷ p) b s = refl
+
+pub join-filled : (parent name : List ℕ) → isEmpty (join parent name) ≡ false
+unfolding join isEmpty
+join-filled parent name =
+    by-test (same name root) (λ e. rw e refl)
+    (λ e. by-test (same parent root) (λ q. rw (e, q) refl) (λ q. rw (e, q) (append-filled parent slash name)))
+
+-- a plain name is a name, and no reference stands beside it
+pub plain-named : (parts : Trees) → plainName parts ≡ true → (name : List ℕ) × (fullName parts .result ≡ some name)
+unfolding plainName fullName nameOrMacro
+plain-named parts e =
+    let h = both (has nameKind parts) _ e in
+    let n = first-some nameKind parts (h .0) in
+    let a = both (addressNamed (firstOf unitAddressKind parts)) _ (h .1) .0 in
+    go (n .0) (n .1) (firstOf unitAddressKind parts) a
+  where
+    named : (ts : Trees) (n : Tree) → firstOf nameKind ts ≡ some n → nameOrMacro ts .result ≡ some (textOf n)
+    named ts n q = rw q refl
+
+    go : (n : Tree) → firstOf nameKind parts ≡ some n → (o : Option Tree) → addressNamed o ≡ true → (name : List ℕ) × (addressed (nameOrMacro parts) o .result ≡ some name)
+    go n q none a = (textOf n, named parts n q)
+    go n q (some u) a =
+        let m = first-some nameKind (childrenOf u) a in
+        (textOf n ++ atSign ∷ textOf (m .0), rw (named parts n q, named (childrenOf u) (m .0) (m .1)) refl)
+
+pub plain-unreferenced : (parts : Trees) → plainName parts ≡ true → firstOf referenceKind parts ≡ none
+unfolding plainName
+plain-unreferenced parts e =
+    let h = both (has nameKind parts) _ e .1 in
+    let k = both (addressNamed (firstOf unitAddressKind parts)) _ h .1 in
+    first-none referenceKind parts
+    (by-test (has slashKind parts)
+    (λ q. absurd (not-both {t = false} (rw q at k) refl))
+    (λ q. not-true (has referenceKind parts) (rw q at k)))

@@ -1,0 +1,13 @@
+pub mod Sim
+pub mod Held
+pub mod Grown
+pub mod GoodNames
+pub mod Pair
+pub mod Defined
+pub mod TwoRuns
+pub mod Search
+pub mod Input
+pub mod Rows
+pub mod Rising
+pub mod WholeRuns
+pub mod LoweredExample

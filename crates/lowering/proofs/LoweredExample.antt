@@ -1,0 +1,46 @@
+-- 01's worked listing meets the contract of lowering: the predicate is not empty. Its input, the log that is written for it, and number 0.
+use Prim.Native.Nat.{ℕ}
+use mathlib.Core.Bool.{true, false}
+use mathlib.Core.Path.{_≡_, refl, sym, ap, _∙_}
+use mathlib.Core.List.{List, [], _∷_}
+use Rattle.paths_numbers.specs.Text.{same, isEmpty, begins, startsWith}
+use Rattle.paths_numbers.specs.Path.{join, atOrUnder, strip}
+use Rattle.log.specs.ReadBack.{Log, readLog}
+use Rattle.log.specs.Written.{Written}
+use Rattle.log.specs.RecordExample.{listing, listingBytes, listing-reads}
+use Rattle.log.proofs.WrittenExample.{listing-written}
+use Rattle.queries.specs.Kind.{any, setsOverlay}
+use Rattle.queries.specs.Live.{live, isLive, gone}
+use Rattle.queries.specs.Query.{Answered}
+use Rattle.lowering.specs.Tree.{Trees, firstOf, has}
+use Rattle.lowering.specs.Name.{nameOrMacro, fullName, nodeNameSpan, labelsOf}
+use Rattle.lowering.specs.State.{State, define, bind, emit, bindingsBytes, diagsBytes, textsBytes}
+use Rattle.lowering.specs.Lower.{lowered, lowerItem, lowerItems, lowerNode, lowerDirective, placeOf, opened, labelTexts}
+use Rattle.lowering.specs.Post.{postChecks, checkDirectives, directivesFrom, checkReferences, checkDefs, duplicateLabels, duplicatesOf}
+use Rattle.lowering.specs.Input.{description}
+use Rattle.lowering.specs.Lowered.{logOf, recordsMade, bytesMade, fitsIn, meaning, Lowered, done}
+use Rattle.lowering.specs.Example.{items}
+use Rattle.lowering.specs.InputExample.{listingWords, listingText, listing-accepted, listing-read}
+
+-- what the definitions make of the tree, all that is written among it
+made-log : logOf (lowered items) ≡ readLog listing listingBytes
+unfolding logOf lowered lowerItem lowerItems lowerNode lowerDirective placeOf opened labelTexts define bind emit labelsOf nameOrMacro fullName nodeNameSpan firstOf has join same isEmpty postChecks checkDirectives directivesFrom checkReferences checkDefs duplicateLabels duplicatesOf any setsOverlay live isLive gone atOrUnder strip begins startsWith
+made-log = sym listing-reads
+
+made-records : recordsMade (lowered items) ≡ 6
+unfolding recordsMade lowered lowerItem lowerItems lowerNode lowerDirective placeOf opened labelTexts define bind emit labelsOf nameOrMacro fullName nodeNameSpan firstOf has join same isEmpty postChecks checkDirectives directivesFrom checkReferences checkDefs duplicateLabels duplicatesOf any setsOverlay live isLive gone atOrUnder strip begins startsWith
+made-records = refl
+
+made-bytes : bytesMade (lowered items) ≡ 7
+unfolding bytesMade lowered lowerItem lowerItems lowerNode lowerDirective placeOf opened labelTexts define bind emit bindingsBytes diagsBytes textsBytes labelsOf nameOrMacro fullName nodeNameSpan firstOf has join same isEmpty postChecks checkDirectives directivesFrom checkReferences checkDefs duplicateLabels duplicatesOf any setsOverlay live isLive gone atOrUnder strip begins startsWith
+made-bytes = refl
+
+fits : fitsIn (lowered items) listing listingBytes ≡ true
+unfolding fitsIn
+fits = rw (made-records, made-bytes) refl
+
+-- lowered into buffers that held the same before
+pub listing-lowered : Lowered listingWords listingText listing listingBytes (record { number = 0; returned = 0 }) listing listingBytes
+listing-lowered =
+    done listing-accepted (rw listing-read fits) refl refl refl
+    (rw (listing-read, made-records, made-bytes, made-log) listing-written)

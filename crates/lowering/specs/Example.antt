@@ -1,0 +1,49 @@
+-- 01's worked listing, computed by the checker: a version directive, and a root node with the node b, labelled a, in it.
+use Prim.Native.Nat.{ℕ}
+use mathlib.Core.Bool.{true, false}
+use mathlib.Core.Path.{_≡_, refl}
+use mathlib.Core.List.{List, [], _∷_}
+use Rattle.paths_numbers.specs.Text.{same, isEmpty, begins, startsWith}
+use Rattle.paths_numbers.specs.Path.{join, atOrUnder, strip}
+use Rattle.log.specs.Meaning.{Span, Def, node, version, Binding}
+use Rattle.queries.specs.Kind.{any, setsOverlay}
+use Rattle.queries.specs.Live.{live, isLive, gone}
+use Rattle.lowering.specs.Tree.{Tree, Trees, tree, empty, more, firstOf, has}
+use Rattle.lowering.specs.Name.{nameOrMacro, fullName, nodeNameSpan, labelsOf}
+use Rattle.lowering.specs.State.{State, define, bind, emit, bindingsBytes, diagsBytes, textsBytes, without, unbind}
+use Rattle.lowering.specs.Lower.{lowered, lowerItem, lowerItems, lowerNode, lowerDirective, placeOf, opened, labelTexts}
+use Rattle.lowering.specs.Post.{postChecks, checkDirectives, directivesFrom, checkReferences, checkDefs, duplicateLabels, duplicatesOf}
+
+abbrev pub span : ℕ → ℕ → Span
+span a b = record { from = a; to = b }
+
+abbrev pub part : ℕ → List ℕ → ℕ → ℕ → Trees → Trees → Trees
+part k text a b children rest = more (tree k text 0 (span a b) children empty) rest
+
+abbrev pub items : Trees
+items =
+    more (tree 3 [] 1 (span 0 9) empty empty)
+    (more
+    (tree 1 [] 0 (span 10 26) (part 10 [] 10 11 empty empty)
+    (more
+    (tree 1 [] 0 (span 14 23)
+    (part 7 [] 14 16 (part 5 (97 ∷ []) 14 15 empty empty) (part 5 (98 ∷ []) 17 18 empty empty))
+    empty)
+    empty))
+    empty)
+
+pub listed : lowered items .defs ≡
+    record { path = []; value = version; span = span 0 9; nameSpan = span 0 9 }
+    ∷ record { path = 47 ∷ []; value = node [] false; span = span 10 26; nameSpan = span 10 11 }
+    ∷ record { path = 47 ∷ 98 ∷ []; value = node ((97 ∷ []) ∷ []) false; span = span 14 23; nameSpan = span 17 18 }
+    ∷ []
+unfolding lowered lowerItem lowerItems lowerNode lowerDirective placeOf opened labelTexts define bind emit labelsOf nameOrMacro fullName nodeNameSpan firstOf has join same isEmpty
+listed = refl
+
+pub bound : lowered items .binds ≡ record { label = 97 ∷ []; path = 47 ∷ 98 ∷ []; span = span 14 16 } ∷ []
+unfolding lowered lowerItem lowerItems lowerNode lowerDirective placeOf opened labelTexts define bind emit labelsOf nameOrMacro fullName nodeNameSpan firstOf has join same isEmpty
+bound = refl
+
+pub checked : postChecks (lowered items) ≡ []
+unfolding lowered lowerItem lowerItems lowerNode lowerDirective placeOf opened labelTexts define bind emit labelsOf nameOrMacro fullName nodeNameSpan firstOf has join same isEmpty postChecks checkDirectives directivesFrom checkReferences checkDefs duplicateLabels duplicatesOf any setsOverlay live isLive gone atOrUnder strip begins startsWith
+checked = refl

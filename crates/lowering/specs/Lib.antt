@@ -1,0 +1,21 @@
+-- The reading order: trees and what is reported, then the parts of 01's "Nodes and items" and "Values", then the input's rows, then demand 3.
+pub mod Tree
+pub mod Report
+pub mod Name
+pub mod Phandle
+pub mod Expr
+pub mod Property
+pub mod State
+pub mod Lower
+pub mod Post
+pub mod TwoRuns
+pub mod Input
+pub mod Place
+pub mod Rows
+pub mod Rising
+pub mod Lowered
+pub mod WholeRuns
+pub mod Example
+pub mod InputExample
+pub mod Slips
+pub mod TwoRunsExample

@@ -1,0 +1,74 @@
+-- One example for each slip that 01 names and that the crates below have not: computed by the checker.
+use Prim.Native.Nat.{ℕ}
+use mathlib.Core.Bool.{true, false}
+use mathlib.Core.Path.{_≡_, refl}
+use mathlib.Core.List.{List, [], _∷_}
+use Rattle.paths_numbers.specs.Byte.{digitOf}
+use Rattle.paths_numbers.specs.Text.{same, isEmpty, begins, startsWith}
+use Rattle.paths_numbers.specs.Path.{join, atOrUnder, strip}
+use Rattle.paths_numbers.specs.Number.{unsignedNumber, unsigned, digits, behindSign, behindPrefix, baseOf, trimmed, isSuffix}
+use Rattle.paths_numbers.specs.Cell.{sizeOf}
+use Rattle.log.specs.Meaning.{Span, Def, node, deletedNode, property, Cell, number, Value, cellList, Binding, Diag}
+use Rattle.queries.specs.Kind.{any, setsOverlay}
+use Rattle.queries.specs.Live.{live, isLive, gone, containsNode}
+use Rattle.queries.specs.History.{history, historyFrom}
+use Rattle.lowering.specs.Tree.{Tree, Trees, tree, empty, more, firstOf, has}
+use Rattle.lowering.specs.Report.{report, Made}
+use Rattle.lowering.specs.Name.{nameOrMacro, fullName, nodeNameSpan, propertyNameSpan, labelsOf}
+use Rattle.lowering.specs.Phandle.{lowerPhandle, resolve, firstBinding}
+use Rattle.lowering.specs.Property.{lowerValues, lowerValue, lowerCells, lowerCell}
+use Rattle.lowering.specs.State.{State, define, bind, emit, unbind, without, apart, dropped, extended, bindingsBytes, diagsBytes, textsBytes}
+use Rattle.lowering.specs.Lower.{lowered, lowerItem, lowerItems, lowerNode, lowerProperty, lowerDirective, lowerDeleteNode, deleteNode, placeOf, opened, labelTexts}
+use Rattle.lowering.specs.Example.{span, part}
+
+-- a node of this name with the label l and these items
+abbrev labelled : ℕ → Trees → Tree
+labelled name items =
+    tree 1 [] 0 (span 1 2) (part 7 [] 1 2 (part 5 (108 ∷ []) 1 2 empty empty) (part 5 (name ∷ []) 1 2 empty empty)) items
+
+-- "removing a label's every binding": / { l: a { }; l: b { }; /delete-node/ a; }; leaves the binding of l to /b
+abbrev twoLabels : Trees
+twoLabels =
+    more
+    (tree 1 [] 0 (span 0 9) (part 10 [] 0 1 empty empty)
+    (more (labelled 97 empty) (more (labelled 98 empty) (more (tree 3 [] 4 (span 5 6) (part 5 (97 ∷ []) 5 6 empty empty) empty) empty))))
+    empty
+
+pub other-binding-stays : lowered twoLabels .binds ≡ record { label = 108 ∷ []; path = 47 ∷ 98 ∷ []; span = span 1 2 } ∷ []
+unfolding lowered lowerItem lowerItems lowerNode lowerDirective lowerDeleteNode deleteNode placeOf opened labelTexts define bind emit unbind without labelsOf nameOrMacro fullName nodeNameSpan firstOf has join same isEmpty live isLive gone atOrUnder strip begins startsWith any
+other-binding-stays = refl
+
+-- "treating an extension body as an overlay": /plugin/; &x { &y { }; }; is an overlay, where &x reports nothing, but in its body &y reports code 3
+abbrev nested : Trees
+nested =
+    more (tree 3 [] 2 (span 0 1) empty empty)
+    (more
+    (tree 1 [] 0 (span 2 9) (part 8 (120 ∷ []) 2 3 empty empty)
+    (more (tree 1 [] 0 (span 4 8) (part 8 (121 ∷ []) 4 5 empty empty) empty) empty))
+    empty)
+
+pub body-is-no-overlay : lowered nested .diags ≡ report 3 (121 ∷ []) (span 4 5) ∷ []
+unfolding lowered lowerItem lowerItems lowerNode lowerDirective placeOf opened labelTexts define bind emit apart dropped extended labelsOf nameOrMacro fullName nodeNameSpan firstOf has join same isEmpty lowerPhandle resolve firstBinding any setsOverlay
+body-is-no-overlay = refl
+
+-- "losing a cell list for one bad cell": <1 z 2> keeps 1 and 2, with code 17 for z
+abbrev threeCells : Trees
+threeCells =
+    more (tree 13 [] 0 (span 0 9) (more (tree 15 (49 ∷ []) 0 (span 1 2) empty empty) (more (tree 15 (122 ∷ []) 0 (span 3 4) empty empty) (more (tree 15 (50 ∷ []) 0 (span 5 6) empty empty) empty))) empty) empty
+
+pub neighbours-stay : lowerValues threeCells ≡ record { made = cellList 32 (number 1 ∷ number 2 ∷ []) ∷ []; reports = report 17 [] (span 3 4) ∷ [] }
+unfolding lowerValues lowerValue lowerCells lowerCell sizeOf isEmpty unsignedNumber unsigned digits behindSign behindPrefix baseOf trimmed isSuffix digitOf
+neighbours-stay = refl
+
+-- a history lists the deletion above that ends it, and not the next
+abbrev nodeAt : List ℕ → Def
+nodeAt p = record { path = p; value = node [] false; span = span 0 0; nameSpan = span 0 0 }
+
+abbrev goneAt : List ℕ → Def
+goneAt p = record { path = p; value = deletedNode; span = span 0 0; nameSpan = span 0 0 }
+
+pub deletion-above :
+    history (47 ∷ 97 ∷ 47 ∷ 98 ∷ []) (nodeAt (47 ∷ 97 ∷ 47 ∷ 98 ∷ []) ∷ goneAt (47 ∷ 97 ∷ []) ∷ goneAt (47 ∷ []) ∷ [])
+    ≡ nodeAt (47 ∷ 97 ∷ 47 ∷ 98 ∷ []) ∷ goneAt (47 ∷ 97 ∷ []) ∷ []
+unfolding history historyFrom same atOrUnder strip begins startsWith
+deletion-above = refl

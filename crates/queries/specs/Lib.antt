@@ -1,0 +1,4 @@
+pub mod Kind
+pub mod Live
+pub mod History
+pub mod Query
