@@ -19,3 +19,10 @@ pub mod Records
 pub mod Layouts
 pub mod Told
 pub mod MakeLayout
+-- Laws of row 8's test: its links, its marks, its loops and its answer.
+pub mod Tests
+pub mod Follow
+pub mod Marks
+pub mod Walked
+pub mod Search
+pub mod Checked

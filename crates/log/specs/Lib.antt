@@ -9,3 +9,5 @@ pub mod RecordExample
 pub mod Events
 pub mod Buffers
 pub mod Made
+pub mod SoundAnswer
+pub mod Walk

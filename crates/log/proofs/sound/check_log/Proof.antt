@@ -1,0 +1,53 @@
+-- By the count of words, then by the marks.
+use borrow.Author.Tests.{eq-eqb, ne-eqb}
+use mathlib.Core.Path.{refl}
+use Rattle.log.specs.Sound.{soundness}
+use Rattle.log.proofs.Follow.{count-most}
+use Rattle.log.proofs.Checked.{checked}
+use borrow.Author.Needs.{needs}
+use Rattle.log.proofs.sound.check_log.Statement.{statement}
+use Rattle.log.proofs.sound.check_log.Tie as tie
+
+returns : tie.Need-returns
+unfolding soundness
+returns c = rw (eq-eqb _ _ (c .if1 .taken)) refl
+
+returns-2 : tie.Need-returns-2
+unfolding soundness
+returns-2 c = rw (ne-eqb _ _ (c .before .if1 .left), ne-eqb _ _ (c .if2 .taken)) refl
+
+slice-aggregate-walk : tie.Need-slice-aggregate-walk
+slice-aggregate-walk c = search needs
+
+slice-aggregate-walk-2 : tie.Need-slice-aggregate-walk-2
+slice-aggregate-walk-2 c = search needs
+
+walk-requires : tie.Need-walk-requires
+walk-requires c κs = search needs
+
+slice-aggregate-first-fault : tie.Need-slice-aggregate-first-fault
+slice-aggregate-first-fault c = search needs
+
+first-fault-requires : tie.Need-first-fault-requires
+first-fault-requires c κs = search needs
+
+returns-3 : tie.Need-returns-3
+returns-3 c =
+    let v = c .before .before .before .before in
+    let i = v .before .before .before in
+    let a = i .before .before .before .before .args in
+    checked 65536 (a .words .now) (a .bytes .now) _ _ _ _ (v .walk .ensures) (c .first-fault .ensures) refl refl (count-most (a .words .now))
+    (rw (ne-eqb _ _ (i .before .if1 .left), eq-eqb _ _ (i .if2 .left)) refl)
+
+pub check-log-spec : {M : Type 1} → statement M
+check-log-spec =
+    tie.close
+    (tie.spec
+    returns
+    returns-2
+    slice-aggregate-walk
+    slice-aggregate-walk-2
+    walk-requires
+    slice-aggregate-first-fault
+    first-fault-requires
+    returns-3)
