@@ -15,19 +15,6 @@ use Rattle.log.specs.Record.{kindOf, nextOf, childOf, mOf, firstDef, fir
 use Rattle.log.specs.Sound.{Place, definitions, Link, below, linkTo, linksOf, headLinks}
 use Rattle.log.specs.Walk.{placeOf, linkIn, linkOf, stored, firstMark, Held, held, follow, followAll}
 
--- a log has at most as many records as it can have
-pub count-most : (w : List ℕ) → logCount w ≤ 65536
-unfolding logCount
-count-most w = by-test (leb (outCount w) mostRecords) (λ t. rw t (leb-true _ _ t)) (λ t. rw t (omega arith))
-
--- a link leads below their count
-pub leads-below : (w : List ℕ) (r : ℕ) → leads w r ≡ true → r < logCount w
-leads-below w r t = by-test (eqb r 0) (λ z. absurd (omega (arith, ap number (sym (rw z at t))))) (λ z. ltb-true _ _ (rw z at t))
-  where
-    number : Bool → ℕ
-    number true = 0
-    number false = 1
-
 -- a link in one word
 pub link-word : (r place : ℕ) → place < 8 → linkOf (r * 8 + place) ≡ linkIn r place
 unfolding linkOf

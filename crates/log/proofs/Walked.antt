@@ -16,7 +16,7 @@ use Rattle.paths_numbers.proofs.Texts.{by-test}
 use Rattle.log.specs.Record.{kindOf, nextOf, childOf, mOf, hasChildren, extensionKind, firstDef, firstExt, firstBind, firstDiag, firstPost, oneOf, logCount, leads}
 use Rattle.log.specs.Sound.{Place, definitions, extensions, bindings, diagnostics, below, kindsIn, Link, linkTo, linksOf, headLinks, times, walk, mostLinks, followed}
 use Rattle.log.specs.Walk.{linkOf, stored, firstMark, nextMark, Held, held, follow, followAll, expand, allMarks}
-use Rattle.log.proofs.Follow.{leads-below}
+use Rattle.log.proofs.Walk.{leads-below}
 use Rattle.log.proofs.Marks.{marked}
 
 -- links that lead below a number of records
@@ -37,7 +37,7 @@ inside-if false p = inside-none
 -- a word's link
 inside-link : (w : List ℕ) (r : ℕ) (p : Place) → Inside (logCount w) (linkTo w r p)
 unfolding linkTo
-inside-link w r p = by-test (leads w r) (λ t. rw t (inside-next (leads-below w r t) inside-none)) (λ t. rw t inside-none)
+inside-link w r p = by-test (leads w r) (λ t. rw t (inside-next (leads-below w r t .1) inside-none)) (λ t. rw t inside-none)
 
 -- a record's links
 inside-links : (w : List ℕ) (l : Link) → Inside (logCount w) (linksOf w l)

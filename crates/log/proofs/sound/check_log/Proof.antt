@@ -2,7 +2,7 @@
 use borrow.Author.Tests.{eq-eqb, ne-eqb}
 use mathlib.Core.Path.{refl}
 use Rattle.log.specs.Sound.{soundness}
-use Rattle.log.proofs.Follow.{count-most}
+use Rattle.log.proofs.Reached.{count-most}
 use Rattle.log.proofs.Checked.{checked}
 use borrow.Author.Needs.{needs}
 use Rattle.log.proofs.sound.check_log.Statement.{statement}

@@ -2,7 +2,9 @@
 use native.Mathlib.Omega.{arith}
 use borrow.Author.Tests.{not-true, not-false}
 use mathlib.Core.Path.{refl, sym, _∙_}
-use Rattle.log.proofs.Follow.{count-most, leads-below, no-link, link-again, link-full, link-first}
+use Rattle.log.proofs.Walk.{leads-below}
+use Rattle.log.proofs.Reached.{count-most}
+use Rattle.log.proofs.Follow.{no-link, link-again, link-full, link-first}
 use borrow.Author.Needs.{needs}
 use Rattle.log.proofs.sound.follow.Statement.{statement}
 use Rattle.log.proofs.sound.follow.Tie as tie
@@ -58,13 +60,13 @@ mul-queue : tie.Need-mul-queue
 mul-queue c =
     let i = c .before .before .before .before .before .before .before .before .before in
     let a = i .before .before .before .before .before .args in
-    omega (arith, leads-below (a .words .now) (a .r) (sym (i .before .leads-to .ensures) ∙ not-false _ (i .if1 .left)), count-most (a .words .now))
+    omega (arith, leads-below (a .words .now) (a .r) (sym (i .before .leads-to .ensures) ∙ not-false _ (i .if1 .left)) .1, count-most (a .words .now))
 
 add-queue : tie.Need-add-queue
 add-queue c =
     let i = c .before .before .before .before .before .before .before .before .before in
     let a = i .before .before .before .before .before .args in
-    omega (arith, leads-below (a .words .now) (a .r) (sym (i .before .leads-to .ensures) ∙ not-false _ (i .if1 .left)), count-most (a .words .now), i .before .before .before .before .before .pre)
+    omega (arith, leads-below (a .words .now) (a .r) (sym (i .before .leads-to .ensures) ∙ not-false _ (i .if1 .left)) .1, count-most (a .words .now), i .before .before .before .before .before .pre)
 
 mul-queue-2 : tie.Need-mul-queue-2
 mul-queue-2 c = search needs
