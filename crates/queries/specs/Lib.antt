@@ -1,4 +1,8 @@
 pub mod Kind
 pub mod Live
+pub mod Labels
 pub mod History
 pub mod Query
+pub mod Pass
+pub mod Marks
+pub mod Answer

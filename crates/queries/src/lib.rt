@@ -1,2 +1,5 @@
-// What the parts of BoxSync ask a log: live definitions, histories, nodes. Definitions in specs/, laws
-// in proofs/; the code comes next.
+// Queries of a definition log: what is live, and what a path's history is.
+pub mod definition;
+mod marking;
+pub mod mir;
+pub mod query;

@@ -1,0 +1,122 @@
+-- The answers of the queries, by what rows 8 and 9 say first.
+use Prim.Native.Nat.{ℕ, _≤_, _<_}
+use mathlib.Core.Path.{_≡_, refl, sym, ap, _∙_}
+use mathlib.Core.Bool.{Bool, true, false, cond}
+use mathlib.Core.List.{List}
+use native.Mathlib.Omega.{arith}
+use borrow.Author.Tests.{le-leb, lt-leb}
+use lib.Dec.{leb}
+use lib.ListN.{length}
+use Rattle.paths_numbers.specs.Text.{written}
+use Rattle.paths_numbers.specs.Path.{goodPath}
+use Rattle.log.specs.Record.{firstDef}
+use Rattle.log.specs.ReadBack.{chainOf, defAt, readDefs}
+use Rattle.log.specs.Sound.{Soundness, sound, broken, soundness}
+use Rattle.queries.specs.Live.{containsNode}
+use Rattle.queries.specs.Query.{liveNumbers, historyNumbers, Answered, soundAnswer, goodAnswer, listAnswer, soundOut, queryAnswer, queryOut, liveAnswers, historyAnswers, containsAnswer}
+use Rattle.queries.specs.Answer.{refusal}
+
+-- a number of a refusal is not 0
+pub refused-by : (s : Soundness) (g : Bool) (x r : Answered) → r ≡ soundAnswer s (goodAnswer g (record { number = 0; returned = 0 }))
+    → (r .number ≡ 0 → ⊥) → r ≡ soundAnswer s (goodAnswer g x)
+refused-by sound true x r e n = absurd (n (ap (λ a. a .number) e))
+refused-by sound false x r e n = e
+refused-by (broken k) g x r e n = e
+
+-- and where it is 0, what comes after rows 8 and 9 is answered
+pub answered-by : (s : Soundness) (g : Bool) (x r : Answered) → r ≡ soundAnswer s (goodAnswer g (record { number = 0; returned = 0 }))
+    → r .number ≡ 0 → x ≡ soundAnswer s (goodAnswer g x)
+answered-by sound true x r e n = refl
+answered-by sound false x r e n = absurd (omega (arith, n, ap (λ a. a .number) e))
+answered-by (broken k) g x r e n = absurd (omega (arith, n, ap (λ a. a .number) e))
+
+-- the same of the list: a refusal leaves it
+out-refused-by : (s : Soundness) (g : Bool) (r : Answered) (out list : List ℕ) → r ≡ soundAnswer s (goodAnswer g (record { number = 0; returned = 0 }))
+    → (r .number ≡ 0 → ⊥) → list ≡ soundOut s (cond g out list) list
+out-refused-by sound true r out list e n = absurd (n (ap (λ a. a .number) e))
+out-refused-by sound false r out list e n = refl
+out-refused-by (broken k) g r out list e n = refl
+
+out-answered-by : (s : Soundness) (g : Bool) (r : Answered) (out list : List ℕ) → r ≡ soundAnswer s (goodAnswer g (record { number = 0; returned = 0 }))
+    → r .number ≡ 0 → out ≡ soundOut s (cond g out list) list
+out-answered-by sound true r out list e n = refl
+out-answered-by sound false r out list e n = absurd (omega (arith, n, ap (λ a. a .number) e))
+out-answered-by (broken k) g r out list e n = absurd (omega (arith, n, ap (λ a. a .number) e))
+
+-- r is what rows 8 and 9 say
+module _ (w b p list answers : List ℕ) (r : Answered) (e : r ≡ refusal w b p) where
+  -- they refuse
+  pub refused-answer : (r .number ≡ 0 → ⊥) → r ≡ queryAnswer w b p (length list) answers
+  unfolding refusal queryAnswer
+  refused-answer n = refused-by (soundness w b) (goodPath p) (listAnswer (length list) answers) r e n
+
+  pub refused-out : (r .number ≡ 0 → ⊥) → list ≡ queryOut w b p list answers
+  unfolding refusal queryOut
+  refused-out n = out-refused-by (soundness w b) (goodPath p) r _ list e n
+
+  -- row 10
+  pub short-answer : (count : ℕ) → r .number ≡ 0 → count ≡ length answers → length list < count
+      → record { number = 10; returned = count } ≡ queryAnswer w b p (length list) answers
+  unfolding refusal queryAnswer
+  short-answer count n c h =
+      listed ∙ answered-by (soundness w b) (goodPath p) (listAnswer (length list) answers) r e n
+    where
+      listed : record { number = 10; returned = count } ≡ listAnswer (length list) answers
+      listed = rw (lt-leb (length answers) (length list) (omega (arith, c, h)), c) refl
+
+  pub short-out : (count : ℕ) → r .number ≡ 0 → count ≡ length answers → length list < count → list ≡ queryOut w b p list answers
+  unfolding refusal queryOut
+  short-out count n c h =
+      kept ∙ out-answered-by (soundness w b) (goodPath p) r (cond (leb (length answers) (length list)) (written list 0 answers) list) list e n
+    where
+      kept : list ≡ cond (leb (length answers) (length list)) (written list 0 answers) list
+      kept = rw (lt-leb (length answers) (length list) (omega (arith, c, h))) refl
+
+  -- the answers fit
+  pub full-answer : (count : ℕ) → r .number ≡ 0 → count ≡ length answers → count ≤ length list
+      → record { number = 0; returned = count } ≡ queryAnswer w b p (length list) answers
+  unfolding refusal queryAnswer
+  full-answer count n c h =
+      listed ∙ answered-by (soundness w b) (goodPath p) (listAnswer (length list) answers) r e n
+    where
+      listed : record { number = 0; returned = count } ≡ listAnswer (length list) answers
+      listed = rw (le-leb (length answers) (length list) (omega (arith, c, h)), c) refl
+
+  pub full-out : (count : ℕ) (out : List ℕ) → r .number ≡ 0 → count ≡ length answers → count ≤ length list → out ≡ written list 0 answers
+      → out ≡ queryOut w b p list answers
+  unfolding refusal queryOut
+  full-out count out n c h d =
+      filled ∙ out-answered-by (soundness w b) (goodPath p) r (cond (leb (length answers) (length list)) (written list 0 answers) list) list e n
+    where
+      filled : out ≡ cond (leb (length answers) (length list)) (written list 0 answers) list
+      filled = rw (le-leb (length answers) (length list) (omega (arith, c, h))) d
+
+-- the answers, of a chain that starts at record 0's first definition
+pub live-of : (w b base : List ℕ) (first : ℕ) → first ≡ firstDef w → liveNumbers (defAt w b) base (chainOf w first) ≡ liveAnswers w b base
+unfolding liveAnswers
+live-of w b base first e = rw e refl
+
+pub history-of : (w b path : List ℕ) (first : ℕ) → first ≡ firstDef w → historyNumbers (defAt w b) false path (chainOf w first) ≡ historyAnswers w b path
+unfolding historyAnswers
+history-of w b path first e = rw e refl
+
+-- contains_node
+pub contains-refused : (w b p : List ℕ) (r : Answered) → r ≡ refusal w b p → (r .number ≡ 0 → ⊥) → r ≡ containsAnswer w b p
+unfolding refusal containsAnswer
+contains-refused w b p r e n = refused-by (soundness w b) (goodPath p) _ r e n
+
+pub contains-answered : (w b p : List ℕ) (r : Answered) (first : ℕ) (t : Bool) (n : ℕ) → r ≡ refusal w b p → r .number ≡ 0 → first ≡ firstDef w
+    → t ≡ containsNode p (readDefs w b first) → n ≡ cond t 1 0 → record { number = 0; returned = n } ≡ containsAnswer w b p
+unfolding refusal containsAnswer
+contains-answered w b p r first t n e z f h k =
+    ap (λ m. record { number = 0; returned = m }) (k ∙ ap (λ s. cond s 1 0) (h ∙ ap (λ d. containsNode p (readDefs w b d)) f))
+    ∙ answered-by (soundness w b) (goodPath p) _ r e z
+
+-- rows 8 and 9 as they are tried
+pub refused-broken : (w b p : List ℕ) (k : ℕ) → soundness w b ≡ broken k → record { number = 8; returned = k } ≡ refusal w b p
+unfolding refusal
+refused-broken w b p k e = rw e refl
+
+pub refused-sound : (w b p : List ℕ) (r : Answered) → soundness w b ≡ sound → r ≡ goodAnswer (goodPath p) (record { number = 0; returned = 0 }) → r ≡ refusal w b p
+unfolding refusal
+refused-sound w b p r e h = rw e h

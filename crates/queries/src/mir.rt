@@ -1,0 +1,377 @@
+// What mir.rs asks of a chain of definitions. The chain is given by its first record, and every
+// function answers for any words and bytes: for what they read as.
+ghost use mathlib.Core.Path.{_≡_};
+ghost use mathlib.Core.Bool.{true, false};
+ghost use mathlib.Core.List.{List, map};
+ghost use Prim.Native.Nat.{ℕ, _≤_};
+ghost use lib.ListN.{length};
+ghost use Rattle.paths_numbers.specs.Text.{written};
+ghost use Rattle.paths_numbers.specs.Path.{joined};
+ghost use Rattle.log.specs.Record.{nextOf, logCount};
+ghost use Rattle.log.specs.ReadBack.{chainFrom, chainOf, defAt, readDefs};
+ghost use Rattle.queries.specs.Kind.{any, setsOverlay};
+ghost use Rattle.queries.specs.Live.{deletes, isLive, live, nodeAt, containsNode};
+ghost use Rattle.queries.specs.Labels.{hasLabelAt};
+ghost use Rattle.queries.specs.Query.{liveNumbers, historyNumbers};
+ghost use Rattle.queries.specs.Pass.{foundAfter, takesAway, isListed, definedAfter};
+ghost use Rattle.queries.specs.Marks.{Marks};
+use crate::definition::DELETED_NODE;
+use crate::definition::DELETED_PROPERTY;
+use crate::definition::PLUGIN;
+use crate::definition::PROPERTY;
+use crate::definition::defined_by;
+use crate::definition::deletes_above;
+use crate::definition::deletes_above_path;
+use crate::definition::goes_on;
+use crate::definition::has_label_at;
+use crate::definition::is_node_at;
+use crate::definition::is_node_at_path;
+use crate::definition::takes_away;
+use crate::marking::NO_MARK;
+use crate::marking::is_suspect;
+use crate::marking::mark_chain;
+use log::record::first_text;
+use log::record::kind_of;
+use log::record::log_count;
+use log::record::next_of;
+use paths_numbers::dt_node::lies_under_path;
+use paths_numbers::mir::lies_under;
+use paths_numbers::text::equals;
+
+// Whether a chain has a live node at a path.
+pub fn contains_node_in(words: &[u32], bytes: &[u8], first: u32, path: &[u8]) -> bool
+    ensures { λ t. ⌜ t ≡ containsNode (now (path .entry)) (readDefs (now (words .entry)) (now (bytes .entry)) first) ⌝ }
+{
+    let mut found = false;
+    let mut r = first;
+    let mut left = log_count(words);
+    while goes_on(words, r, left) {
+        found = contains_node_after(words, bytes, r, path, found);
+        r = next_of(words, r);
+        left -= 1;
+    }
+    found
+}
+
+// Whether a chain has a live node at the path of a parent and a name.
+pub fn contains_node_path(
+    words: &[u32],
+    bytes: &[u8],
+    first: u32,
+    parent: &[u8],
+    name: &[u8],
+    unit: &[u8],
+) -> bool
+    ensures { λ t. ⌜ t ≡ containsNode (joined (now (parent .entry)) (now (name .entry)) (now (unit .entry))) (readDefs (now (words .entry)) (now (bytes .entry)) first) ⌝ }
+{
+    let mut found = false;
+    let mut r = first;
+    let mut left = log_count(words);
+    while goes_on(words, r, left) {
+        found = contains_node_path_after(words, bytes, r, parent, name, unit, found);
+        r = next_of(words, r);
+        left -= 1;
+    }
+    found
+}
+
+// Whether a chain has a plugin directive.
+pub fn sets_overlay_in(words: &[u32], first: u32) -> bool
+    ensures { λ t. ⌜ ((bytes : List ℕ) → t ≡ setsOverlay (readDefs (now (words .entry)) bytes first)) ⌝ }
+{
+    let mut r = first;
+    let mut left = log_count(words);
+    while goes_on(words, r, left) {
+        if kind_of(words, r) == PLUGIN {
+            return true;
+        }
+        r = next_of(words, r);
+        left -= 1;
+    }
+    false
+}
+
+// Whether a chain has a node with a label at a path, live under a base.
+pub fn unbinds(
+    words: &[u32],
+    bytes: &[u8],
+    first: u32,
+    base: &[u8],
+    label: &[u8],
+    path: &[u8],
+) -> bool
+    ensures { λ t. ⌜ t ≡ any (hasLabelAt (now (label .entry)) (now (path .entry))) (live (now (base .entry)) (readDefs (now (words .entry)) (now (bytes .entry)) first)) ⌝ }
+{
+    if !lies_under(path, base) {
+        return false;
+    }
+    unbinds_in(words, bytes, first, label, path)
+}
+
+// The same, where the base is the path of a parent and a name.
+pub fn unbinds_path(
+    words: &[u32],
+    bytes: &[u8],
+    first: u32,
+    parent: &[u8],
+    name: &[u8],
+    unit: &[u8],
+    label: &[u8],
+    path: &[u8],
+) -> bool
+    ensures { λ t. ⌜ t ≡ any (hasLabelAt (now (label .entry)) (now (path .entry))) (live (joined (now (parent .entry)) (now (name .entry)) (now (unit .entry))) (readDefs (now (words .entry)) (now (bytes .entry)) first)) ⌝ }
+{
+    if !lies_under_path(path, parent, name, unit) {
+        return false;
+    }
+    unbinds_in(words, bytes, first, label, path)
+}
+
+// Whether a chain has a node with a label at a path, live under that path.
+fn unbinds_in(words: &[u32], bytes: &[u8], first: u32, label: &[u8], path: &[u8]) -> bool
+    ensures { λ t. ⌜ t ≡ any (hasLabelAt (now (label .entry)) (now (path .entry))) (live (now (path .entry)) (readDefs (now (words .entry)) (now (bytes .entry)) first)) ⌝ }
+{
+    let mut found = false;
+    let mut r = first;
+    let mut left = log_count(words);
+    while goes_on(words, r, left) {
+        found = unbinds_after(words, bytes, r, label, path, found);
+        r = next_of(words, r);
+        left -= 1;
+    }
+    found
+}
+
+// How many definitions of a chain a path's history has.
+pub fn history_count(words: &[u32], bytes: &[u8], first: u32, path: &[u8]) -> u32
+    ensures { λ n. ⌜ n ≡ length (historyNumbers (defAt (now (words .entry)) (now (bytes .entry))) false (now (path .entry)) (chainOf (now (words .entry)) first)) ⌝ }
+{
+    let mut count: u32 = 0;
+    let mut defined = false;
+    let mut r = first;
+    let mut left = log_count(words);
+    while goes_on(words, r, left) {
+        let passed = history_at(words, bytes, r, path, defined);
+        if passed.listed {
+            count += 1;
+        }
+        defined = passed.defined;
+        r = next_of(words, r);
+        left -= 1;
+    }
+    count
+}
+
+// Writes the record numbers of a path's history to the start of a list, earliest first.
+pub(crate) fn history_fill(words: &[u32], bytes: &[u8], first: u32, path: &[u8], list: &mut [u32])
+    requires { ⌜ length (historyNumbers (defAt (now words) (now bytes)) false (now path) (chainOf (now words) first)) ≤ length (now list) ⌝ }
+    ensures { λ _. ⌜ now (list .exit) ≡ written (now (list .entry)) 0 (historyNumbers (defAt (now (words .entry)) (now (bytes .entry))) false (now (path .entry)) (chainOf (now (words .entry)) first)) ⌝ }
+{
+    let mut count = 0;
+    let mut defined = false;
+    let mut r = first;
+    let mut left = log_count(words);
+    while goes_on(words, r, left) {
+        let passed = history_at(words, bytes, r, path, defined);
+        if passed.listed {
+            list[count] = r;
+            count += 1;
+        }
+        defined = passed.defined;
+        r = next_of(words, r);
+        left -= 1;
+    }
+}
+
+// How many definitions of a chain are live under a base.
+pub fn live_count(words: &[u32], bytes: &[u8], first: u32, base: &[u8]) -> u32
+    ensures { λ n. ⌜ n ≡ length (liveNumbers (defAt (now (words .entry)) (now (bytes .entry))) (now (base .entry)) (chainOf (now (words .entry)) first)) ⌝ }
+{
+    let mut marks = [NO_MARK; 65536];
+    mark_chain(words, bytes, first, &mut marks);
+    live_count_by(words, bytes, first, base, &marks)
+}
+
+// The same, with the marks of the chain.
+fn live_count_by(words: &[u32], bytes: &[u8], first: u32, base: &[u8], marks: &[u32]) -> u32
+    requires { ⌜ Marks (now marks) (logCount (now words)) (readDefs (now words) (now bytes) first) ⌝ }
+    ensures { λ n. ⌜ n ≡ length (liveNumbers (defAt (now (words .entry)) (now (bytes .entry))) (now (base .entry)) (chainOf (now (words .entry)) first)) ⌝ }
+{
+    let mut count: u32 = 0;
+    let mut r = first;
+    let mut left = log_count(words);
+    while goes_on(words, r, left) {
+        left -= 1;
+        if is_live_at(words, bytes, r, left, base, marks) {
+            count += 1;
+        }
+        r = next_of(words, r);
+    }
+    count
+}
+
+// Writes the record numbers of the definitions that are live under a base, of which there are
+// `count`, to the start of a list, latest first.
+pub(crate) fn live_fill(
+    words: &[u32],
+    bytes: &[u8],
+    first: u32,
+    base: &[u8],
+    count: u32,
+    list: &mut [u32],
+)
+    requires { ⌜ count ≡ length (liveNumbers (defAt (now words) (now bytes)) (now base) (chainOf (now words) first)) ⌝ }
+    requires { ⌜ count ≤ length (now list) ⌝ }
+    ensures { λ _. ⌜ now (list .exit) ≡ written (now (list .entry)) 0 (liveNumbers (defAt (now (words .entry)) (now (bytes .entry))) (now (base .entry)) (chainOf (now (words .entry)) first)) ⌝ }
+{
+    let mut marks = [NO_MARK; 65536];
+    mark_chain(words, bytes, first, &mut marks);
+    live_fill_by(words, bytes, first, base, count, list, &marks);
+}
+
+// The same, with the marks of the chain: from the list's last place back, as the chain comes.
+fn live_fill_by(
+    words: &[u32],
+    bytes: &[u8],
+    first: u32,
+    base: &[u8],
+    count: u32,
+    list: &mut [u32],
+    marks: &[u32],
+)
+    requires { ⌜ count ≡ length (liveNumbers (defAt (now words) (now bytes)) (now base) (chainOf (now words) first)) ⌝ }
+    requires { ⌜ count ≤ length (now list) ⌝ }
+    requires { ⌜ Marks (now marks) (logCount (now words)) (readDefs (now words) (now bytes) first) ⌝ }
+    ensures { λ _. ⌜ now (list .exit) ≡ written (now (list .entry)) 0 (liveNumbers (defAt (now (words .entry)) (now (bytes .entry))) (now (base .entry)) (chainOf (now (words .entry)) first)) ⌝ }
+{
+    let mut at = count as usize;
+    let mut r = first;
+    let mut left = log_count(words);
+    while goes_on(words, r, left) {
+        left -= 1;
+        if is_live_at(words, bytes, r, left, base, marks) {
+            at -= 1;
+            list[at] = r;
+        }
+        r = next_of(words, r);
+    }
+}
+
+// Whether a definition is live under a base, where so many records may follow it in its chain.
+fn is_live_at(words: &[u32], bytes: &[u8], r: u32, left: u32, base: &[u8], marks: &[u32]) -> bool
+    requires { ⌜ Marks (now marks) left (map (defAt (now words) (now bytes)) (chainFrom left (now words) (nextOf (now words) r))) ⌝ }
+    ensures { λ t. ⌜ t ≡ isLive (now (base .entry)) (defAt (now (words .entry)) (now (bytes .entry)) r) (map (defAt (now (words .entry)) (now (bytes .entry))) (chainFrom left (now (words .entry)) (nextOf (now (words .entry)) r))) ⌝ }
+{
+    let kind = kind_of(words, r);
+    if kind == DELETED_NODE {
+        return false;
+    }
+    if kind == DELETED_PROPERTY {
+        return false;
+    }
+    let path = first_text(words, bytes, r);
+    if !lies_under(path, base) {
+        return false;
+    }
+    if !is_suspect(marks, path, left) {
+        return true;
+    }
+    !is_gone(
+        words,
+        bytes,
+        path,
+        kind == PROPERTY,
+        next_of(words, r),
+        left,
+    )
+}
+
+// Whether a chain takes away what is at a path, a property or not.
+fn is_gone(words: &[u32], bytes: &[u8], path: &[u8], property: bool, first: u32, most: u32) -> bool
+    ensures { λ t. ⌜ t ≡ any (takesAway (now (path .entry)) property) (map (defAt (now (words .entry)) (now (bytes .entry))) (chainFrom most (now (words .entry)) first)) ⌝ }
+{
+    let mut r = first;
+    let mut left = most;
+    while goes_on(words, r, left) {
+        if takes_away(words, bytes, r, path, property) {
+            return true;
+        }
+        r = next_of(words, r);
+        left -= 1;
+    }
+    false
+}
+
+// What becomes of a path's history at a definition.
+struct Passed {
+    listed: bool,
+    defined: bool,
+}
+
+// Whether a definition is in a path's history, and whether the path is defined after it.
+fn history_at(words: &[u32], bytes: &[u8], r: u32, path: &[u8], defined: bool) -> Passed
+    ensures { λ p. ⌜ p ≡ record { listed = isListed (now (path .entry)) (defAt (now (words .entry)) (now (bytes .entry)) r) defined; defined = definedAfter (now (path .entry)) (defAt (now (words .entry)) (now (bytes .entry)) r) defined } ⌝ }
+{
+    if equals(first_text(words, bytes, r), path) {
+        return Passed {
+            listed: true,
+            defined: defined_by(words, bytes, r, defined),
+        };
+    }
+    if !defined {
+        return Passed {
+            listed: false,
+            defined: false,
+        };
+    }
+    let deleted = deletes_above(words, bytes, r, path);
+    Passed {
+        listed: deleted,
+        defined: !deleted,
+    }
+}
+
+// Whether a live node at a path is found after a definition.
+fn contains_node_after(words: &[u32], bytes: &[u8], r: u32, path: &[u8], found: bool) -> bool
+    ensures { λ t. ⌜ t ≡ foundAfter (nodeAt (now (path .entry)) (defAt (now (words .entry)) (now (bytes .entry)) r)) (deletes (now (path .entry)) (defAt (now (words .entry)) (now (bytes .entry)) r)) found ⌝ }
+{
+    if found {
+        return !deletes_above(words, bytes, r, path);
+    }
+    is_node_at(words, bytes, r, path)
+}
+
+// Whether a live node at the path of a parent and a name is found after a definition.
+fn contains_node_path_after(
+    words: &[u32],
+    bytes: &[u8],
+    r: u32,
+    parent: &[u8],
+    name: &[u8],
+    unit: &[u8],
+    found: bool,
+) -> bool
+    ensures { λ t. ⌜ t ≡ foundAfter (nodeAt (joined (now (parent .entry)) (now (name .entry)) (now (unit .entry))) (defAt (now (words .entry)) (now (bytes .entry)) r)) (deletes (joined (now (parent .entry)) (now (name .entry)) (now (unit .entry))) (defAt (now (words .entry)) (now (bytes .entry)) r)) found ⌝ }
+{
+    if found {
+        return !deletes_above_path(words, bytes, r, parent, name, unit);
+    }
+    is_node_at_path(words, bytes, r, parent, name, unit)
+}
+
+// Whether a live node with a label at a path is found after a definition.
+fn unbinds_after(
+    words: &[u32],
+    bytes: &[u8],
+    r: u32,
+    label: &[u8],
+    path: &[u8],
+    found: bool,
+) -> bool
+    ensures { λ t. ⌜ t ≡ foundAfter (hasLabelAt (now (label .entry)) (now (path .entry)) (defAt (now (words .entry)) (now (bytes .entry)) r)) (deletes (now (path .entry)) (defAt (now (words .entry)) (now (bytes .entry)) r)) found ⌝ }
+{
+    if found {
+        return !deletes_above(words, bytes, r, path);
+    }
+    has_label_at(words, bytes, r, label, path)
+}

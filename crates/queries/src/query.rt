@@ -1,0 +1,118 @@
+// The queries of any log that a caller lends, by rows 8 to 10 of 01's table.
+ghost use mathlib.Core.Path.{_≡_};
+ghost use lib.ListN.{length};
+ghost use Rattle.paths_numbers.specs.Path.{goodPath};
+ghost use Rattle.queries.specs.Query.{goodAnswer, queryAnswer, queryOut, liveAnswers, historyAnswers, containsAnswer};
+ghost use Rattle.queries.specs.Answer.{told, refusal};
+use crate::mir::contains_node_in;
+use crate::mir::history_count;
+use crate::mir::history_fill;
+use crate::mir::live_count;
+use crate::mir::live_fill;
+use log::record::out_field;
+use log::sound::Soundness;
+use log::sound::check_log;
+use paths_numbers::mir::good_path;
+
+// 01's number and what is returned with it.
+pub struct Answer {
+    number: u32,
+    returned: u32,
+}
+
+// The live definitions under a base, latest first, by their record numbers.
+pub fn iter_live_defs_under(words: &[u32], bytes: &[u8], base: &[u8], list: &mut [u32]) -> Answer
+    ensures { λ r. ⌜ told r ≡ queryAnswer (now (words .entry)) (now (bytes .entry)) (now (base .entry)) (length (now (list .entry))) (liveAnswers (now (words .entry)) (now (bytes .entry)) (now (base .entry))) ⌝ }
+    ensures { λ _. ⌜ now (list .exit) ≡ queryOut (now (words .entry)) (now (bytes .entry)) (now (base .entry)) (now (list .entry)) (liveAnswers (now (words .entry)) (now (bytes .entry)) (now (base .entry))) ⌝ }
+{
+    let refusal = refused(words, bytes, base);
+    if refusal.number != 0 {
+        return refusal;
+    }
+    let first = out_field(words, 0, 1);
+    let count = live_count(words, bytes, first, base);
+    if list.len() < count as usize {
+        return Answer {
+            number: 10,
+            returned: count,
+        };
+    }
+    live_fill(words, bytes, first, base, count, list);
+    Answer {
+        number: 0,
+        returned: count,
+    }
+}
+
+// The history of a path, earliest first, by record numbers.
+pub fn history(words: &[u32], bytes: &[u8], path: &[u8], list: &mut [u32]) -> Answer
+    ensures { λ r. ⌜ told r ≡ queryAnswer (now (words .entry)) (now (bytes .entry)) (now (path .entry)) (length (now (list .entry))) (historyAnswers (now (words .entry)) (now (bytes .entry)) (now (path .entry))) ⌝ }
+    ensures { λ _. ⌜ now (list .exit) ≡ queryOut (now (words .entry)) (now (bytes .entry)) (now (path .entry)) (now (list .entry)) (historyAnswers (now (words .entry)) (now (bytes .entry)) (now (path .entry))) ⌝ }
+{
+    let refusal = refused(words, bytes, path);
+    if refusal.number != 0 {
+        return refusal;
+    }
+    let first = out_field(words, 0, 1);
+    let count = history_count(words, bytes, first, path);
+    if list.len() < count as usize {
+        return Answer {
+            number: 10,
+            returned: count,
+        };
+    }
+    history_fill(words, bytes, first, path, list);
+    Answer {
+        number: 0,
+        returned: count,
+    }
+}
+
+// Whether a node is live at a path: returns 1 or 0.
+pub fn contains_node(words: &[u32], bytes: &[u8], path: &[u8]) -> Answer
+    ensures { λ r. ⌜ told r ≡ containsAnswer (now (words .entry)) (now (bytes .entry)) (now (path .entry)) ⌝ }
+{
+    let refusal = refused(words, bytes, path);
+    if refusal.number != 0 {
+        return refusal;
+    }
+    if contains_node_in(words, bytes, out_field(words, 0, 1), path) {
+        return Answer {
+            number: 0,
+            returned: 1,
+        };
+    }
+    Answer {
+        number: 0,
+        returned: 0,
+    }
+}
+
+// Row 8, then row 9; number 0 where neither refuses.
+fn refused(words: &[u32], bytes: &[u8], path: &[u8]) -> Answer
+    ensures { λ r. ⌜ told r ≡ refusal (now (words .entry)) (now (bytes .entry)) (now (path .entry)) ⌝ }
+{
+    match check_log(words, bytes) {
+        Soundness::Broken(r) => Answer {
+            number: 8,
+            returned: r,
+        },
+        Soundness::Sound => path_refused(path),
+    }
+}
+
+// Row 9.
+fn path_refused(path: &[u8]) -> Answer
+    ensures { λ r. ⌜ told r ≡ goodAnswer (goodPath (now (path .entry))) (record { number = 0; returned = 0 }) ⌝ }
+{
+    if good_path(path) {
+        return Answer {
+            number: 0,
+            returned: 0,
+        };
+    }
+    Answer {
+        number: 9,
+        returned: 0,
+    }
+}
