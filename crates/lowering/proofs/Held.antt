@@ -11,7 +11,8 @@ use Rattle.log.specs.Meaning.{DefValue, node, property, deletedNode, deletedPro
 use Rattle.queries.specs.Kind.{isProperty, isDeletedNode, isDeletion, any}
 use Rattle.queries.specs.Live.{deletes, overwrites, gone, isLive, live}
 use Rattle.queries.proofs.Lists.{any-append}
-use Rattle.lowering.specs.State.{labelsIn, bindsLabelOf, without}
+use Rattle.queries.specs.Labels.{labelsIn}
+use Rattle.lowering.specs.State.{bindsLabelOf, without}
 
 -- whether the list holds such a node
 unfoldable pub held : Binding → List Def → Bool

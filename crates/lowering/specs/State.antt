@@ -4,11 +4,11 @@ use Prim.Native.Nat.{ℕ, _+_}
 use mathlib.Core.Bool.{Bool, true, false, not, cond}
 use mathlib.Core.List.{List, [], _∷_, _++_}
 use lib.ListN.{length}
-use Rattle.paths_numbers.specs.Text.{same}
 use Rattle.paths_numbers.specs.Reference.{Target, label, labelPath, path, unreadable}
 use Rattle.log.specs.Meaning.{Cell, number, reference, Value, string, cellList, bytestring, phandle, DefValue, node, property, deletedNode, deletedProperty, version, plugin, Def, Ext, Binding, Diag}
 use Rattle.queries.specs.Kind.{any}
 use Rattle.queries.specs.Live.{live}
+use Rattle.queries.specs.Labels.{hasLabelAt}
 
 pub record State : Type 0 where
   pub defs : List Def
@@ -146,18 +146,9 @@ extended e s t =
       bytes = t .bytes + targetBytes (e .target);
     }
 
--- the labels of a node
-abbrev pub labelsIn : DefValue → List (List ℕ)
-labelsIn (node ls o) = ls
-labelsIn (property vs) = []
-labelsIn deletedNode = []
-labelsIn deletedProperty = []
-labelsIn version = []
-labelsIn plugin = []
-
 -- whether a binding is of a node's label to that node's path
 abbrev pub bindsLabelOf : Binding → Def → Bool
-bindsLabelOf b d = cond (same (d .path) (b .path)) (any (same (b .label)) (labelsIn (d .value))) false
+bindsLabelOf b d = hasLabelAt (b .label) (b .path) d
 
 -- the bindings without those of the nodes of a list
 unfoldable pub without : List Def → List Binding → List Binding
