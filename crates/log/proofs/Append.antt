@@ -52,8 +52,22 @@ last-first c k (x ∷ es) z p =
     (λ u. rw u (last-first c (k + 1) es (eqb-true _ _ q) (omega arith))))
     (λ q. absurd (eqb-false _ _ q (rw q at z)))
 
+-- the last of a chain is the new one, or as it was
+pub last-new : (c k : ℕ) (es : List Event) (e : Event) → 0 < k → inChain c e ≡ true → last c k (es ++ e ∷ []) ≡ k + length es
+unfolding last
+last-new c k [] e p t = rw t (omega arith)
+last-new c k (x ∷ es) e p t =
+    let h = last-new c (k + 1) es e (omega arith) t in
+    let n : eqb (k + 1 + length es) 0 ≡ false = ne-eqb (k + 1 + length es) 0 (omega arith) in
+    rw (h, n) (omega arith)
+
+pub last-other : (c k : ℕ) (es : List Event) (e : Event) → inChain c e ≡ false → last c k (es ++ e ∷ []) ≡ last c k es
+unfolding last
+last-other c k [] e t = rw t refl
+last-other c k (x ∷ es) e t = rw (last-other c (k + 1) es e t) refl
+
 -- two numbers that differ name two chains
-chain-other : (c d : ℕ) (e : Event) → e .chain ≡ c → (c ≡ d → ⊥) → inChain d e ≡ false
+pub chain-other : (c d : ℕ) (e : Event) → e .chain ≡ c → (c ≡ d → ⊥) → inChain d e ≡ false
 chain-other c d e q n = rw (q, ne-eqb c d n) (by-test (e .alive) (λ t. rw t refl) (λ t. rw t refl))
 
 -- the record before the new one, by its chain's last: its link is set to the new record
@@ -136,12 +150,12 @@ pub set-append-add : (x w : List ℕ) (j v : ℕ) → set (x ++ w) (length x + j
 set-append-add [] w j v = rw (zero-add j) refl
 set-append-add (a ∷ x) w j v = rw (suc-add (length x) j) (ap (λ (l : List ℕ). a ∷ l) (set-append-add x w j v))
 
-set-behind : (x w : List ℕ) (i j v : ℕ) → length x ≡ 16 → i ≡ 16 + j → set (x ++ w) i v ≡ x ++ set w j v
+pub set-behind : (x w : List ℕ) (i j v : ℕ) → length x ≡ 16 → i ≡ 16 + j → set (x ++ w) i v ≡ x ++ set w j v
 set-behind x w i j v h e = rw (e, ← h) (set-append-add x w j v)
 
 module _ (c : ℕ) (e : Event) (alive : e .alive ≡ true) (q : e .chain ≡ c) where
   -- the new record is in its chain
-  new-in : inChain c e ≡ true
+  pub new-in : inChain c e ≡ true
   new-in = rw (alive, q) (eq-eqb c c refl)
 
   -- one record more in front
@@ -190,7 +204,7 @@ pub data Owner (c : ℕ) : ℕ → ℕ → List Event → Type 0 where
   owner-later : {k o : ℕ} {x : Event} {es : List Event} → k < o → inChain c x ≡ false → (c ≡ childrenOf k → ⊥) → Owner c o (k + 1) es → Owner c o k (x ∷ es)
 
 -- a chain of a record's children is no other record's
-above-safe : (c o k : ℕ) (es : List Event) → c ≡ childrenOf o → o < k → Safe c k es
+pub above-safe : (c o k : ℕ) (es : List Event) → c ≡ childrenOf o → o < k → Safe c k es
 above-safe c o k [] q p = safe-none
 above-safe c o k (x ∷ es) q p =
     safe-next (λ (e : c ≡ childrenOf k) (z : last c (k + 1) es ≡ 0). omega (arith, sym q ∙ e)) (above-safe c o (k + 1) es q (omega arith))

@@ -38,7 +38,7 @@ texts-more [] e = append-nil (piece e)
 texts-more (x ∷ es) e = rw (texts-more es e) (sym (append-assoc (piece x) (texts es) (piece e)))
 
 -- how long the texts are
-length-texts : (at : ℕ) (es : List Event) → at + length (texts es) ≡ endOf at es
+pub length-texts : (at : ℕ) (es : List Event) → at + length (texts es) ≡ endOf at es
 unfolding texts endOf piece
 length-texts at [] = omega arith
 length-texts at (x ∷ es) = simp length-append (omega (arith, length-piece x, length-texts (at + bytesIn x) es))
@@ -76,7 +76,7 @@ count-words w n h =
     le-div-iff-mul-le {k = 16} (omega arith) .0 (omega arith))
 
 -- the same words count as many records
-same-count : (w v : List ℕ) → length v ≡ length w → logCount v ≡ logCount w
+pub same-count : (w v : List ℕ) → length v ≡ length w → logCount v ≡ logCount w
 unfolding logCount
 same-count w v e = rw e refl
 

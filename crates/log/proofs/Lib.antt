@@ -12,6 +12,7 @@ pub mod Pinned
 -- Laws of the log in the making: a record more, its layout, and what is read back.
 pub mod Append
 pub mod Texts
+pub mod PathPlaces
 pub mod ReadEvents
 pub mod ReadLog
 pub mod Make
@@ -19,6 +20,8 @@ pub mod Records
 pub mod Layouts
 pub mod Told
 pub mod MakeLayout
+pub mod Holding
+pub mod Empty
 -- Laws of row 8's test: its links, its marks, its loops and its answer.
 pub mod Tests
 pub mod Follow

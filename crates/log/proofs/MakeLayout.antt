@@ -28,7 +28,7 @@ spot-below c es link (spot-child p h o) = omega arith
 -- what making a record comes to
 pub data Making (c d : LowerCtx) (words bytes w b : List ℕ) (size : ℕ) (es : List Event) : Type 0 where
   made : d ≡ oneMore c size → Layout w b (c .records + 1) (c .bytes + size) es → Making c d words bytes w b size es
-  ran-short : d ≡ ranShort c → Exceeds words bytes es → Making c d words bytes w b size es
+  ran-short : d ≡ ranShort c → w ≡ words → b ≡ bytes → Exceeds words bytes es → Making c d words bytes w b size es
 
 module _ (ctx : LowerCtx) (w b : List ℕ) (es : List Event) (l : Layout w b (ctx .records) (ctx .bytes) es) (going : ctx .short ≡ false)
     (c log : ℕ) (r : Rec) (x y : List ℕ) (link : ℕ) (spot : Spot c es link) (owned : (o : ℕ) → c ≡ childrenOf o → o < 1 + length es) where
@@ -66,4 +66,4 @@ module _ (ctx : LowerCtx) (w b : List ℕ) (es : List Event) (l : Layout w b (ct
       rw m
       (made refl
       (layout-more l c log r x y link (omega (arith, k .recordsFit, l .recordsAre)) (omega (arith, k .bytesFit, l .usedAre)) (omega (arith, k .bytesMost, l .usedAre)) spot owned)))
-      (λ t. let m = decided ∙ t in rw m (ran-short (cond-false (ctx .short) _ _ going) (exceeds t)))
+      (λ t. let m = decided ∙ t in rw m (ran-short refl refl refl (exceeds t)))

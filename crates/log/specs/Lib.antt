@@ -8,6 +8,8 @@ pub mod Alike
 pub mod RecordExample
 pub mod Events
 pub mod Buffers
+pub mod PathPlaces
 pub mod Made
+pub mod Holding
 pub mod SoundAnswer
 pub mod Walk

@@ -1,11 +1,14 @@
 -- The words of a record that is made, and the link that leads to it, as the code writes them.
 use Prim.Native.Nat.{ℕ, _+_, _*_, _≤_, _<_}
+use mathlib.Core.Path.{_≡_}
 use mathlib.Core.Bool.{Bool, true, false, cond}
 use mathlib.Core.List.{List, [], _∷_, _++_}
 use lib.Dec.{eqb, ltb, leb}
 use lib.ListN.{length, set}
 use Rattle.paths_numbers.specs.Text.{written}
+use Rattle.paths_numbers.specs.Bytestring.{bytesOf, isOdd}
 use Rattle.log.specs.Record.{logCount}
+use Rattle.log.specs.declared.ctx.Chain.{Chain}
 use Rattle.log.specs.declared.ctx.LowerCtx.{LowerCtx}
 use Rattle.log.specs.declared.ctx.Rec.{Rec}
 use Rattle.log.specs.Buffers.{mostBytes}
@@ -56,19 +59,7 @@ pub record Room (c : LowerCtx) (words bytes : List ℕ) (size link : ℕ) : Type
 -- the state with the buffers short
 unfoldable pub ranShort : LowerCtx → LowerCtx
 ranShort c =
-    record {
-      records = c .records;
-      bytes = c .bytes;
-      «first_def» = c .«first_def»;
-      «last_def» = c .«last_def»;
-      «first_ext» = c .«first_ext»;
-      «last_ext» = c .«last_ext»;
-      «first_bind» = c .«first_bind»;
-      «last_bind» = c .«last_bind»;
-      «first_diag» = c .«first_diag»;
-      «last_diag» = c .«last_diag»;
-      short = true;
-    }
+    record { records = c .records; bytes = c .bytes; defs = c .defs; exts = c .exts; binds = c .binds; diags = c .diags; short = true }
 
 -- one record and so many bytes more
 unfoldable pub oneMore : LowerCtx → ℕ → LowerCtx
@@ -76,24 +67,48 @@ oneMore c size =
     record {
       records = c .records + 1;
       bytes = c .bytes + size;
-      «first_def» = c .«first_def»;
-      «last_def» = c .«last_def»;
-      «first_ext» = c .«first_ext»;
-      «last_ext» = c .«last_ext»;
-      «first_bind» = c .«first_bind»;
-      «last_bind» = c .«last_bind»;
-      «first_diag» = c .«first_diag»;
-      «last_diag» = c .«last_diag»;
+      defs = c .defs;
+      exts = c .exts;
+      binds = c .binds;
+      diags = c .diags;
       short = c .short;
     }
+
+-- where the link to the next record of a chain stands: in its last record, 0 where there is none
+abbrev pub endLink : Chain → ℕ
+endLink x = cond (eqb (x .last) 0) 0 (x .last * 16 + 1)
+
+-- and of a record's children, in the record itself where there is none before it
+abbrev pub childLink : ℕ → ℕ → ℕ
+childLink owner last = cond (eqb last 0) (owner * 16 + 6) (last * 16 + 1)
+
+-- a chain with one record more, where that was made
+unfoldable pub grown : Bool → Chain → ℕ → Chain
+grown short x n = cond short x (record { first = cond (eqb (x .first) 0) n (x .first); last = n })
+
+-- the state with a record more in one of its chains
+abbrev withChains : LowerCtx → Chain → Chain → Chain → Chain → LowerCtx
+withChains c defs exts binds diags =
+    record { records = c .records; bytes = c .bytes; defs = defs; exts = exts; binds = binds; diags = diags; short = c .short }
+
+unfoldable pub withDef : LowerCtx → ℕ → LowerCtx
+withDef c n = withChains c (grown (c .short) (c .defs) n) (c .exts) (c .binds) (c .diags)
+
+unfoldable pub withExt : LowerCtx → ℕ → LowerCtx
+withExt c n = withChains c (c .defs) (grown (c .short) (c .exts) n) (c .binds) (c .diags)
+
+unfoldable pub withBind : LowerCtx → ℕ → LowerCtx
+withBind c n = withChains c (c .defs) (c .exts) (grown (c .short) (c .binds) n) (c .diags)
+
+unfoldable pub withDiag : LowerCtx → ℕ → LowerCtx
+withDiag c n = withChains c (c .defs) (c .exts) (c .binds) (grown (c .short) (c .diags) n)
 
 -- whether a record is made: the state is not short, its link is among the words, and it has room
 unfoldable pub makes : LowerCtx → List ℕ → List ℕ → ℕ → ℕ → Bool
 makes c words bytes size link = cond (c .short) false (cond (ltb link (length words)) (hasRoom c words bytes size) false)
 
 unfoldable pub counted : LowerCtx → List ℕ → List ℕ → ℕ → ℕ → ℕ → LowerCtx
-counted c words bytes first second link =
-    cond (makes c words bytes (first + second) link) (oneMore c (first + second)) (cond (c .short) c (ranShort c))
+counted c words bytes first second link = cond (makes c words bytes (first + second) link) (oneMore c (first + second)) (ranShort c)
 
 unfoldable pub madeWords : LowerCtx → List ℕ → List ℕ → Rec → ℕ → ℕ → ℕ → List ℕ
 madeWords c words bytes r first second link =
@@ -104,3 +119,14 @@ madeWords c words bytes r first second link =
 unfoldable pub madeBytes : LowerCtx → List ℕ → List ℕ → List ℕ → List ℕ → ℕ → List ℕ
 madeBytes c words bytes first second link =
     cond (makes c words bytes (length first + length second) link) (written bytes (c .bytes) (first ++ second)) bytes
+
+-- what making a record with these texts answers and leaves, d, w and b
+pub record Told (c d : LowerCtx) (words bytes w b : List ℕ) (r : Rec) (first second : List ℕ) (link : ℕ) : Type 0 where
+  pub state : d ≡ counted c words bytes (length first) (length second) link
+  pub wordsAre : w ≡ madeWords c words bytes r (length first) (length second) link
+  pub bytesAre : b ≡ madeBytes c words bytes first second link
+
+-- the same of a bytestring's text: the record's text is its bytes, and where a digit is missing nothing is made
+pub record ToldBytes (c d : LowerCtx) (words bytes w b : List ℕ) (r : Rec) (text : List ℕ) (link : ℕ) : Type 0 where
+  pub even : isOdd text ≡ false → Told c d words bytes w b r (bytesOf text) [] link
+  pub odd : isOdd text ≡ true → (d ≡ c) × (w ≡ words) × (b ≡ bytes)

@@ -2,26 +2,42 @@
 ghost use mathlib.Core.Path.{_≡_};
 ghost use Prim.Native.Nat.{_+_, _*_, _≤_, _<_};
 ghost use lib.ListN.{length};
-ghost use mathlib.Core.List.{_++_};
+ghost use mathlib.Core.List.{[]};
 ghost use Rattle.paths_numbers.specs.Text.{written};
-ghost use Rattle.log.specs.Made.{startAt, sixteen, setLink, hasRoom, ranShort, oneMore, Room, counted, madeWords, madeBytes};
+ghost use Rattle.paths_numbers.specs.Path.{joined};
+ghost use Rattle.log.specs.Record.{logCount};
+ghost use Rattle.log.specs.Buffers.{mostBytes};
+ghost use Rattle.log.specs.PathPlaces.{pathIn};
+ghost use Rattle.log.specs.Made.{startAt, sixteen, setLink, hasRoom, makes, ranShort, oneMore, Told, ToldBytes};
+use crate::fill::write_and_copy;
+use crate::fill::write_joined;
+use crate::fill::write_path_at;
 use crate::fill::write_two;
 use crate::fill::write_words;
+use crate::place::PathAt;
+use crate::place::joined_len;
+use crate::place::place_len;
+use crate::place::settle;
 use crate::record::log_count;
+use paths_numbers::dt_property::ByteCount;
+use paths_numbers::dt_property::bytestring_len;
+use paths_numbers::dt_property::lower_bytestring;
 
-// The log in hand: how many records and bytes are made, the first and the last record of each chain
-// (0 where there is none), and whether the buffers ran short.
+// The first and the last record of a chain, 0 where there is none.
+pub struct Chain {
+    pub first: u32,
+    pub last: u32,
+}
+
+// The log in hand: how many records and bytes are made, its chains, and whether the buffers ran
+// short. Bindings and diagnostics are in one chain each for all logs.
 pub struct LowerCtx {
     pub records: u32,
     pub bytes: u32,
-    pub first_def: u32,
-    pub last_def: u32,
-    pub first_ext: u32,
-    pub last_ext: u32,
-    pub first_bind: u32,
-    pub last_bind: u32,
-    pub first_diag: u32,
-    pub last_diag: u32,
+    pub defs: Chain,
+    pub exts: Chain,
+    pub binds: Chain,
+    pub diags: Chain,
     pub short: bool,
 }
 
@@ -113,67 +129,131 @@ impl LowerCtx {
         second: &[u8],
         link: usize,
     ) -> LowerCtx
-        ensures { λ r. ⌜ r ≡ counted self (now (words .entry)) (now (bytes .entry)) (length (now (first .entry))) (length (now (second .entry))) link ⌝ }
-        ensures { λ _. ⌜ now (words .exit) ≡ madeWords self (now (words .entry)) (now (bytes .entry)) rec (length (now (first .entry))) (length (now (second .entry))) link ⌝ }
-        ensures { λ _. ⌜ now (bytes .exit) ≡ madeBytes self (now (words .entry)) (now (bytes .entry)) (now (first .entry)) (now (second .entry)) link ⌝ }
+        ensures { λ r. ⌜ Told self r (now (words .entry)) (now (bytes .entry)) (now (words .exit)) (now (bytes .exit)) rec (now (first .entry)) (now (second .entry)) link ⌝ }
     {
-        if self.short {
-            return self;
-        }
-        if words.len() <= link {
+        if !self.admits(words, bytes, first.len() + second.len(), link) {
             return self.run_short();
         }
-        if has_room(self, words, bytes, first.len() + second.len()) {
-            return self.put(words, bytes, rec, first, second, link);
-        }
-        self.run_short()
+        write_two(bytes, self.bytes as usize, first, second);
+        self.put(words, rec, first.len() as u32, second.len() as u32, link)
     }
 
-    // Makes a record that has room.
-    fn put(
+    // The same, whose text is the path of this name and unit address under a path.
+    pub(crate) fn make_joined(
         self,
         words: &mut [u32],
         bytes: &mut [u8],
         rec: Rec,
-        first: &[u8],
-        second: &[u8],
+        path: PathAt,
+        name: &[u8],
+        unit: &[u8],
         link: usize,
     ) -> LowerCtx
-        requires { ⌜ Room self (now words) (now bytes) (length (now first) + length (now second)) link ⌝ }
-        ensures { λ r. ⌜ r ≡ oneMore self (length (now (first .entry)) + length (now (second .entry))) ⌝ }
-        ensures { λ _. ⌜ now (words .exit) ≡ setLink link (self .records) (written (now (words .entry)) (self .records * 16) (sixteen (self .bytes) (length (now (first .entry))) (length (now (second .entry))) rec)) ⌝ }
-        ensures { λ _. ⌜ now (bytes .exit) ≡ written (now (bytes .entry)) (self .bytes) (now (first .entry) ++ now (second .entry)) ⌝ }
+        ensures { λ r. ⌜ Told self r (now (words .entry)) (now (bytes .entry)) (now (words .exit)) (now (bytes .exit)) rec (joined (pathIn (self .bytes) (now (bytes .entry)) path) (now (name .entry)) (now (unit .entry))) [] link ⌝ }
     {
-        write_two(bytes, self.bytes as usize, first, second);
-        put_record(
-            words,
-            self.records,
-            self.bytes,
-            first.len() as u32,
-            second.len() as u32,
-            link,
-            rec,
-        );
-        self.count_one((first.len() + second.len()) as u32)
+        let place = settle(path, self.bytes, bytes);
+        let size = joined_len(bytes, place, name, unit);
+        if !self.admits(words, bytes, size, link) {
+            return self.run_short();
+        }
+        write_joined(bytes, self.bytes as usize, place, name, unit);
+        self.put(words, rec, size as u32, 0, link)
+    }
+
+    // The same, whose text is a path.
+    pub(crate) fn make_copied(
+        self,
+        words: &mut [u32],
+        bytes: &mut [u8],
+        rec: Rec,
+        path: PathAt,
+        link: usize,
+    ) -> LowerCtx
+        ensures { λ r. ⌜ Told self r (now (words .entry)) (now (bytes .entry)) (now (words .exit)) (now (bytes .exit)) rec (pathIn (self .bytes) (now (bytes .entry)) path) [] link ⌝ }
+    {
+        let place = settle(path, self.bytes, bytes);
+        let size = place_len(place);
+        if !self.admits(words, bytes, size as usize, link) {
+            return self.run_short();
+        }
+        write_path_at(bytes, self.bytes as usize, place);
+        self.put(words, rec, size, 0, link)
+    }
+
+    // The same, whose texts are a label and a path.
+    pub(crate) fn make_bound(
+        self,
+        words: &mut [u32],
+        bytes: &mut [u8],
+        rec: Rec,
+        label: &[u8],
+        path: PathAt,
+        link: usize,
+    ) -> LowerCtx
+        ensures { λ r. ⌜ Told self r (now (words .entry)) (now (bytes .entry)) (now (words .exit)) (now (bytes .exit)) rec (now (label .entry)) (pathIn (self .bytes) (now (bytes .entry)) path) link ⌝ }
+    {
+        let place = settle(path, self.bytes, bytes);
+        let size = place_len(place);
+        if !self.admits(words, bytes, label.len() + (size as usize), link) {
+            return self.run_short();
+        }
+        write_and_copy(bytes, self.bytes as usize, label, place);
+        self.put(words, rec, label.len() as u32, size, link)
+    }
+
+    // The same, whose text is the bytes of a bytestring; nothing where its text lacks a digit.
+    pub(crate) fn make_bytestring(
+        self,
+        words: &mut [u32],
+        bytes: &mut [u8],
+        rec: Rec,
+        text: &[u8],
+        link: usize,
+    ) -> LowerCtx
+        ensures { λ r. ⌜ ToldBytes self r (now (words .entry)) (now (bytes .entry)) (now (words .exit)) (now (bytes .exit)) rec (now (text .entry)) link ⌝ }
+    {
+        match bytestring_len(text) {
+            ByteCount::MissingDigit => self,
+            ByteCount::Bytes(size) => {
+                if !self.admits(words, bytes, size, link) {
+                    return self.run_short();
+                }
+                lower_bytestring(text, bytes, self.bytes as usize);
+                self.put(words, rec, size as u32, 0, link)
+            }
+        }
+    }
+
+    // Whether a record with so many bytes of texts is made.
+    fn admits(self, words: &[u32], bytes: &[u8], size: usize, link: usize) -> bool
+        ensures { λ t. ⌜ t ≡ makes self (now (words .entry)) (now (bytes .entry)) size link ⌝ }
+    {
+        if self.short {
+            return false;
+        }
+        if words.len() <= link {
+            return false;
+        }
+        has_room(self, words, bytes, size)
+    }
+
+    // Writes a record that has room, and counts it with its texts, whose lengths these are.
+    fn put(self, words: &mut [u32], rec: Rec, first: u32, second: u32, link: usize) -> LowerCtx
+        requires { ⌜ (self .records < logCount (now words)) × (link < length (now words)) × (self .bytes + (first + second) ≤ mostBytes) ⌝ }
+        ensures { λ r. ⌜ r ≡ oneMore self (first + second) ⌝ }
+        ensures { λ _. ⌜ now (words .exit) ≡ setLink link (self .records) (written (now (words .entry)) (self .records * 16) (sixteen (self .bytes) first second rec)) ⌝ }
+    {
+        put_record(words, self.records, self.bytes, first, second, link, rec);
+        self.count_one(first + second)
     }
 
     // The same, with the buffers short: nothing more is made.
     fn run_short(self) -> LowerCtx
         ensures { λ r. ⌜ r ≡ ranShort self ⌝ }
     {
-        LowerCtx {
-            short: true,
-            records: self.records,
-            bytes: self.bytes,
-            first_def: self.first_def,
-            last_def: self.last_def,
-            first_ext: self.first_ext,
-            last_ext: self.last_ext,
-            first_bind: self.first_bind,
-            last_bind: self.last_bind,
-            first_diag: self.first_diag,
-            last_diag: self.last_diag,
-        }
+        let mut next = self;
+        next.short = true;
+        next
     }
 
     // One record and so many bytes more.
@@ -181,18 +261,9 @@ impl LowerCtx {
         requires { ⌜ (self .records + 1 < 4294967296) × (self .bytes + size < 4294967296) ⌝ }
         ensures { λ r. ⌜ r ≡ oneMore self size ⌝ }
     {
-        LowerCtx {
-            records: self.records + 1,
-            bytes: self.bytes + size,
-            first_def: self.first_def,
-            last_def: self.last_def,
-            first_ext: self.first_ext,
-            last_ext: self.last_ext,
-            first_bind: self.first_bind,
-            last_bind: self.last_bind,
-            first_diag: self.first_diag,
-            last_diag: self.last_diag,
-            short: self.short,
-        }
+        let mut next = self;
+        next.records = self.records + 1;
+        next.bytes = self.bytes + size;
+        next
     }
 }

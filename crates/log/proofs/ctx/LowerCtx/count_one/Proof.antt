@@ -4,16 +4,21 @@ use Rattle.log.specs.Made.{oneMore}
 use borrow.Author.Needs.{needs}
 use Rattle.log.proofs.ctx.LowerCtx.count_one.Statement.{statement}
 use Rattle.log.proofs.ctx.LowerCtx.count_one.Tie as tie
+use Rattle.log.proofs.ctx.LowerCtx.count_one.Reads as reads
+use Rattle.log.proofs.ctx.LowerCtx.count_one.Lts as lts
 
-add-t3 : tie.Need-add-t3
-add-t3 c = search needs
+-- src/ctx.rt:239:24
+add-next : tie.Need-add-next
+add-next c = search needs
 
-add-t4 : tie.Need-add-t4
-add-t4 c = search needs
+-- src/ctx.rt:240:22
+add-next-2 : tie.Need-add-next-2
+add-next-2 c = search needs
 
+-- src/ctx.rt:234:5
 returns : tie.Need-returns
 unfolding oneMore
 returns c = refl
 
 pub count-one-spec : {M : Type 1} → statement M
-count-one-spec = tie.close (tie.spec add-t3 add-t4 returns)
+count-one-spec = tie.close (tie.spec add-next add-next-2 returns)

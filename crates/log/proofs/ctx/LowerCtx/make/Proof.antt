@@ -1,73 +1,124 @@
 -- By whether the record is made (Told).
-use mathlib.Core.Path.{sym, _∙_}
-use Rattle.log.proofs.Told.{told-short, told-unlinked, told-full, told-made, room-is}
+use Prim.Native.Nat.{_+_}
+use mathlib.Core.Path.{refl, sym, _∙_}
+use native.Mathlib.Omega.{arith}
+use lib.ListN.{length}
+use Rattle.log.proofs.Told.{tested-none, tested-room, tested-made}
 use borrow.Author.Needs.{needs}
 use Rattle.log.proofs.ctx.LowerCtx.make.Statement.{statement}
 use Rattle.log.proofs.ctx.LowerCtx.make.Tie as tie
+use Rattle.log.proofs.ctx.LowerCtx.make.Reads as reads
+use Rattle.log.proofs.ctx.LowerCtx.make.Lts as lts
+use Rattle.log.proofs.ctx.LowerCtx.admits.Reads as admits-reads
+use Rattle.log.proofs.ctx.LowerCtx.put.Reads as put-reads
+use Rattle.log.proofs.ctx.LowerCtx.run_short.Reads as run-short-reads
+use Rattle.log.proofs.fill.write_two.Reads as write-two-reads
 
-returns : tie.Need-returns
-returns c =
-    let a = c .before .before .before .before .before .args in
-    told-short (a .self) (a .words .now) (a .bytes .now) (a .rec) (a .first .now) (a .second .now) (a .link) (c .if1 .taken)
+-- src/ctx.rt:131:39
+add-admits : tie.Need-add-admits
+add-admits c = search needs
 
+-- src/ctx.rt:131:13
+admits-requires : tie.Need-admits-requires
+admits-requires c κs = search needs
+
+-- src/ctx.rt:132:13
 run-short-requires : tie.Need-run-short-requires
 run-short-requires c κs = search needs
 
-returns-2 : tie.Need-returns-2
-returns-2 c =
-    let a = c .before .before .before .before .before .before .before .args in
-    told-unlinked (a .self) (a .words .now) (a .bytes .now) (a .rec) (a .first .now) (a .second .now) (a .link) (c .before .before .if1 .left) (c .before .if2 .taken) _ (c .run-short .ensures)
-
-add-has-room : tie.Need-add-has-room
-add-has-room c = search needs
-
-has-room-requires : tie.Need-has-room-requires
-has-room-requires c κs = search needs
-
-put-requires : tie.Need-put-requires
-put-requires c κs =
-    let a = c .before .before .before .before .before .before .before .before .before .before .before .before .args in
-    room-is (a .self) (a .words .now) (a .bytes .now) _ (a .link) (sym (c .before .before .before .has-room .ensures) ∙ c .before .before .if3 .taken) (c .before .before .before .before .before .before .if2 .left)
-
+-- src/ctx.rt:132:13
 same-length : tie.Need-same-length
 same-length c = search needs
 
+-- src/ctx.rt:132:13
 same-length-2 : tie.Need-same-length-2
 same-length-2 c = search needs
 
-returns-3 : tie.Need-returns-3
-returns-3 c =
-    let a = c .before .before .before .before .before .before .before .before .before .before .before .before .before .before .before .before .before .args in
-    told-made (a .self) (a .words .now) (a .bytes .now) (a .rec) (a .first .now) (a .second .now) (a .link) (c .before .before .before .before .before .before .before .before .before .before .before .before .if1 .left) (c .before .before .before .before .before .before .before .before .before .before .before .if2 .left) (sym (c .before .before .before .before .before .before .before .before .has-room .ensures) ∙ c .before .before .before .before .before .before .before .if3 .taken) _ _ _ (c .before .before .before .before .put .ensures .0) (c .before .before .before .before .put .ensures .1 .0) (c .before .before .before .before .put .ensures .1 .1)
+-- src/ctx.rt:132:13
+returns : tie.Need-returns
+returns c =
+    let k = c .before .before .before .before .before .before .before .before .before in
+    let a = k .args in
+    let x = a .first .now in
+    let y = a .second .now in
+    tested-none (a .self) (a .words .now) (a .bytes .now) (a .rec) x y (a .link) (length x + length y) refl _ (c .before .before .admits .ensures) _ (c .before .if1 .taken) (c .run-short .ensures)
 
-run-short-requires-2 : tie.Need-run-short-requires-2
-run-short-requires-2 c κs = search needs
+-- src/ctx.rt:134:26
+cast-write-two : tie.Need-cast-write-two
+cast-write-two c = search needs
 
+-- src/ctx.rt:134:9
+write-two-requires : tie.Need-write-two-requires
+write-two-requires c κs =
+    let k = c .before .before .before .before .before .before .before .before .before .before in
+    let a = k .args in
+    let x = a .first .now in
+    let y = a .second .now in
+    let r = tested-room (a .self) (a .words .now) (a .bytes .now) (a .rec) x y (a .link) (length x + length y) refl _ (c .before .before .before .admits .ensures) (c .before .before .if1 .left) in
+    omega (arith, r .bytesFit)
+
+-- src/ctx.rt:135:30
+cast-put : tie.Need-cast-put
+cast-put c =
+    let k = c .before .before .before .before .before .before .before .before .before .before .before .before .before .before in
+    let a = k .args in
+    let x = a .first .now in
+    let y = a .second .now in
+    let r = tested-room (a .self) (a .words .now) (a .bytes .now) (a .rec) x y (a .link) (length x + length y) refl _ (c .before .before .before .before .before .before .before .admits .ensures) (c .before .before .before .before .before .before .if1 .left) in
+    omega (arith, r .bytesMost)
+
+-- src/ctx.rt:135:50
+cast-put-2 : tie.Need-cast-put-2
+cast-put-2 c =
+    let k = c .before .before .before .before .before .before .before .before .before .before .before .before .before .before in
+    let a = k .args in
+    let x = a .first .now in
+    let y = a .second .now in
+    let r = tested-room (a .self) (a .words .now) (a .bytes .now) (a .rec) x y (a .link) (length x + length y) refl _ (c .before .before .before .before .before .before .before .admits .ensures) (c .before .before .before .before .before .before .if1 .left) in
+    omega (arith, r .bytesMost)
+
+-- src/ctx.rt:135:9
+put-requires : tie.Need-put-requires
+put-requires c κs =
+    let k = c .before .before .before .before .before .before .before .before .before .before .before .before .before .before in
+    let a = k .args in
+    let x = a .first .now in
+    let y = a .second .now in
+    let r = tested-room (a .self) (a .words .now) (a .bytes .now) (a .rec) x y (a .link) (length x + length y) refl _ (c .before .before .before .before .before .before .before .admits .ensures) (c .before .before .before .before .before .before .if1 .left) in
+    (r .recordsFit, r .linkFits, r .bytesMost)
+
+-- src/ctx.rt:120:5
 same-length-3 : tie.Need-same-length-3
 same-length-3 c = search needs
 
+-- src/ctx.rt:120:5
 same-length-4 : tie.Need-same-length-4
 same-length-4 c = search needs
 
-returns-4 : tie.Need-returns-4
-returns-4 c =
-    let a = c .before .before .before .before .before .before .before .before .before .before .before .args in
-    told-full (a .self) (a .words .now) (a .bytes .now) (a .rec) (a .first .now) (a .second .now) (a .link) (c .before .before .before .before .before .before .if1 .left) (c .before .before .before .before .before .if2 .left) (sym (c .before .before .has-room .ensures) ∙ c .before .if3 .left) _ (c .run-short2 .ensures)
+-- src/ctx.rt:120:5
+returns-2 : tie.Need-returns-2
+returns-2 c =
+    let k = c .before .before .before .before .before .before .before .before .before .before .before .before .before .before .before .before .before in
+    let a = k .args in
+    let x = a .first .now in
+    let y = a .second .now in
+    tested-made (a .self) (a .words .now) (a .bytes .now) (a .rec) x y (a .link) (length x + length y) refl _ (c .before .before .before .before .before .before .before .before .before .before .admits .ensures) _ _ _ (length x) (length y) (c .before .before .before .before .before .before .before .before .before .if1 .left) refl refl (c .before .before .put .ensures .0) (c .before .before .put .ensures .1) (c .before .before .before .before .before .before .write-two .ensures)
 
 pub make-spec : {M : Type 1} → statement M
 make-spec =
     tie.close
     (tie.spec
-    returns
+    add-admits
+    admits-requires
     run-short-requires
-    returns-2
-    add-has-room
-    has-room-requires
-    put-requires
     same-length
     same-length-2
-    returns-3
-    run-short-requires-2
+    returns
+    cast-write-two
+    write-two-requires
+    cast-put
+    cast-put-2
+    put-requires
     same-length-3
     same-length-4
-    returns-4)
+    returns-2)
