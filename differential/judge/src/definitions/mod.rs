@@ -1,0 +1,263 @@
+//! Small descriptions with the Rust's answers, as theorems: the checker computes our definitions and
+//! finds them equal to the answers, or does not.
+
+use std::{
+    collections::BTreeMap,
+    fmt::Write as _,
+    fs,
+    path::{Path, PathBuf},
+};
+
+use crate::{
+    answer::Query,
+    by_01::{self, lower::Lowered, rows::Refusal},
+    coverage::Coverage,
+    generate::{Case, Size},
+    random::Random,
+    records::{RECORD, Records},
+    small,
+    trees::{Judged, judged, judged_case},
+};
+
+mod theorems;
+use theorems::{File, HEAD};
+
+/// Generated descriptions when no number is given.
+pub const COUNT: usize = 150;
+
+/// What a description may have: records beside record 0, and bytes of text.
+const MOST_RECORDS: usize = 25;
+const MOST_TEXT: usize = 160;
+/// Seeds looked at.
+const SEEDS: u64 = 60_000;
+/// Paths asked for in each description: so many are tried, and so many with answers that differ are kept.
+const TRIED: usize = 24;
+const ASKED: usize = 5;
+/// Descriptions in one file.
+const IN_A_FILE: usize = 10;
+
+/// What no small description can show.
+const LIMITS: [&str; 4] = ["2048 records", "65536 bytes of text", "64 links", "path of 40 components"];
+
+/// The crates whose definitions are computed through.
+const USED: [&str; 4] = ["paths_numbers", "log", "queries", "lowering"];
+
+/// A description of the sample.
+struct Sample {
+    about: String,
+    judged: Judged,
+    by_01: Lowered,
+    /// A description that rows 1 to 6 refuse, made from it, and the refusal.
+    damaged: Option<(Records, Refusal)>,
+}
+
+/// Writes the crate `judged` into `folder`/crates: `count` generated descriptions beside the known small
+/// ones. The definitions' names are read from the specs in `crates`.
+pub fn write(folder: &str, crates: &str, count: usize, from: u64) -> Result<String, String> {
+    let samples = samples(count, from)?;
+    let missing = missing(&samples);
+    if count >= COUNT && !missing.is_empty() {
+        return Err(format!("not in the sample: {}", missing.join(", ")));
+    }
+    let home = Path::new(folder).join("crates/judged");
+    for part in ["src", "specs"] {
+        // An earlier sample may have had more files.
+        let part = home.join(part);
+        if part.exists() {
+            fs::remove_dir_all(&part).map_err(|error| format!("{}: {error}", part.display()))?;
+        }
+        fs::create_dir_all(&part).map_err(|error| format!("{}: {error}", part.display()))?;
+    }
+    put(home.join("src/lib.rt"), "// Descriptions with the Rust's answers: no code, theorems in specs/.\n")?;
+    put(home.join("specs/Computed.antt"), &computed(Path::new(crates))?)?;
+    let mut modules = "pub mod Computed\n".to_owned();
+    let mut theorems = 0;
+    for (number, part) in samples.chunks(IN_A_FILE).enumerate() {
+        let mut file = File { out: HEAD.to_owned(), theorems: 0 };
+        for (place, sample) in part.iter().enumerate() {
+            file.sample(number * IN_A_FILE + place, sample);
+        }
+        theorems += file.theorems;
+        let _ = writeln!(modules, "pub mod J{number:03}");
+        put(home.join(format!("specs/J{number:03}.antt")), &file.out)?;
+    }
+    put(home.join("specs/Lib.antt"), &modules)?;
+    Ok(format!("{theorems} theorems on {} descriptions", samples.len()))
+}
+
+fn put(file: PathBuf, text: &str) -> Result<(), String> {
+    fs::write(&file, text).map_err(|error| format!("{}: {error}", file.display()))
+}
+
+/// The known small descriptions, then generated ones that differ: each shows something that few before it
+/// did.
+fn samples(count: usize, from: u64) -> Result<Vec<Sample>, String> {
+    let mut random = Random::new(from);
+    let mut seen: BTreeMap<String, usize> = BTreeMap::new();
+    let mut samples = Vec::new();
+    for top in small::descriptions()?.into_iter().chain(small::more_descriptions()?) {
+        let (sample, features) = noted("known".to_owned(), judged_case(Case::known(top), TRIED));
+        for feature in features {
+            *seen.entry(feature).or_default() += 1;
+        }
+        samples.push(sample);
+    }
+    let mut pool: Vec<(Sample, Vec<String>)> = (from..from + SEEDS)
+        .map(|seed| (seed, judged(seed, Size::Small, TRIED)))
+        .filter(|(_, judged)| is_small(&judged.case.records))
+        .map(|(seed, judged)| noted(format!("seed {seed}"), judged))
+        .collect();
+    // In each round a feature may have been shown once more; what was known before counts as one time.
+    seen.values_mut().for_each(|times| *times = 1);
+    let wanted = samples.len() + count;
+    for round in 1.. {
+        if samples.len() >= wanted || pool.is_empty() {
+            break;
+        }
+        for (sample, features) in std::mem::take(&mut pool) {
+            let is_new = |feature: &String| seen.get(feature).is_none_or(|times| *times < round);
+            if samples.len() < wanted && features.iter().any(is_new) {
+                for feature in features {
+                    *seen.entry(feature).or_default() += 1;
+                }
+                samples.push(sample);
+            } else {
+                pool.push((sample, features));
+            }
+        }
+    }
+    let mut rows = [0; 7];
+    for sample in &mut samples {
+        sample.damaged = damaged(&sample.judged.case.records, &mut rows, &mut random);
+    }
+    Ok(samples)
+}
+
+fn is_small(records: &Records) -> bool {
+    records.words.len() / RECORD - 1 <= MOST_RECORDS && records.text.len() <= MOST_TEXT
+}
+
+/// A description with what it shows.
+fn noted(about: String, judged: Judged) -> (Sample, Vec<String>) {
+    let by_01 = by_01::lower::lower(&judged.case.top);
+    let mut coverage = Coverage::empty();
+    coverage.note(&judged, &by_01);
+    let features = coverage.features().cloned().collect();
+    (Sample { about, judged, by_01, damaged: None }, features)
+}
+
+/// What is to come up and does not.
+fn missing(samples: &[Sample]) -> Vec<String> {
+    let mut coverage = Coverage::new();
+    for sample in samples {
+        coverage.note(&sample.judged, &sample.by_01);
+    }
+    let (_, missing) = coverage.report();
+    missing.into_iter().filter(|feature| !LIMITS.contains(feature)).map(str::to_owned).collect()
+}
+
+/// The description with one word another, or one too few, so that rows 1 to 6 refuse it; by the number that
+/// was least often given before.
+fn damaged(records: &Records, rows: &mut [usize; 7], random: &mut Random) -> Option<(Records, Refusal)> {
+    let mut found: Option<(Records, Refusal)> = None;
+    for _ in 0..60 {
+        let mut other = records.clone();
+        let at = random.below(other.words.len());
+        match random.below(8) {
+            0 => drop(other.words.pop()),
+            1 => other.words[at] = random.below(30) as u32,
+            2 => other.words[at] = 0,
+            3 => other.words[at] = u32::MAX,
+            _ => other.words[at] = other.words[at].wrapping_add(random.pick(&[1, 2, u32::MAX])),
+        }
+        let rarer = |number: u32| {
+            found.as_ref().is_none_or(|(_, (before, _))| rows[number as usize] < rows[*before as usize])
+        };
+        if let Some(refusal) = by_01::rows::refusal(&other)
+            && rarer(refusal.0)
+        {
+            found = Some((other, refusal));
+        }
+    }
+    if let Some((_, (number, _))) = &found {
+        rows[*number as usize] += 1;
+    }
+    found
+}
+
+/// The paths asked for, each with answers that none before it has.
+fn asked(queries: &[Query]) -> Vec<&Query> {
+    let mut kept: Vec<&Query> = Vec::new();
+    for query in queries {
+        let same = |other: &&Query| {
+            (&other.live, &other.history, other.contains) == (&query.live, &query.history, query.contains)
+        };
+        if kept.len() < ASKED && !kept.iter().any(same) {
+            kept.push(query);
+        }
+    }
+    kept
+}
+
+/// The file with one name for all that the theorems compute through: every definition of the crates that is
+/// computed only where it is named.
+fn computed(crates: &Path) -> Result<String, String> {
+    let mut names = Vec::new();
+    for used in USED {
+        let specs = crates.join(used).join("specs");
+        let fault = |error: std::io::Error| format!("{}: {error}", specs.display());
+        let mut files = Vec::new();
+        for entry in fs::read_dir(&specs).map_err(fault)? {
+            files.push(entry.map_err(fault)?.path());
+        }
+        files.sort();
+        for file in files.iter().filter(|file| file.extension().is_some_and(|ending| ending == "antt")) {
+            let module = file.file_stem().unwrap_or_default().to_string_lossy();
+            let text = fs::read_to_string(file).map_err(fault)?;
+            names.extend(unfoldable(&text).iter().map(|name| format!("Rattle.{used}.specs.{module}.{name}")));
+        }
+    }
+    Ok(format!("{COMPUTED}unfolding {}\ncomputed words text = meaning words text\n", names.join(" ")))
+}
+
+/// The names of a file's definitions that are computed only where they are named.
+fn unfoldable(text: &str) -> Vec<String> {
+    let mut names = Vec::new();
+    let mut in_mutual = false;
+    for line in text.lines() {
+        if !line.is_empty() && !line.starts_with(' ') {
+            in_mutual = line == "unfoldable mutual";
+        }
+        let name = if in_mutual { line.strip_prefix("  pub ") } else { line.strip_prefix("unfoldable pub ") };
+        names.extend(name.and_then(|rest| rest.split(' ').next()).map(str::to_owned));
+    }
+    names
+}
+
+const COMPUTED: &str =
+    "-- What the theorems share: short names, and one name for all that they compute through.
+use Prim.Native.Nat.{ℕ}
+use mathlib.Core.List.{List}
+use Rattle.log.specs.Meaning.{Span, DefValue, Def, Ext, Binding, Diag}
+use Rattle.lowering.specs.State.{State}
+use Rattle.lowering.specs.Lowered.{meaning}
+use Rattle.paths_numbers.specs.Reference.{Target}
+
+abbrev pub span : ℕ → ℕ → Span
+span a b = record { from = a; to = b }
+
+abbrev pub definition : List ℕ → DefValue → Span → Span → Def
+definition p v s n = record { path = p; value = v; span = s; nameSpan = n }
+
+abbrev pub extension : Target → List Def → Span → Span → Ext
+extension t b s n = record { target = t; body = b; span = s; nameSpan = n }
+
+abbrev pub binding : List ℕ → List ℕ → Span → Binding
+binding l p s = record { label = l; path = p; span = s }
+
+abbrev pub diagnostic : ℕ → List ℕ → Span → Span → Diag
+diagnostic c t s n = record { code = c; text = t; span = s; nameSpan = n }
+
+-- all that is computed through
+unfoldable pub computed : List ℕ → List ℕ → State
+";

@@ -1,0 +1,136 @@
+//! Descriptions: the Rust against 01's sentences, and what came up.
+
+use crate::{
+    answer::{Answer, Query, Text},
+    by_01::{self, paths},
+    coverage::Coverage,
+    crate_tree::crate_tree,
+    generate::{Case, Size, generate},
+    judge::judge,
+    notation,
+    records::{RECORD, read},
+    shrink::shrunk,
+    text_form::text_form,
+    tree::Rec,
+};
+
+/// A case with the Rust's answers.
+pub struct Judged {
+    pub case: Case,
+    pub answer: Answer,
+    pub queries: Vec<Query>,
+    /// How many diagnostics follow 01's rule in the Rust's stead.
+    pub by_rule: usize,
+}
+
+/// The size of a case by its number: mostly small, some middle, few at the limits.
+pub fn size_of_case(number: u64) -> Size {
+    match number % 200 {
+        ..180 => Size::Small,
+        180..199 => Size::Middle,
+        _ => Size::Limit,
+    }
+}
+
+pub fn judged(seed: u64, size: Size, most_queries: usize) -> Judged {
+    judged_case(generate(seed, size), most_queries)
+}
+
+pub fn judged_case(case: Case, most_queries: usize) -> Judged {
+    let (answer, queries) = judged_tree(&case.top, case.look, most_queries);
+    let by_rule = answer.lowering.iter().filter(|found| matches!(found.code, 9 | 24..=26)).count();
+    Judged { case, answer, queries, by_rule }
+}
+
+/// The Rust's answers to a description and to queries on it.
+pub fn judged_tree(top: &[Rec], look: u64, most_queries: usize) -> (Answer, Vec<Query>) {
+    judge(&crate_tree(top, look), |answer| query_paths(answer, most_queries))
+}
+
+/// Paths to ask for: "", "/", those of the log and of the bindings, those above and near them.
+fn query_paths(answer: &Answer, most: usize) -> Vec<Text> {
+    let mut asked: Vec<Text> = vec![Vec::new(), b"/".to_vec()];
+    let logs =
+        answer.definitions.iter().chain(answer.extensions.iter().flat_map(|extension| &extension.body));
+    let known =
+        logs.map(|definition| &definition.path).chain(answer.bindings.iter().map(|binding| &binding.path));
+    for path in known {
+        let above = path.iter().rposition(|byte| *byte == b'/').map_or(0, |slash| slash.max(1));
+        for path in
+            [path.clone(), path[..above].to_vec(), [path, &b"b"[..]].concat(), [path, &b"/a"[..]].concat()]
+        {
+            if asked.len() < most && paths::is_path(&path) && !asked.contains(&path) {
+                asked.push(path);
+            }
+        }
+    }
+    asked
+}
+
+/// What a comparison counted.
+#[derive(Default)]
+pub struct Counts {
+    pub compared: u64,
+    pub different: u64,
+    pub by_rule: u64,
+    pub records: u64,
+    pub queries: u64,
+}
+
+/// Compares the Rust with 01's sentences on `cases` descriptions.
+pub fn compare(first_seed: u64, cases: u64, coverage: &mut Coverage) -> Counts {
+    let mut counts = Counts::default();
+    for seed in first_seed..first_seed + cases {
+        let judged = judged(seed, size_of_case(seed), 40);
+        assert_eq!(read(&judged.case.records), judged.case.top, "seed {seed}: records and tree differ");
+        assert_eq!(by_01::rows::refusal(&judged.case.records), None, "seed {seed}: refused");
+        let by_01 = by_01::lower::lower(&read(&judged.case.records));
+        coverage.note(&judged, &by_01);
+        let queries = queries_by_01(&by_01.answer, &judged.queries);
+        counts.compared += 1;
+        counts.by_rule += judged.by_rule as u64;
+        counts.queries += 3 * queries.len() as u64;
+        counts.records += (judged.case.records.words.len() / RECORD) as u64;
+        if (&by_01.answer, &queries) != (&judged.answer, &judged.queries) {
+            counts.different += 1;
+            if counts.different <= 3 {
+                show_difference(seed, &judged.case.top, judged.case.look);
+            }
+        }
+    }
+    counts
+}
+
+fn queries_by_01(answer: &Answer, asked: &[Query]) -> Vec<Query> {
+    asked.iter().map(|query| by_01::queries::query(&answer.definitions, query.path.clone())).collect()
+}
+
+/// Shows the lines that differ, and a smaller description with a difference.
+fn show_difference(seed: u64, top: &[Rec], look: u64) {
+    println!("seed {seed}: 01's sentences and the Rust differ");
+    let differs = |top: &[Rec]| !difference(top, look).is_empty();
+    let smaller = shrunk(top.to_vec(), &differs);
+    println!("  {}", notation::written(&smaller));
+    for (by_01, rust) in difference(&smaller, look).iter().take(5) {
+        println!("  01:   {by_01}\n  Rust: {rust}");
+    }
+}
+
+/// The lines of the text form in which 01's sentences and the Rust differ.
+pub fn difference(top: &[Rec], look: u64) -> Vec<(String, String)> {
+    let (answer, queries) = judged_tree(top, look, 40);
+    let by_01 = by_01::lower::lower(top).answer;
+    let by_01 = text_form(&by_01, &queries_by_01(&by_01, &queries));
+    let rust = text_form(&answer, &queries);
+    let (mut by_01, mut rust) = (by_01.lines(), rust.lines());
+    let mut found = Vec::new();
+    loop {
+        match (by_01.next(), rust.next()) {
+            (None, None) => return found,
+            (one, other) if one != other => {
+                found.push((one.unwrap_or("(end)").to_owned(), other.unwrap_or("(end)").to_owned()));
+            }
+            _ => {}
+        }
+    }
+}
