@@ -1,23 +1,28 @@
--- Cleared buffers hold an empty log, where record 0 has room.
-use Prim.Native.Nat.{ℕ, _+_, _*_, _-_, _≤_, _<_}
+-- Where a log starts: cleared buffers hold an empty one, where record 0 has room; and where the post checks start.
+use Prim.Native.Nat.{ℕ, _+_, _-_, _≤_}
 use mathlib.Core.Path.{_≡_, refl, sym, ap, _∙_}
-use mathlib.Core.Bool.{Bool, true, false}
-use mathlib.Core.List.{List, [], _∷_, _++_, append-nil}
+use mathlib.Core.Bool.{Bool}
+use mathlib.Core.List.{List, [], map, append-nil}
 use native.Mathlib.Nat.{zero-add}
 use native.Mathlib.Omega.{arith}
 use borrow.Author.Tests.{eqb-true, eqb-false}
 use lib.Dec.{eqb}
-use lib.ListN.{length, take, drop, replicate, length-replicate, replicate-append-replicate}
+use lib.ListN.{length, replicate, length-replicate, replicate-append-replicate}
 use lib.Seq.{drop-length}
 use Rattle.paths_numbers.specs.Text.{written}
-use Rattle.paths_numbers.proofs.Texts.{by-test}
+use Rattle.paths_numbers.proofs.Texts.{by-test, not-both}
 use Rattle.log.specs.declared.ctx.Chain.{Chain}
 use Rattle.log.specs.declared.ctx.LowerCtx.{LowerCtx}
 use Rattle.log.specs.Record.{logCount}
-use Rattle.log.specs.Events.{Event, first, last, wordsFrom, texts, endOf, allWords, allBytes, ordered-none}
-use Rattle.log.specs.Buffers.{Layout, records-exceed}
-use Rattle.log.specs.Holding.{Hand, Runs, Ends, Holds, going, over}
+use Rattle.log.specs.Events.{postDiagnostics, first, last, wordsFrom, texts, endOf, members, allWords, allBytes, ordered-none, defsIn, diagOf}
+use Rattle.log.specs.Buffers.{Layout}
+use Rattle.log.specs.State.{State, start}
+use Rattle.log.specs.Holding.{Runs}
+use Rattle.log.specs.Made.{checked}
+use Rattle.log.specs.Represents.{before, extsLog, extsIn, each-none, no-places, bottom, records-over, Represents, going, over, atStart, inChecks, checking, StartsChecks}
 use Rattle.log.proofs.Layouts.{count-words}
+use Rattle.log.proofs.Entered.{no-runs, no-members, same-need}
+use Rattle.log.proofs.MakingMore.{making-none}
 
 -- a whole buffer set to zeros
 pub written-zeros : (d : List ℕ) → written d 0 (replicate (length d) 0) ≡ replicate (length d) 0
@@ -29,9 +34,9 @@ abbrev none : Chain
 none = record { first = 0; last = 0 }
 
 abbrev pub started : Bool → LowerCtx
-started short = record { records = 1; bytes = 0; defs = none; exts = none; binds = none; diags = none; short = short }
+started short = record { records = 1; bytes = 0; defs = none; exts = none; binds = none; diags = none; part = 0; cell = 0; short = short }
 
-module _ (w b : List ℕ) (n m k : ℕ) (we : w ≡ replicate n 0) (be : b ≡ replicate m 0) (ke : k ≡ logCount w) (g : Hand) where
+module _ (w b : List ℕ) (n m k : ℕ) (we : w ≡ replicate n 0) (be : b ≡ replicate m 0) (ke : k ≡ logCount w) where
   nothing : (c : ℕ) → Runs c none []
   unfolding first last
   nothing c = record { firstIs = refl; lastIs = refl }
@@ -54,10 +59,36 @@ module _ (w b : List ℕ) (n m k : ℕ) (we : w ≡ replicate n 0) (be : b ≡ r
         ordered = ordered-none;
       }
 
-  pub start-holds : Holds g (started (eqb k 0)) w b []
-  start-holds =
+  pub starts : Represents atStart (started (eqb k 0)) w b start
+  unfolding last members defsIn extsIn extsLog before
+  starts =
       by-test (eqb k 0)
-      (λ t. over t (records-exceed (let z = eqb-true k 0 t in omega arith)))
+      (λ t. over t (records-over (let z = eqb-true k 0 t in omega arith)))
       (λ t.
       let ne : k ≡ 0 → ⊥ = eqb-false k 0 t in
-      going t (empty (omega arith)) (record { defsRun = nothing _; extsRun = nothing _; bindsRun = nothing _; diagsRun = nothing _ }))
+      going [] t (empty (omega arith)) refl refl
+      (record { defsRun = nothing _; extsRun = nothing _; partIs = refl; cellIs = refl; defsSay = refl; extsSay = refl; others = each-none; passed = λ p. each-none })
+      (record { bindsRun = nothing _; diagsRun = nothing _; bindsSay = refl; diagsSay = refl; reportsSay = λ p. absurd (not-both p refl); reportsFirst = λ p. absurd (not-both p refl); noPost = λ p. each-none })
+      bottom no-places each-none making-none)
+
+-- the post checks start: no diagnostic of theirs is there
+pub starts-checks : {c d : LowerCtx} → d ≡ checked c → StartsChecks c d
+unfolding checked
+starts-checks {c} {d} q = record { checks = go; short = ap (λ (a : LowerCtx). a .short) q }
+  where
+    go : (words bytes : List ℕ) (s : State) → Represents atStart c words bytes s → Represents (inChecks c s) d words bytes (checking s)
+    go words bytes s (over h m) = over (ap (λ (a : LowerCtx). a .short) q ∙ h) (same-need refl refl m)
+    go words bytes s (going es h l cr cb o m st ps ss mk) =
+        let none = m .noPost refl in
+        rw q
+        (going es h l cr cb (record { defsRun = o .defsRun; extsRun = o .extsRun; partIs = o .partIs; cellIs = o .cellIs; defsSay = o .defsSay; extsSay = o .extsSay; others = o .others; passed = o .passed })
+        (record {
+          bindsRun = m .bindsRun;
+          diagsRun = no-runs postDiagnostics es none;
+          bindsSay = m .bindsSay;
+          diagsSay = ap (map diagOf) (no-members postDiagnostics es none);
+          reportsSay = λ p. m .diagsSay;
+          reportsFirst = λ p. sym (m .diagsRun .firstIs);
+          noPost = λ p. absurd (not-both refl p);
+        })
+        bottom no-places ss mk)

@@ -1,7 +1,7 @@
 -- The log in hand with one record more: the ends of its chains, where the link to the record stands, and what the state and the buffers then hold.
-use Prim.Native.Nat.{ℕ, zero, suc, _+_, _*_, _-_, _≤_, _<_}
+use Prim.Native.Nat.{ℕ, suc, _+_, _-_, _≤_, _<_}
 use mathlib.Core.Path.{_≡_, refl, sym, ap, _∙_}
-use mathlib.Core.Bool.{Bool, true, false, cond}
+use mathlib.Core.Bool.{Bool, true, false}
 use mathlib.Core.List.{List, [], _∷_, _++_}
 use native.Mathlib.Omega.{arith}
 use borrow.Author.Tests.{eq-eqb, ne-eqb, eqb-true, eqb-false}
@@ -11,16 +11,15 @@ use Rattle.paths_numbers.proofs.Texts.{by-test, not-both, both}
 use Rattle.log.specs.declared.ctx.Chain.{Chain}
 use Rattle.log.specs.declared.ctx.LowerCtx.{LowerCtx}
 use Rattle.log.specs.declared.ctx.Rec.{Rec}
-use Rattle.log.specs.Record.{logCount}
-use Rattle.log.specs.Events.{Event, defsOf, extsOf, bindings, diagnostics, postDiagnostics, childrenOf, inChain, first, last, endOf, Ordered, ordered-none, ordered-next}
+use Rattle.log.specs.Events.{Event, defsOf, extsOf, bindings, childrenOf, inChain, first, last, Ordered, ordered-next}
 use Rattle.log.specs.Buffers.{eventOf, Layout, Exceeds, records-exceed, bytes-exceed, most-exceed}
 use Rattle.log.specs.Made.{ranShort, oneMore, makes, counted, madeWords, madeBytes, Told, endLink, childLink, grown, withDef, withExt, withBind, withDiag}
-use Rattle.log.specs.Holding.{Hand, diagsOf, Runs, Ends, Holds, going, over, there, Adds, AddsBelow}
-use Rattle.log.proofs.Append.{first-there, first-new, first-other, last-first, first-last, last-new, last-other, chain-other, new-in, Safe, safe-none, safe-next, above-safe, Owner, owner-here, owner-later}
+use Rattle.log.specs.Holding.{Hand, diagsOf, Runs, Ends, Holds, going, over, there, AddsBelow}
+use Rattle.log.proofs.Append.{first-there, first-new, first-other, last-new, last-other, chain-other, new-in, Safe, safe-none, safe-next, above-safe, Owner, owner-here, owner-later}
 use Rattle.log.proofs.Make.{Spot, spot-none, spot-last, spot-child}
 use Rattle.log.proofs.Layouts.{end-more}
 use Rattle.log.proofs.MakeLayout.{Making, made, ran-short, making}
-use Rattle.log.proofs.Told.{makes-short, cond-true, cond-false}
+use Rattle.log.proofs.Told.{makes-short, cond-false}
 
 -- what does not fit does not fit with one record more
 pub exceeds-more : {words bytes : List ℕ} {es : List Event} (e : Event) → Exceeds words bytes es → Exceeds words bytes (es ++ e ∷ [])
@@ -91,15 +90,7 @@ there-to o k (x ∷ es) t =
     (λ q. omega (arith, eqb-true o k q))
     (λ q. omega (arith, there-to o (k + 1) es (rw q at t)))
 
--- and stays; the new one is there
-pub there-more : (o k : ℕ) (es : List Event) (e : Event) → there o k es ≡ true → there o k (es ++ e ∷ []) ≡ true
-unfolding there
-there-more o k [] e t = absurd (not-both t refl)
-there-more o k (x ∷ es) e t =
-    by-test (eqb o k)
-    (λ q. rw q (rw q at t))
-    (λ q. rw q (there-more o (k + 1) es e (rw q at t)))
-
+-- the new one is there
 pub there-new : (k : ℕ) (es : List Event) (e : Event) → e .alive ≡ true → there (k + length es) k (es ++ e ∷ []) ≡ true
 unfolding there
 there-new k [] e t = let z : k + 0 ≡ k = omega arith in rw (z, eq-eqb k k refl) t
@@ -183,7 +174,7 @@ module _ {c d : LowerCtx} {words bytes w b : List ℕ} {r : Rec} {x y : List ℕ
       go (ran-short q ew eb ex) = over (fs ∙ is-short c d q) (rw (ew, eb) ex)
 
 -- the chain of the diagnostics is another than those of other numbers
-diags-other : (post : Bool) (n : ℕ) → (3 ≡ n → ⊥) → (4 ≡ n → ⊥) → diagsOf post ≡ n → ⊥
+pub diags-other : (post : Bool) (n : ℕ) → (3 ≡ n → ⊥) → (4 ≡ n → ⊥) → diagsOf post ≡ n → ⊥
 diags-other true n a b e = b e
 diags-other false n a b e = a e
 
@@ -211,19 +202,19 @@ module _ {c d f : LowerCtx} {words bytes w b : List ℕ} {r : Rec} {x y : List �
       })))
 
   pub added-ext : (log : ℕ) → Told c d words bytes w b r x y (endLink (c .exts)) → f ≡ withExt d (c .records) → (g : Hand) (es : List Event) → Holds g c words bytes es
-      → Holds g f w b (es ++ eventOf (extsOf (g .log)) log r x y ∷ [])
+      → Holds g f w b (es ++ eventOf (extsOf (g .exts)) log r x y ∷ [])
   unfolding withExt oneMore
   added-ext log t q g es h =
-      let e = eventOf (extsOf (g .log)) log r x y in
+      let e = eventOf (extsOf (g .exts)) log r x y in
       rw q
-      (added t (withExt d (c .records)) (extsOf (g .log)) log g es h (λ s l en. spot-top (λ o z. omega arith) (en .extsRun)) (λ s o z. absurd (omega arith)) refl refl refl
+      (added t (withExt d (c .records)) (extsOf (g .exts)) log g es h (λ s l en. spot-top (λ o z. omega arith) (en .extsRun)) (λ s o z. absurd (omega arith)) refl refl refl
       (λ m s n en.
       rw m
       (record {
         defsRun = runs-same e (en .defsRun) (λ z. omega arith);
         extsRun = runs-going (c .exts) (c .records) (c .short) s (runs-more e (c .records) (en .extsRun) n refl refl);
         bindsRun = runs-same e (en .bindsRun) (λ z. omega arith);
-        diagsRun = runs-same e (en .diagsRun) (λ z. diags-other (g .post) (extsOf (g .log)) (λ i. omega arith) (λ i. omega arith) (sym z));
+        diagsRun = runs-same e (en .diagsRun) (λ z. diags-other (g .post) (extsOf (g .exts)) (λ i. omega arith) (λ i. omega arith) (sym z));
       })))
 
   pub added-bind : Told c d words bytes w b r x y (endLink (c .binds)) → f ≡ withBind d (c .records) → (g : Hand) (es : List Event) → Holds g c words bytes es
@@ -253,7 +244,7 @@ module _ {c d f : LowerCtx} {words bytes w b : List ℕ} {r : Rec} {x y : List �
       rw m
       (record {
         defsRun = runs-same e (en .defsRun) (diags-other (g .post) (defsOf (g .log)) (λ i. omega arith) (λ i. omega arith));
-        extsRun = runs-same e (en .extsRun) (diags-other (g .post) (extsOf (g .log)) (λ i. omega arith) (λ i. omega arith));
+        extsRun = runs-same e (en .extsRun) (diags-other (g .post) (extsOf (g .exts)) (λ i. omega arith) (λ i. omega arith));
         bindsRun = runs-same e (en .bindsRun) (diags-other (g .post) (bindings) (λ i. omega arith) (λ i. omega arith));
         diagsRun = runs-going (c .diags) (c .records) (c .short) s (runs-more e (c .records) (en .diagsRun) n refl refl);
       })))
@@ -280,29 +271,3 @@ added-child {c} {d} {r = r} {x} {y} owner lastChild t =
           }));
       stays = λ s. told-over t s .0;
     }
-
--- what the operations ensure
-module _ {c d f : LowerCtx} {words bytes w b : List ℕ} {r : Rec} {x y : List ℕ} {link : ℕ} (told : Told c d words bytes w b r x y link) where
-  pub adds-def : link ≡ endLink (c .defs) → f ≡ withDef d (c .records) → Adds c f words bytes w b (λ (g : Hand). eventOf (defsOf (g .log)) 0 r x y)
-  unfolding withDef
-  adds-def l q =
-      record { holds = λ g es h. added-def (rw l at told) q g es h; stays = λ s. ap (λ (a : LowerCtx). a .short) q ∙ told-over told s .0 }
-
-  pub adds-ext : (log : ℕ) → link ≡ endLink (c .exts) → f ≡ withExt d (c .records) → Adds c f words bytes w b (λ (g : Hand). eventOf (extsOf (g .log)) log r x y)
-  unfolding withExt
-  adds-ext log l q =
-      record { holds = λ g es h. added-ext log (rw l at told) q g es h; stays = λ s. ap (λ (a : LowerCtx). a .short) q ∙ told-over told s .0 }
-
-  pub adds-bind : link ≡ endLink (c .binds) → f ≡ withBind d (c .records) → Adds c f words bytes w b (λ (g : Hand). eventOf (bindings) 0 r x y)
-  unfolding withBind
-  adds-bind l q =
-      record { holds = λ g es h. added-bind (rw l at told) q g es h; stays = λ s. ap (λ (a : LowerCtx). a .short) q ∙ told-over told s .0 }
-
-  pub adds-diag : link ≡ endLink (c .diags) → f ≡ withDiag d (c .records) → Adds c f words bytes w b (λ (g : Hand). eventOf (diagsOf (g .post)) 0 r x y)
-  unfolding withDiag
-  adds-diag l q =
-      record { holds = λ g es h. added-diag (rw l at told) q g es h; stays = λ s. ap (λ (a : LowerCtx). a .short) q ∙ told-over told s .0 }
-
-pub adds-child : {c d : LowerCtx} {words bytes w b : List ℕ} {r : Rec} {x y : List ℕ} {link : ℕ} (owner lastChild : ℕ) → Told c d words bytes w b r x y link → link ≡ childLink owner lastChild
-    → AddsBelow c d words bytes w b owner lastChild (eventOf (childrenOf owner) 0 r x y)
-adds-child owner lastChild told l = added-child owner lastChild (rw l at told)

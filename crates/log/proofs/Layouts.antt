@@ -55,7 +55,7 @@ unfolding sixteen words16 first
 sixteen-is c log number at r x y = rw (start-same at x, start-same (at + length x) y) refl
 
 -- the length after a link is set
-length-link : (at n : ℕ) (w : List ℕ) → length (setLink at n w) ≡ length w
+pub length-link : (at n : ℕ) (w : List ℕ) → length (setLink at n w) ≡ length w
 unfolding setLink
 length-link at n w = by-test (eqb at 0) (λ t. rw t refl) (λ t. rw t (length-set w at n))
 

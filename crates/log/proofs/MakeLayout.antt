@@ -1,7 +1,7 @@
 -- Making a record keeps the layout, or the buffers are short because one record more does not fit.
-use Prim.Native.Nat.{ℕ, suc, _+_, _*_, _-_, _≤_, _<_}
-use mathlib.Core.Path.{_≡_, refl, sym, ap, _∙_}
-use mathlib.Core.Bool.{Bool, true, false, cond}
+use Prim.Native.Nat.{ℕ, _+_, _*_, _-_, _<_}
+use mathlib.Core.Path.{_≡_, refl, sym, _∙_}
+use mathlib.Core.Bool.{false}
 use mathlib.Core.List.{List, [], _∷_, _++_}
 use native.Mathlib.Omega.{arith}
 use borrow.Author.Tests.{lt-ltb, ltb-false, leb-false}
@@ -9,7 +9,7 @@ use lib.Dec.{ltb, leb}
 use lib.ListN.{length, length-append}
 use Rattle.paths_numbers.proofs.Texts.{by-test}
 use Rattle.log.specs.Record.{logCount}
-use Rattle.log.specs.Events.{Event, childrenOf, endOf}
+use Rattle.log.specs.Events.{Event, childrenOf}
 use Rattle.log.specs.declared.ctx.LowerCtx.{LowerCtx}
 use Rattle.log.specs.declared.ctx.Rec.{Rec}
 use Rattle.log.specs.Buffers.{eventOf, mostBytes, Layout, Exceeds, records-exceed, bytes-exceed, most-exceed}

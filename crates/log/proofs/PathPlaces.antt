@@ -1,16 +1,16 @@
 -- Paths that stand in the bytes: their lengths, and that what is written behind them leaves them.
 use Prim.Native.Nat.{ℕ, _+_, _-_, _≤_, _<_}
 use mathlib.Core.Path.{_≡_, refl, sym, ap, _∙_}
-use mathlib.Core.Bool.{Bool, true, false, cond}
+use mathlib.Core.Bool.{true, false}
 use mathlib.Core.List.{List, [], _∷_, _++_, append-assoc}
 use native.Mathlib.Omega.{arith}
 use borrow.Author.Tests.{le-leb, lt-leb, leb-true, leb-false}
 use lib.Dec.{leb}
 use lib.ListN.{length, getD, take, drop, set, List·getD-append}
-use lib.Seq.{ext-getD, getD-take, length-take-le, take-append-le, take-take}
+use lib.Seq.{ext-getD, getD-take, length-take-le}
 use Rattle.paths_numbers.specs.Path.{root, joined, builtOut}
 use Rattle.paths_numbers.specs.Text.{written}
-use Rattle.paths_numbers.proofs.Texts.{by-test, both}
+use Rattle.paths_numbers.proofs.Texts.{by-test}
 use Rattle.paths_numbers.proofs.Written.{written-nil, written-cons, written-length}
 use Rattle.log.specs.PathPlaces.{pathOf, placeLen, stands, settled}
 use Rattle.log.specs.declared.place.PathAt.{PathAt}
@@ -76,7 +76,7 @@ pub joined-byte : (o d : List ℕ) (from size : ℕ) (name unit : List ℕ) (i b
 joined-byte o d from size name unit i b e f = e ∙ ap (λ (s : List ℕ). getD (joined s name unit) i 0) (text-within o from size ∙ f)
 
 -- what is written behind them leaves them
-written-below : (d : List ℕ) (at : ℕ) (x : List ℕ) (k : ℕ) → k < at → at ≤ length d → getD (written d at x) k 0 ≡ getD d k 0
+pub written-below : (d : List ℕ) (at : ℕ) (x : List ℕ) (k : ℕ) → k < at → at ≤ length d → getD (written d at x) k 0 ≡ getD d k 0
 unfolding written
 written-below d at x k h l =
     rw (append-assoc (take at d) x) (List·getD-append (take at d) (x ++ drop (at + length x) d) 0 k (omega (arith, length-take-le at d l)) ∙ getD-take at d k 0 h)

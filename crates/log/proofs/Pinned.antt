@@ -37,7 +37,7 @@ pub data Every (P : ℕ → Type 0) : List ℕ → Type 0 where
   done : Every P []
   also : {a : ℕ} {l : List ℕ} → P a → Every P l → Every P (a ∷ l)
 
-by-kind : (P : ℕ → Type 0) {l : List ℕ} → Every P l → (k : ℕ) → oneOf k l ≡ true → P k
+pub by-kind : (P : ℕ → Type 0) {l : List ℕ} → Every P l → (k : ℕ) → oneOf k l ≡ true → P k
 by-kind P done k e = absurd (no-kind k e)
 by-kind P (also {a} {l} p q) k e = go (one-kind k a l e) (λ h. by-kind P q k h)
   where

@@ -140,7 +140,7 @@ times-outs words r t =
     ∙ rw (times-append t (toOf words (nextOf words r)) (cond (hasChildren (kindOf words r)) (toOf words (childOf words r)) [])) refl
 
 -- what is once among the links of a record that is reached is reached
-out-reached : (words : List ℕ) (r t : ℕ) → Reached words r → 1 ≤ times t (outs words r) → Reached words t
+pub out-reached : (words : List ℕ) (r t : ℕ) → Reached words r → 1 ≤ times t (outs words r) → Reached words t
 out-reached words r t h k = omega (arith, outs-followed words r t h)
 
 module _ (words bytes : List ℕ) (ok : lowestFault words bytes ≡ sound) (r : ℕ) (h : Reached words r) where

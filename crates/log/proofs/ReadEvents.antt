@@ -58,11 +58,11 @@ numbersOf [] = []
 numbersOf (x ∷ xs) = x .number ∷ numbersOf xs
 
 -- a link to a record that is there leads there
-leads-there : (words : List ℕ) (r : ℕ) → 0 < r → r < logCount words → leads words r ≡ true
+pub leads-there : (words : List ℕ) (r : ℕ) → 0 < r → r < logCount words → leads words r ≡ true
 leads-there words r p h = rw (ne-eqb r 0 (omega arith), lt-ltb r (logCount words) h) refl
 
 -- a chain that ends
-chain-end : (f : ℕ) (words : List ℕ) → chainFrom f words 0 ≡ []
+pub chain-end : (f : ℕ) (words : List ℕ) → chainFrom f words 0 ≡ []
 unfolding chainFrom
 chain-end zero words = refl
 chain-end (suc f) words = refl
@@ -98,7 +98,7 @@ splits-at splits-here = omega arith
 splits-at (splits-later s) = omega (arith, splits-at s)
 
 -- what stands from where they start on
-bytes-at : {k at r b : ℕ} {xs es : List Event} {e : Event} → Splits k at xs r b e es → (z : List ℕ) → drop (b - at) (texts xs ++ z) ≡ piece e ++ (texts es ++ z)
+pub bytes-at : {k at r b : ℕ} {xs es : List Event} {e : Event} → Splits k at xs r b e es → (z : List ℕ) → drop (b - at) (texts xs ++ z) ≡ piece e ++ (texts es ++ z)
 unfolding texts piece
 bytes-at {at = at} {es = es} {e} splits-here z =
     let n : at - at ≡ 0 = omega arith in

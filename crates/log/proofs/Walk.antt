@@ -10,7 +10,7 @@ use lib.ListN.{length, length-append}
 use Rattle.paths_numbers.proofs.Texts.{by-test, not-both}
 use Rattle.log.specs.Record.{kindOf, nextOf, childOf, mOf, firstDef, firstExt, firstBind, firstDiag, firstPost, extensionKind, hasChildren, logCount, leads}
 use Rattle.log.specs.Sound.{Place, definitions, extensions, bindings, diagnostics, below, Link, linkTo, headLinks, linksOf, targets, times, walk, mostLinks, followed, timesReached}
-use Rattle.log.proofs.Counts.{times-append, times-other, unmet, unmet-le, unmet-more, unmet-new}
+use Rattle.log.proofs.Counts.{times-append, times-other, times-more, unmet, unmet-le, unmet-more, unmet-new}
 
 pub targets-append : (x y : List Link) → targets (x ++ y) ≡ targets x ++ targets y
 unfolding targets
@@ -147,7 +147,7 @@ leads-below words r e =
     (λ t. let n = eqb-false r 0 t in (omega arith, ltb-true r (logCount words) (rw t at e)))
 
 -- how many links lead to t from the records that are met for the first time
-unfoldable fromNew : List ℕ → List ℕ → List Link → ℕ → ℕ
+unfoldable pub fromNew : List ℕ → List ℕ → List Link → ℕ → ℕ
 fromNew words met [] t = 0
 fromNew words met (l ∷ ls) t = cond (eqb (times (l .to) met) 0) (times t (outs words (l .to))) 0 + fromNew words (l .to ∷ met) ls t
 
@@ -230,9 +230,45 @@ new-two words met (l ∷ ls) a b t d h k n m =
     let r = new-two words (l .to ∷ met) ls a b t d (omega (arith, rw e at h)) (omega (arith, rw f at k)) o (times-other (l .to) b met p ∙ m) in
     omega (arith, r)))
 
+-- no record that is not met yet leads to t
+pub new-none : (words met : List ℕ) (ls : List Link) (t : ℕ) → ((a : ℕ) → 1 ≤ timesReached ls a → times a met ≡ 0 → times t (outs words a) ≡ 0)
+    → fromNew words met ls t ≡ 0
+unfolding fromNew targets times
+new-none words met [] t f = refl
+new-none words met (l ∷ ls) t f =
+    let ih = new-none words (l .to ∷ met) ls t (λ a h n. f a (omega arith) (omega (arith, times-more (l .to) a met))) in
+    by-test (eqb (times (l .to) met) 0)
+    (λ e. let z = f (l .to) (rw (eq-eqb (l .to) (l .to) refl) (omega arith)) (eqb-true _ _ e) in rw e (omega (arith, ih, z)))
+    (λ e. rw e (omega (arith, ih)))
+
+-- one record alone leads to t, by one link
+pub new-most : (words met : List ℕ) (ls : List Link) (t : ℕ)
+    → ((a b : ℕ) → 1 ≤ timesReached ls a → 1 ≤ timesReached ls b → 1 ≤ times t (outs words a) → 1 ≤ times t (outs words b) → a ≡ b)
+    → ((a : ℕ) → 1 ≤ timesReached ls a → times t (outs words a) ≤ 1)
+    → fromNew words met ls t ≤ 1
+unfolding fromNew targets times
+new-most words met [] t f g = omega arith
+new-most words met (l ∷ ls) t f g =
+    let own : 1 ≤ timesReached (l ∷ ls) (l .to) = rw (eq-eqb (l .to) (l .to) refl) (omega arith) in
+    let ih = new-most words (l .to ∷ met) ls t (λ a b h k. f a b (omega arith) (omega arith)) (λ a h. g a (omega arith)) in
+    by-test (eqb (times t (outs words (l .to))) 0)
+    (λ z. let unled = eqb-true (times t (outs words (l .to))) 0 z in by-test (eqb (times (l .to) met) 0) (λ e. rw e (omega (arith, ih))) (λ e. rw e (omega (arith, ih))))
+    (λ z.
+    let some : 1 ≤ times t (outs words (l .to)) = omega (arith, eqb-false (times t (outs words (l .to))) 0 z) in
+    let rest : fromNew words (l .to ∷ met) ls t ≡ 0 =
+    new-none words (l .to ∷ met) ls t
+    (λ a h n.
+    by-test (eqb (times t (outs words a)) 0)
+    (λ e. eqb-true _ _ e)
+    (λ e.
+    let q : a ≡ l .to = f a (l .to) (omega arith) own (omega (arith, eqb-false (times t (outs words a)) 0 e)) some in
+    absurd (omega (arith, rw (eq-eqb (l .to) a (sym q)) at n))))
+    in
+    by-test (eqb (times (l .to) met) 0) (λ e. rw e (omega (arith, rest, g (l .to) own))) (λ e. rw e (omega (arith, rest))))
+
 module _ (words : List ℕ) where
   -- the links followed to t: record 0's, and those of the records reached
-  count-followed : (t : ℕ) → timesReached (followed words) t ≡ timesReached (headLinks words) t + fromNew words [] (followed words) t
+  pub count-followed : (t : ℕ) → timesReached (followed words) t ≡ timesReached (headLinks words) t + fromNew words [] (followed words) t
   unfolding followed
   count-followed t =
       count-walk (mostLinks words) words [] (inside-heads words) (omega (arith, length-heads words, unmet-le (logCount words) [])) t

@@ -1,19 +1,19 @@
 -- The log in hand: how its state and its buffers stand to the records made, and what each operation adds to them. Not what a reader must
 -- believe: what is read back follows from it (proofs/ReadLog).
-use Prim.Native.Nat.{ℕ, _+_, _*_}
+use Prim.Native.Nat.{ℕ, _+_}
 use mathlib.Core.Path.{_≡_}
 use mathlib.Core.Bool.{Bool, true, false, cond}
 use mathlib.Core.List.{List, [], _∷_, _++_}
 use lib.Dec.{eqb}
 use Rattle.log.specs.declared.ctx.Chain.{Chain}
 use Rattle.log.specs.declared.ctx.LowerCtx.{LowerCtx}
-use Rattle.log.specs.declared.ctx.Rec.{Rec}
 use Rattle.log.specs.Events.{Event, defsOf, extsOf, bindings, diagnostics, postDiagnostics, childrenOf, first, last}
-use Rattle.log.specs.Buffers.{eventOf, Layout, Exceeds}
+use Rattle.log.specs.Buffers.{Layout, Exceeds}
 
--- which log is in hand, and whether the post checks run
+-- which log is in hand, which log's chain its extensions are in, and whether the post checks run
 pub record Hand : Type 0 where
   pub log : ℕ
+  pub exts : ℕ
   pub post : Bool
 
 -- the chain of the diagnostics
@@ -28,7 +28,7 @@ pub record Runs (chain : ℕ) (x : Chain) (es : List Event) : Type 0 where
 -- of the four chains in hand
 pub record Ends (g : Hand) (c : LowerCtx) (es : List Event) : Type 0 where
   pub defsRun : Runs (defsOf (g .log)) (c .defs) es
-  pub extsRun : Runs (extsOf (g .log)) (c .exts) es
+  pub extsRun : Runs (extsOf (g .exts)) (c .exts) es
   pub bindsRun : Runs bindings (c .binds) es
   pub diagsRun : Runs (diagsOf (g .post)) (c .diags) es
 
@@ -42,28 +42,7 @@ unfoldable pub there : ℕ → ℕ → List Event → Bool
 there r k [] = false
 there r k (e ∷ es) = cond (eqb r k) (e .alive) (there r (k + 1) es)
 
--- the records that the operations add
-abbrev pub definition : Hand → Rec → List ℕ → Event
-definition g r path = eventOf (defsOf (g .log)) 0 r path []
-
-abbrev pub extension : Hand → ℕ → Rec → Event
-extension g body r = eventOf (extsOf (g .log)) body r [] []
-
-abbrev pub binding : Rec → List ℕ → List ℕ → Event
-binding r label path = eventOf bindings 0 r label path
-
-abbrev pub diagnostic : Hand → Rec → List ℕ → Event
-diagnostic g r text = eventOf (diagsOf (g .post)) 0 r text []
-
-abbrev pub child : ℕ → Rec → List ℕ → List ℕ → Event
-child owner r text second = eventOf (childrenOf owner) 0 r text second
-
--- an operation from c to d that adds one record; a state that ran short stays so
-pub record Adds (c d : LowerCtx) (words bytes w b : List ℕ) (e : Hand → Event) : Type 0 where
-  pub holds : (g : Hand) (es : List Event) → Holds g c words bytes es → Holds g d w b (es ++ e g ∷ [])
-  pub stays : c .short ≡ true → d .short ≡ true
-
--- one that adds a child to a record that is there, whose last child is given, 0 where it has none
+-- an operation from c to d that adds a child to a record that is there, whose last child is given, 0 where it has none
 pub record AddsBelow (c d : LowerCtx) (words bytes w b : List ℕ) (owner lastChild : ℕ) (e : Event) : Type 0 where
   pub holds : (g : Hand) (es : List Event) → Holds g c words bytes es → (c .short ≡ false → there owner 1 es ≡ true)
       → (c .short ≡ false → lastChild ≡ last (childrenOf owner) 1 es) → Holds g d w b (es ++ e ∷ [])

@@ -59,7 +59,7 @@ pub record Room (c : LowerCtx) (words bytes : List ℕ) (size link : ℕ) : Type
 -- the state with the buffers short
 unfoldable pub ranShort : LowerCtx → LowerCtx
 ranShort c =
-    record { records = c .records; bytes = c .bytes; defs = c .defs; exts = c .exts; binds = c .binds; diags = c .diags; short = true }
+    record { records = c .records; bytes = c .bytes; defs = c .defs; exts = c .exts; binds = c .binds; diags = c .diags; part = c .part; cell = c .cell; short = true }
 
 -- one record and so many bytes more
 unfoldable pub oneMore : LowerCtx → ℕ → LowerCtx
@@ -71,6 +71,8 @@ oneMore c size =
       exts = c .exts;
       binds = c .binds;
       diags = c .diags;
+      part = c .part;
+      cell = c .cell;
       short = c .short;
     }
 
@@ -87,21 +89,56 @@ unfoldable pub grown : Bool → Chain → ℕ → Chain
 grown short x n = cond short x (record { first = cond (eqb (x .first) 0) n (x .first); last = n })
 
 -- the state with a record more in one of its chains
-abbrev withChains : LowerCtx → Chain → Chain → Chain → Chain → LowerCtx
-withChains c defs exts binds diags =
-    record { records = c .records; bytes = c .bytes; defs = defs; exts = exts; binds = binds; diags = diags; short = c .short }
+abbrev withChains : LowerCtx → Chain → Chain → Chain → Chain → ℕ → ℕ → LowerCtx
+withChains c defs exts binds diags part cell =
+    record {
+      records = c .records;
+      bytes = c .bytes;
+      defs = defs;
+      exts = exts;
+      binds = binds;
+      diags = diags;
+      part = part;
+      cell = cell;
+      short = c .short;
+    }
 
 unfoldable pub withDef : LowerCtx → ℕ → LowerCtx
-withDef c n = withChains c (grown (c .short) (c .defs) n) (c .exts) (c .binds) (c .diags)
+withDef c n = withChains c (grown (c .short) (c .defs) n) (c .exts) (c .binds) (c .diags) 0 0
 
 unfoldable pub withExt : LowerCtx → ℕ → LowerCtx
-withExt c n = withChains c (c .defs) (grown (c .short) (c .exts) n) (c .binds) (c .diags)
+withExt c n = withChains c (c .defs) (grown (c .short) (c .exts) n) (c .binds) (c .diags) (c .part) (c .cell)
 
 unfoldable pub withBind : LowerCtx → ℕ → LowerCtx
-withBind c n = withChains c (c .defs) (c .exts) (grown (c .short) (c .binds) n) (c .diags)
+withBind c n = withChains c (c .defs) (c .exts) (grown (c .short) (c .binds) n) (c .diags) (c .part) (c .cell)
 
 unfoldable pub withDiag : LowerCtx → ℕ → LowerCtx
-withDiag c n = withChains c (c .defs) (c .exts) (c .binds) (grown (c .short) (c .diags) n)
+withDiag c n = withChains c (c .defs) (c .exts) (c .binds) (grown (c .short) (c .diags) n) (c .part) (c .cell)
+
+-- with a part more of its newest definition, or a cell more of that part
+unfoldable pub withPart : LowerCtx → ℕ → LowerCtx
+withPart c n = withChains c (c .defs) (c .exts) (c .binds) (c .diags) n 0
+
+unfoldable pub withLastCell : LowerCtx → ℕ → LowerCtx
+withLastCell c n = withChains c (c .defs) (c .exts) (c .binds) (c .diags) (c .part) n
+
+-- the state for a body with a log of its own; a body that is kept adds its extensions to the same chain
+abbrev pub noChain : Chain
+noChain = record { first = 0; last = 0 }
+
+unfoldable pub entered : LowerCtx → Bool → LowerCtx
+entered c keeps = withChains c noChain (cond keeps (c .exts) noChain) (c .binds) (c .diags) 0 0
+
+-- after the body: the log around it is in hand again
+unfoldable pub leftDropped : LowerCtx → LowerCtx → LowerCtx
+leftDropped c outer = withChains c (outer .defs) (outer .exts) (c .binds) (c .diags) (outer .part) (outer .cell)
+
+unfoldable pub leftKept : LowerCtx → LowerCtx → LowerCtx
+leftKept c outer = withChains c (outer .defs) (c .exts) (c .binds) (c .diags) (outer .part) (outer .cell)
+
+-- where the post checks start: no diagnostic is theirs yet
+unfoldable pub checked : LowerCtx → LowerCtx
+checked c = withChains c (c .defs) (c .exts) (c .binds) noChain (c .part) (c .cell)
 
 -- whether a record is made: the state is not short, its link is among the words, and it has room
 unfoldable pub makes : LowerCtx → List ℕ → List ℕ → ℕ → ℕ → Bool

@@ -1,18 +1,24 @@
-// What lowering adds to the log in hand: definitions, their labels and values, extensions, bindings
-// and diagnostics. A record's number is the count of records before it is made.
+// What lowering adds to the log in hand: definitions, bindings and diagnostics. A record's number is
+// the count of records before it is made.
 ghost use mathlib.Core.Path.{_≡_};
-ghost use Prim.Native.Nat.{ℕ};
-ghost use mathlib.Core.Bool.{false};
-ghost use mathlib.Core.List.{[]};
+ghost use mathlib.Core.List.{[], _∷_};
 ghost use Rattle.paths_numbers.specs.Path.{joined};
-ghost use Rattle.paths_numbers.specs.Bytestring.{bytesOf, isOdd};
 ghost use Rattle.log.specs.PathPlaces.{pathIn};
+ghost use Rattle.log.specs.State.{define, bind, emit};
 ghost use Rattle.log.specs.Made.{endLink, childLink, grown, withDef, withExt, withBind, withDiag};
-ghost use Rattle.log.specs.Holding.{Hand, definition, extension, binding, diagnostic, child, Adds, AddsBelow};
+ghost use Rattle.log.specs.Recs.{bareDef, bindingMade, diagMade};
+ghost use Rattle.log.specs.Represents.{Steps};
+ghost use Rattle.log.specs.Kept.{Keeps};
 use crate::ctx::Chain;
 use crate::ctx::LowerCtx;
-use crate::ctx::Rec;
+use crate::kinds::BINDING;
+use crate::kinds::DIAGNOSTIC;
 use crate::place::PathAt;
+use crate::recs::DefKind;
+use crate::recs::Span;
+use crate::recs::kind_number;
+use crate::recs::omit_number;
+use crate::recs::spanned_rec;
 
 impl LowerCtx {
     // A definition at the path of this name and unit address under a path.
@@ -20,35 +26,55 @@ impl LowerCtx {
         self,
         words: &mut [u32],
         bytes: &mut [u8],
-        rec: Rec,
+        kind: DefKind,
+        span: Span,
+        name_span: Span,
         path: PathAt,
         name: &[u8],
         unit: &[u8],
     ) -> LowerCtx
-        ensures { λ r. ⌜ Adds self r (now (words .entry)) (now (bytes .entry)) (now (words .exit)) (now (bytes .exit)) (λ (g : Hand). definition g rec (joined (pathIn (self .bytes) (now (bytes .entry)) path) (now (name .entry)) (now (unit .entry)))) ⌝ }
+        ensures { λ r. ⌜ Steps self r (now (words .entry)) (now (bytes .entry)) (now (words .exit)) (now (bytes .exit)) (define (bareDef kind span «name_span» (joined (pathIn (self .bytes) (now (bytes .entry)) path) (now (name .entry)) (now (unit .entry))))) ⌝ }
     {
         let link = end_link(self.defs);
+        let rec = spanned_rec(kind_number(kind), omit_number(kind), 0, span, name_span);
         let made = self.make_joined(words, bytes, rec, path, name, unit, link);
         made.with_def(self.records)
     }
 
     // A definition at a path: a directive, or a node that is opened again.
-    pub fn define_at(self, words: &mut [u32], bytes: &mut [u8], rec: Rec, path: PathAt) -> LowerCtx
-        ensures { λ r. ⌜ Adds self r (now (words .entry)) (now (bytes .entry)) (now (words .exit)) (now (bytes .exit)) (λ (g : Hand). definition g rec (pathIn (self .bytes) (now (bytes .entry)) path)) ⌝ }
+    pub fn define_at(
+        self,
+        words: &mut [u32],
+        bytes: &mut [u8],
+        kind: DefKind,
+        span: Span,
+        name_span: Span,
+        path: PathAt,
+    ) -> LowerCtx
+        ensures { λ r. ⌜ Steps self r (now (words .entry)) (now (bytes .entry)) (now (words .exit)) (now (bytes .exit)) (define (bareDef kind span «name_span» (pathIn (self .bytes) (now (bytes .entry)) path))) ⌝ }
     {
         let link = end_link(self.defs);
+        let rec = spanned_rec(kind_number(kind), omit_number(kind), 0, span, name_span);
         let made = self.make_copied(words, bytes, rec, path, link);
         made.with_def(self.records)
     }
 
-    // An extension, whose body's first definition is the record's M.
-    pub fn extend(self, words: &mut [u32], bytes: &mut [u8], rec: Rec) -> LowerCtx
-        ensures { λ r. ⌜ ((body : ℕ) → Adds self r (now (words .entry)) (now (bytes .entry)) (now (words .exit)) (now (bytes .exit)) (λ (g : Hand). extension g body rec)) ⌝ }
+    // A definition at a path that is given as a text: of a reference that names it.
+    pub fn define_text(
+        self,
+        words: &mut [u32],
+        bytes: &mut [u8],
+        kind: DefKind,
+        span: Span,
+        name_span: Span,
+        path: &[u8],
+    ) -> LowerCtx
+        ensures { λ r. ⌜ Steps self r (now (words .entry)) (now (bytes .entry)) (now (words .exit)) (now (bytes .exit)) (define (bareDef kind span «name_span» (now (path .entry)))) ⌝ }
     {
-        let link = end_link(self.exts);
-        let none: [u8; 0] = [];
-        let made = self.make(words, bytes, rec, &none, &none, link);
-        made.with_ext(self.records)
+        let link = end_link(self.defs);
+        let rec = spanned_rec(kind_number(kind), omit_number(kind), 0, span, name_span);
+        let made = self.make(words, bytes, rec, path, &path[0..0], link);
+        made.with_def(self.records)
     }
 
     // A binding of a label to a path.
@@ -56,73 +82,72 @@ impl LowerCtx {
         self,
         words: &mut [u32],
         bytes: &mut [u8],
-        rec: Rec,
         label: &[u8],
         path: PathAt,
+        span: Span,
     ) -> LowerCtx
-        ensures { λ r. ⌜ Adds self r (now (words .entry)) (now (bytes .entry)) (now (words .exit)) (now (bytes .exit)) (λ (g : Hand). binding rec (now (label .entry)) (pathIn (self .bytes) (now (bytes .entry)) path)) ⌝ }
+        ensures { λ r. ⌜ Steps self r (now (words .entry)) (now (bytes .entry)) (now (words .exit)) (now (bytes .exit)) (bind (bindingMade (now (label .entry)) (pathIn (self .bytes) (now (bytes .entry)) path) span ∷ [])) ⌝ }
     {
         let link = end_link(self.binds);
+        let rec = spanned_rec(BINDING, 0, 0, span, Span { from: 0, to: 0 });
         let made = self.make_bound(words, bytes, rec, label, path, link);
         made.with_bind(self.records)
     }
 
     // A diagnostic with a text.
-    pub fn emit(self, words: &mut [u32], bytes: &mut [u8], rec: Rec, text: &[u8]) -> LowerCtx
-        ensures { λ r. ⌜ Adds self r (now (words .entry)) (now (bytes .entry)) (now (words .exit)) (now (bytes .exit)) (λ (g : Hand). diagnostic g rec (now (text .entry))) ⌝ }
+    pub fn emit(
+        self,
+        words: &mut [u32],
+        bytes: &mut [u8],
+        code: u32,
+        text: &[u8],
+        span: Span,
+        name_span: Span,
+    ) -> LowerCtx
+        ensures { λ r. ⌜ Steps self r (now (words .entry)) (now (bytes .entry)) (now (words .exit)) (now (bytes .exit)) (emit (diagMade code (now (text .entry)) span «name_span» ∷ [])) ⌝ }
     {
         let link = end_link(self.diags);
+        let rec = spanned_rec(DIAGNOSTIC, code, 0, span, name_span);
         let made = self.make(words, bytes, rec, text, &text[0..0], link);
         made.with_diag(self.records)
     }
 
-    // A diagnostic whose text is the path of this name under a path.
+    // A diagnostic whose text is the path of this name and unit address under a path.
     pub fn emit_joined(
         self,
         words: &mut [u32],
         bytes: &mut [u8],
-        rec: Rec,
+        code: u32,
+        span: Span,
         path: PathAt,
         name: &[u8],
         unit: &[u8],
     ) -> LowerCtx
-        ensures { λ r. ⌜ Adds self r (now (words .entry)) (now (bytes .entry)) (now (words .exit)) (now (bytes .exit)) (λ (g : Hand). diagnostic g rec (joined (pathIn (self .bytes) (now (bytes .entry)) path) (now (name .entry)) (now (unit .entry)))) ⌝ }
+        ensures { λ r. ⌜ Steps self r (now (words .entry)) (now (bytes .entry)) (now (words .exit)) (now (bytes .exit)) (emit (diagMade code (joined (pathIn (self .bytes) (now (bytes .entry)) path) (now (name .entry)) (now (unit .entry))) span (record { from = 0; to = 0 }) ∷ [])) ⌝ }
     {
         let link = end_link(self.diags);
+        let rec = spanned_rec(DIAGNOSTIC, code, 0, span, Span { from: 0, to: 0 });
         let made = self.make_joined(words, bytes, rec, path, name, unit, link);
         made.with_diag(self.records)
     }
 
-    // A label, a value, a cell or a reference below a record, whose last child is `last`, 0 where
-    // it has none.
-    pub fn add_child(
+    // A diagnostic whose text is one that the log has: of a binding's label, of a reference.
+    pub fn emit_copied(
         self,
         words: &mut [u32],
         bytes: &mut [u8],
-        rec: Rec,
-        first: &[u8],
-        second: &[u8],
-        owner: u32,
-        last: u32,
+        code: u32,
+        span: Span,
+        name_span: Span,
+        text: PathAt,
     ) -> LowerCtx
-        ensures { λ r. ⌜ AddsBelow self r (now (words .entry)) (now (bytes .entry)) (now (words .exit)) (now (bytes .exit)) owner last (child owner rec (now (first .entry)) (now (second .entry))) ⌝ }
+        ensures { λ r. ⌜ Steps self r (now (words .entry)) (now (bytes .entry)) (now (words .exit)) (now (bytes .exit)) (emit (diagMade code (pathIn (self .bytes) (now (bytes .entry)) text) span «name_span» ∷ [])) ⌝ }
+        ensures { λ r. ⌜ Keeps self r (now (words .entry)) (now (bytes .entry)) (now (words .exit)) (now (bytes .exit)) ⌝ }
     {
-        self.make(words, bytes, rec, first, second, child_link(owner, last))
-    }
-
-    // The same of a bytestring's text, in which no digit is missing.
-    pub fn add_bytestring(
-        self,
-        words: &mut [u32],
-        bytes: &mut [u8],
-        rec: Rec,
-        text: &[u8],
-        owner: u32,
-        last: u32,
-    ) -> LowerCtx
-        ensures { λ r. ⌜ (isOdd (now (text .entry)) ≡ false → AddsBelow self r (now (words .entry)) (now (bytes .entry)) (now (words .exit)) (now (bytes .exit)) owner last (child owner rec (bytesOf (now (text .entry))) [])) ⌝ }
-    {
-        self.make_bytestring(words, bytes, rec, text, child_link(owner, last))
+        let link = end_link(self.diags);
+        let rec = spanned_rec(DIAGNOSTIC, code, 0, span, name_span);
+        let made = self.make_copied(words, bytes, rec, text, link);
+        made.with_diag(self.records)
     }
 
     // The state with record `number` in one of its chains, where that was made.
@@ -132,10 +157,12 @@ impl LowerCtx {
         let longer = grow(self.short, self.defs, number);
         let mut next = self;
         next.defs = longer;
+        next.part = 0;
+        next.cell = 0;
         next
     }
 
-    fn with_ext(self, number: u32) -> LowerCtx
+    pub(crate) fn with_ext(self, number: u32) -> LowerCtx
         ensures { λ r. ⌜ r ≡ withExt self number ⌝ }
     {
         let longer = grow(self.short, self.exts, number);
@@ -183,7 +210,7 @@ fn grow(short: bool, chain: Chain, number: u32) -> Chain
 }
 
 // Where the link to the next record of a chain stands, 0 where there is none.
-fn end_link(chain: Chain) -> usize
+pub(crate) fn end_link(chain: Chain) -> usize
     ensures { λ r. ⌜ r ≡ endLink chain ⌝ }
 {
     if chain.last == 0 {
@@ -193,7 +220,7 @@ fn end_link(chain: Chain) -> usize
 }
 
 // Where the link to the next child of a record stands.
-fn child_link(owner: u32, last: u32) -> usize
+pub(crate) fn child_link(owner: u32, last: u32) -> usize
     ensures { λ r. ⌜ r ≡ childLink owner last ⌝ }
 {
     if last == 0 {

@@ -30,7 +30,8 @@ pub struct Chain {
 }
 
 // The log in hand: how many records and bytes are made, its chains, and whether the buffers ran
-// short. Bindings and diagnostics are in one chain each for all logs.
+// short. Bindings and diagnostics are in one chain each for all logs. `part` is the last label or
+// value of the newest definition and `cell` the last cell of that value, 0 where there is none.
 pub struct LowerCtx {
     pub records: u32,
     pub bytes: u32,
@@ -38,6 +39,8 @@ pub struct LowerCtx {
     pub exts: Chain,
     pub binds: Chain,
     pub diags: Chain,
+    pub part: u32,
+    pub cell: u32,
     pub short: bool,
 }
 

@@ -1,8 +1,9 @@
-// Where a log starts: both buffers cleared, and nothing made.
+// Where a log starts: both buffers cleared, and nothing made; and where the post checks start.
 ghost use mathlib.Core.Path.{_≡_};
-ghost use mathlib.Core.List.{[]};
 ghost use lib.ListN.{length, replicate};
-ghost use Rattle.log.specs.Holding.{Hand, Holds};
+ghost use Rattle.log.specs.State.{start};
+ghost use Rattle.log.specs.Made.{checked};
+ghost use Rattle.log.specs.Represents.{Represents, atStart, StartsChecks};
 use crate::ctx::Chain;
 use crate::ctx::LowerCtx;
 use crate::fill::zero_bytes;
@@ -20,7 +21,7 @@ pub fn clear(words: &mut [u32], bytes: &mut [u8])
 
 // The state of an empty log in cleared buffers: record 0 is made, where it has room.
 pub fn start(words: &mut [u32], bytes: &mut [u8]) -> LowerCtx
-    ensures { λ r. ⌜ ((g : Hand) → Holds g r (now (words .exit)) (now (bytes .exit)) []) ⌝ }
+    ensures { λ r. ⌜ Represents atStart r (now (words .exit)) (now (bytes .exit)) start ⌝ }
 {
     clear(words, bytes);
     let none = Chain { first: 0, last: 0 };
@@ -31,6 +32,26 @@ pub fn start(words: &mut [u32], bytes: &mut [u8]) -> LowerCtx
         exts: none,
         binds: none,
         diags: none,
+        part: 0,
+        cell: 0,
         short: log_count(words) == 0,
+    }
+}
+
+impl LowerCtx {
+    // The state with lowering's diagnostics put aside: those of the post checks have their own chain.
+    pub fn start_checks(self) -> LowerCtx
+        ensures { λ r. ⌜ StartsChecks self r ⌝ }
+    {
+        self.checked()
+    }
+
+    fn checked(self) -> LowerCtx
+        ensures { λ r. ⌜ r ≡ checked self ⌝ }
+    {
+        let none = Chain { first: 0, last: 0 };
+        let mut next = self;
+        next.diags = none;
+        next
     }
 }

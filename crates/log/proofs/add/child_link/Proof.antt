@@ -3,30 +3,22 @@ use borrow.Author.Tests.{eq-eqb, ne-eqb}
 use borrow.Author.Needs.{needs}
 use Rattle.log.proofs.add.child_link.Statement.{statement}
 use Rattle.log.proofs.add.child_link.Tie as tie
-use Rattle.log.proofs.add.child_link.Reads as reads
-use Rattle.log.proofs.add.child_link.Lts as lts
 
--- src/add.rt:206:16
 mul-result : tie.Need-mul-result
 mul-result c = search needs
 
--- src/add.rt:206:16
 add-result : tie.Need-add-result
 add-result c = search needs
 
--- src/add.rt:206:9
 returns : tie.Need-returns
 returns c = simp (eq-eqb _ _ (c .if1 .taken))
 
--- src/add.rt:208:5
 mul-result-2 : tie.Need-mul-result-2
 mul-result-2 c = search needs
 
--- src/add.rt:208:5
 add-result-2 : tie.Need-add-result-2
 add-result-2 c = search needs
 
--- src/add.rt:202:1
 returns-2 : tie.Need-returns-2
 returns-2 c = simp (ne-eqb _ _ (c .if1 .left))
 

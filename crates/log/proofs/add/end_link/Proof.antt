@@ -3,26 +3,19 @@ use borrow.Author.Tests.{eq-eqb, ne-eqb}
 use borrow.Author.Needs.{needs}
 use Rattle.log.proofs.add.end_link.Statement.{statement}
 use Rattle.log.proofs.add.end_link.Tie as tie
-use Rattle.log.proofs.add.end_link.Reads as reads
-use Rattle.log.proofs.add.end_link.Lts as lts
 
--- src/add.rt:196:9
 returns : tie.Need-returns
 returns c = simp (eq-eqb _ _ (c .if1 .taken))
 
--- src/add.rt:198:6
 cast-result : tie.Need-cast-result
 cast-result c = search needs
 
--- src/add.rt:198:5
 mul-result : tie.Need-mul-result
 mul-result c = search needs
 
--- src/add.rt:198:5
 add-result : tie.Need-add-result
 add-result c = search needs
 
--- src/add.rt:192:1
 returns-2 : tie.Need-returns-2
 returns-2 c = simp (ne-eqb _ _ (c .before .if1 .left))
 

@@ -1,23 +1,17 @@
 -- By whether the record was made, and whether it is the first.
-use mathlib.Core.Path.{refl}
 use borrow.Author.Tests.{eq-eqb, ne-eqb}
 use Rattle.log.specs.Made.{grown}
 use Rattle.log.proofs.add.grow.Statement.{statement}
 use Rattle.log.proofs.add.grow.Tie as tie
-use Rattle.log.proofs.add.grow.Reads as reads
-use Rattle.log.proofs.add.grow.Lts as lts
 
--- src/add.rt:183:9
 returns : tie.Need-returns
 unfolding grown
 returns c = simp (c .if1 .taken)
 
--- src/add.rt:186:9
 returns-2 : tie.Need-returns-2
 unfolding grown
 returns-2 c = simp (c .before .before .if1 .left, eq-eqb _ _ (c .if2 .taken))
 
--- src/add.rt:179:1
 returns-3 : tie.Need-returns-3
 unfolding grown
 returns-3 c = simp (c .before .before .if1 .left, ne-eqb _ _ (c .if2 .left))

@@ -1,10 +1,7 @@
 -- A text, and a copy behind it: the text leaves what is copied.
-use mathlib.Core.Path.{_≡_, refl, sym, ap, _∙_}
-use mathlib.Core.List.{List}
-use Prim.Native.Nat.{ℕ, _+_, _≤_, _<_}
+use mathlib.Core.Path.{ap, _∙_}
 use native.Mathlib.Omega.{arith}
 use lib.ListN.{length}
-use Rattle.paths_numbers.specs.Text.{written}
 use Rattle.paths_numbers.proofs.Written.{written-length}
 use Rattle.log.specs.PathPlaces.{pathOf}
 use Rattle.log.proofs.Texts.{written-twice}
@@ -12,20 +9,13 @@ use Rattle.log.proofs.PathPlaces.{path-written}
 use borrow.Author.Needs.{needs}
 use Rattle.log.proofs.fill.write_and_copy.Statement.{statement}
 use Rattle.log.proofs.fill.write_and_copy.Tie as tie
-use Rattle.log.proofs.fill.write_and_copy.Reads as reads
-use Rattle.log.proofs.fill.write_and_copy.Lts as lts
-use Rattle.log.proofs.fill.write_bytes.Reads as write-bytes-reads
-use Rattle.log.proofs.fill.write_path_at.Reads as write-path-at-reads
 
--- src/fill.rt:76:5
 write-bytes-requires : tie.Need-write-bytes-requires
 write-bytes-requires c κs = search needs
 
--- src/fill.rt:77:24
 add-write-path-at : tie.Need-add-write-path-at
 add-write-path-at c = search needs
 
--- src/fill.rt:77:5
 write-path-at-requires : tie.Need-write-path-at-requires
 write-path-at-requires c κs =
     let k = c .before .before .before .before .before .before .before in
@@ -35,11 +25,9 @@ write-path-at-requires c κs =
     let n = written-length (a .out .now) (a .at) (a .text .now) (omega (arith, k .pre .1)) in
     rw e (omega (arith, k .pre .0), omega (arith, ap length p, k .pre .1))
 
--- src/fill.rt:72:1
 same-length : tie.Need-same-length
 same-length c = search needs
 
--- src/fill.rt:72:1
 returns : tie.Need-returns
 returns c =
     let k = c .before .before .before .before .before .before .before .before .before .before in

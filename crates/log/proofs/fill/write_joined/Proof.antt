@@ -1,7 +1,7 @@
 -- The path under "/" is built; the path under bytes of the buffer is written byte by byte.
-use mathlib.Core.Path.{_≡_, refl, sym, ap, _∙_}
+use mathlib.Core.Path.{sym, ap, _∙_}
 use mathlib.Core.List.{List}
-use Prim.Native.Nat.{ℕ, _+_, _≤_, _<_}
+use Prim.Native.Nat.{ℕ}
 use native.Mathlib.Omega.{arith}
 use lib.ListN.{length}
 use Rattle.paths_numbers.specs.Text.{written}
@@ -12,25 +12,16 @@ use Rattle.log.proofs.PathPlaces.{path-root, path-bytes, built-fits}
 use borrow.Author.Needs.{needs}
 use Rattle.log.proofs.fill.write_joined.Statement.{statement}
 use Rattle.log.proofs.fill.write_joined.Tie as tie
-use Rattle.log.proofs.fill.write_joined.Reads as reads
-use Rattle.log.proofs.fill.write_joined.Lts as lts
-use Rattle.log.proofs.fill.write_joined_below.Reads as write-joined-below-reads
-use Rattle.log.proofs.place.joined_len.Reads as joined-len-reads
-use Rattle.paths_numbers.proofs.dt_node.build_path.Reads as build-path-reads
 
--- src/fill.rt:79:20
 slice-aggregate-build-path : tie.Need-slice-aggregate-build-path
 slice-aggregate-build-path c = search needs
 
--- src/fill.rt:79:9
 build-path-requires : tie.Need-build-path-requires
 build-path-requires c κs = search needs
 
--- src/fill.rt:80:9
 same-length : tie.Need-same-length
 same-length c = search needs
 
--- src/fill.rt:80:9
 returns : tie.Need-returns
 returns c =
     let k = c .before .before .before .before .before .before .before .before .before in
@@ -39,19 +30,15 @@ returns c =
     let j = ap (λ (s : List ℕ). joined s (a .name .now) (a .unit .now)) r in
     c .before .before .build-path .ensures .1 ∙ built-fits _ (a .out .now) (a .at) (omega (arith, ap length j, k .pre .1)) ∙ ap (λ (s : List ℕ). written (a .out .now) (a .at) s) j
 
--- src/fill.rt:82:9
 joined-len-requires : tie.Need-joined-len-requires
 joined-len-requires c κs = search needs
 
--- src/fill.rt:83:33
 cast-write-joined-below : tie.Need-cast-write-joined-below
 cast-write-joined-below c = search needs
 
--- src/fill.rt:83:54
 cast-write-joined-below-2 : tie.Need-cast-write-joined-below-2
 cast-write-joined-below-2 c = search needs
 
--- src/fill.rt:83:5
 write-joined-below-requires : tie.Need-write-joined-below-requires
 write-joined-below-requires c κs =
     let k = c .before .before .before .before .before .before .before .before .before in
@@ -61,11 +48,9 @@ write-joined-below-requires c κs =
     let n = c .before .before .before .joined-len .ensures ∙ kept largestUsize (length (joined (pathOf (a .out .now) (a .path)) (a .name .now) (a .unit .now))) (omega (arith, k .pre .1)) in
     (k .pre .0, omega (arith, k .pre .1), n ∙ sym j)
 
--- src/fill.rt:73:1
 same-length-2 : tie.Need-same-length-2
 same-length-2 c = search needs
 
--- src/fill.rt:73:1
 returns-2 : tie.Need-returns-2
 returns-2 c =
     let a = c .before .before .before .before .before .before .before .before .before .before .before .before .args in

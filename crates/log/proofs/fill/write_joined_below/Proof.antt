@@ -1,7 +1,7 @@
 -- As copy_bytes, with the bytes of the path in place of those copied.
 use borrow.Author.Needs.{needs}
 use Prim.Native.Nat.{ℕ, _+_, _-_, _≤_, _<_}
-use mathlib.Core.Path.{_≡_, refl, sym, _∙_}
+use mathlib.Core.Path.{_≡_, refl, _∙_}
 use native.Mathlib.Nat.{add-zero}
 use native.Mathlib.Omega.{arith}
 use lib.ListN.{length, drop, getD, length-set}
@@ -13,9 +13,6 @@ use Rattle.log.proofs.Texts.{part}
 use Rattle.log.proofs.PathPlaces.{part-same, joined-byte}
 use Rattle.log.proofs.fill.write_joined_below.Statement.{statement}
 use Rattle.log.proofs.fill.write_joined_below.Tie as tie
-use Rattle.log.proofs.fill.write_joined_below.Reads as reads
-use Rattle.log.proofs.fill.write_joined_below.Lts as lts
-use Rattle.paths_numbers.proofs.dt_node.path_byte.Reads as path-byte-reads
 
 abbrev Inv-loop : tie.InvT-loop
 Inv-loop out₀ at from size name unit n i₀ out i =
@@ -27,47 +24,36 @@ Inv-loop out₀ at from size name unit n i₀ out i =
 abbrev μ-loop : tie.MeasureT-loop
 μ-loop out₀ at from size name unit n i₀ out i = n - i
 
--- src/fill.rt:100:5
 loop-holds : tie.Need-loop-holds Inv-loop μ-loop
 loop-holds c = (search needs, refl, rw add-zero refl, λ k h. refl)
 
--- src/fill.rt:101:38
 add-path-byte : tie.Need-add-path-byte Inv-loop μ-loop
 add-path-byte c = search needs
 
--- src/fill.rt:101:27
 sub-path-byte : tie.Need-sub-path-byte Inv-loop μ-loop
 sub-path-byte c = search needs
 
--- src/fill.rt:101:27
 part-path-byte-start : tie.Need-part-path-byte-start Inv-loop μ-loop
 part-path-byte-start c = search needs
 
--- src/fill.rt:101:27
 part-path-byte-end : tie.Need-part-path-byte-end Inv-loop μ-loop
 part-path-byte-end c = search needs
 
--- src/fill.rt:101:13
 path-byte-requires : tie.Need-path-byte-requires Inv-loop μ-loop
 path-byte-requires c κs = search needs
 
--- src/fill.rt:102:13
 add-out : tie.Need-add-out Inv-loop μ-loop
 add-out c = search needs
 
--- src/fill.rt:102:9
 slice-write-out : tie.Need-slice-write-out Inv-loop μ-loop
 slice-write-out c = search needs
 
--- src/fill.rt:103:9
 add-i : tie.Need-add-i Inv-loop μ-loop
 add-i c = search needs
 
--- src/fill.rt:100:5
 loop-less : tie.Need-loop-less Inv-loop μ-loop
 loop-less c = search needs
 
--- src/fill.rt:100:5
 loop-again : tie.Need-loop-again Inv-loop μ-loop
 loop-again c =
     let l = c .before .before .before .before .loop in
@@ -81,11 +67,9 @@ loop-again c =
       λ k h. getD-set-other (l .out) (a .at + l .i) k _ 0 (λ e. omega arith) ∙ l .inv .3 k h,
     )
 
--- src/fill.rt:87:1
 same-length : tie.Need-same-length Inv-loop μ-loop
 same-length c = search needs
 
--- src/fill.rt:87:1
 returns : tie.Need-returns Inv-loop μ-loop
 returns c =
     let l = c .before .loop in

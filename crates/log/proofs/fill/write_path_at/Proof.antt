@@ -1,45 +1,36 @@
 -- One byte, or a copy.
-use mathlib.Core.Path.{_≡_, refl, sym, ap, _∙_}
-use mathlib.Core.List.{List, [], _∷_}
-use Prim.Native.Nat.{ℕ, _+_, _≤_, _<_}
+use mathlib.Core.Path.{ap, _∙_}
+use mathlib.Core.List.{List}
+use Prim.Native.Nat.{ℕ}
 use native.Mathlib.Omega.{arith}
-use lib.ListN.{length, set}
+use lib.ListN.{length}
 use Rattle.paths_numbers.specs.Text.{written}
 use Rattle.log.proofs.Texts.{part-length}
 use Rattle.log.proofs.PathPlaces.{path-root, path-bytes, written-one}
 use borrow.Author.Needs.{needs}
 use Rattle.log.proofs.fill.write_path_at.Statement.{statement}
 use Rattle.log.proofs.fill.write_path_at.Tie as tie
-use Rattle.log.proofs.fill.write_path_at.Reads as reads
-use Rattle.log.proofs.fill.write_path_at.Lts as lts
-use Rattle.log.proofs.fill.copy_bytes.Reads as copy-bytes-reads
 
--- src/fill.rt:65:9
 slice-write-out : tie.Need-slice-write-out
 slice-write-out c =
     let a = c .before .before .args in
     omega (arith, ap length (path-root (a .out .now) (a .path) (c .if1 .taken)), c .before .before .pre .1)
 
--- src/fill.rt:66:9
 same-length : tie.Need-same-length
 same-length c = search needs
 
--- src/fill.rt:66:9
 returns : tie.Need-returns
 returns c =
     let a = c .before .before .args in
     let r = path-root (a .out .now) (a .path) (c .if1 .taken) in
     written-one (a .out .now) (a .at) 47 (omega (arith, ap length r, c .before .before .pre .1)) ∙ ap (λ (s : List ℕ). written (a .out .now) (a .at) s) r
 
--- src/fill.rt:68:21
 cast-copy-bytes : tie.Need-cast-copy-bytes
 cast-copy-bytes c = search needs
 
--- src/fill.rt:68:42
 cast-copy-bytes-2 : tie.Need-cast-copy-bytes-2
 cast-copy-bytes-2 c = search needs
 
--- src/fill.rt:68:5
 copy-bytes-requires : tie.Need-copy-bytes-requires
 copy-bytes-requires c κs =
     let k = c .before .before .before .before .before in
@@ -47,11 +38,9 @@ copy-bytes-requires c κs =
     let r = path-bytes (a .out .now) (a .path) (c .before .before .before .if1 .left) in
     (k .pre .0, omega (arith, ap length r, part-length (a .out .now) (a .path .start) (a .path .size) (omega arith), k .pre .1))
 
--- src/fill.rt:60:1
 same-length-2 : tie.Need-same-length-2
 same-length-2 c = search needs
 
--- src/fill.rt:60:1
 returns-2 : tie.Need-returns-2
 returns-2 c =
     let a = c .before .before .before .before .before .before .before .before .args in

@@ -9,8 +9,6 @@ use Rattle.paths_numbers.specs.Text.{written}
 use Rattle.paths_numbers.proofs.Written.{written-byte, written-all}
 use Rattle.log.proofs.fill.zero_bytes.Statement.{statement}
 use Rattle.log.proofs.fill.zero_bytes.Tie as tie
-use Rattle.log.proofs.fill.zero_bytes.Reads as reads
-use Rattle.log.proofs.fill.zero_bytes.Lts as lts
 
 abbrev Inv-loop : tie.InvT-loop
 Inv-loop out₀ at size j₀ out j =
@@ -19,27 +17,21 @@ Inv-loop out₀ at size j₀ out j =
 abbrev μ-loop : tie.MeasureT-loop
 μ-loop out₀ at size j₀ out j = size - j
 
--- src/fill.rt:134:5
 loop-holds : tie.Need-loop-holds Inv-loop μ-loop
 loop-holds c = (search needs, refl, rw add-zero refl)
 
--- src/fill.rt:135:13
 add-out : tie.Need-add-out Inv-loop μ-loop
 add-out c = search needs
 
--- src/fill.rt:135:9
 slice-write-out : tie.Need-slice-write-out Inv-loop μ-loop
 slice-write-out c = search needs
 
--- src/fill.rt:136:9
 add-j : tie.Need-add-j Inv-loop μ-loop
 add-j c = search needs
 
--- src/fill.rt:134:5
 loop-less : tie.Need-loop-less Inv-loop μ-loop
 loop-less c = search needs
 
--- src/fill.rt:134:5
 loop-again : tie.Need-loop-again Inv-loop μ-loop
 loop-again c =
     let l = c .before .loop in
@@ -47,11 +39,9 @@ loop-again c =
     let n = length-replicate {A = ℕ} (a .size) 0 in
     (omega arith, simp length-set (l .inv .1), written-byte (l .out) (a .at) (replicate (a .size) 0) (l .j) 0 _ (l .inv .2) (omega arith) (omega arith) (sym (getD-replicate (a .size) (l .j) 0 0 (omega arith))))
 
--- src/fill.rt:129:1
 same-length : tie.Need-same-length Inv-loop μ-loop
 same-length c = search needs
 
--- src/fill.rt:129:1
 returns : tie.Need-returns Inv-loop μ-loop
 returns c =
     let l = c .before .loop in

@@ -1,5 +1,5 @@
 -- The length of the path under "/" or under the bytes there.
-use mathlib.Core.Path.{_≡_, sym, ap, _∙_}
+use mathlib.Core.Path.{ap, _∙_}
 use mathlib.Core.List.{List}
 use Prim.Native.Nat.{ℕ}
 use Rattle.paths_numbers.specs.Path.{joinedLen}
@@ -8,53 +8,39 @@ use Rattle.log.proofs.PathPlaces.{path-root, path-bytes}
 use borrow.Author.Needs.{needs}
 use Rattle.log.proofs.place.joined_len.Statement.{statement}
 use Rattle.log.proofs.place.joined_len.Tie as tie
-use Rattle.log.proofs.place.joined_len.Reads as reads
-use Rattle.log.proofs.place.joined_len.Lts as lts
-use Rattle.paths_numbers.proofs.dt_node.path_len.Reads as path-len-reads
 
--- src/place.rt:49:25
 slice-aggregate-path-len : tie.Need-slice-aggregate-path-len
 slice-aggregate-path-len c = search needs
 
--- src/place.rt:49:9
 path-len-requires : tie.Need-path-len-requires
 path-len-requires c κs = search needs
 
--- src/place.rt:49:9
 returns : tie.Need-returns
 returns c =
     let a = c .before .before .before .before .before .before .args in
     c .path-len .ensures ∙ ap (λ (s : List ℕ). joinedLen s (a .name .now) (a .unit .now)) (path-root (a .bytes .now) (a .path) (c .before .before .if1 .taken))
 
--- src/place.rt:51:16
 cast-from : tie.Need-cast-from
 cast-from c = search needs
 
--- src/place.rt:52:35
 cast-path-len : tie.Need-cast-path-len
 cast-path-len c = search needs
 
--- src/place.rt:52:27
 add-path-len : tie.Need-add-path-len
 add-path-len c = search needs
 
--- src/place.rt:52:14
 sub-path-len : tie.Need-sub-path-len
 sub-path-len c = search needs
 
--- src/place.rt:52:14
 part-path-len-start : tie.Need-part-path-len-start
 part-path-len-start c = search needs
 
--- src/place.rt:52:14
 part-path-len-end : tie.Need-part-path-len-end
 part-path-len-end c = search needs
 
--- src/place.rt:52:5
 path-len-requires-2 : tie.Need-path-len-requires-2
 path-len-requires-2 c κs = search needs
 
--- src/place.rt:43:1
 returns-2 : tie.Need-returns-2
 returns-2 c =
     let a = c .before .before .before .before .before .before .before .before .args in

@@ -4,18 +4,13 @@ use Rattle.log.specs.Made.{oneMore}
 use borrow.Author.Needs.{needs}
 use Rattle.log.proofs.ctx.LowerCtx.count_one.Statement.{statement}
 use Rattle.log.proofs.ctx.LowerCtx.count_one.Tie as tie
-use Rattle.log.proofs.ctx.LowerCtx.count_one.Reads as reads
-use Rattle.log.proofs.ctx.LowerCtx.count_one.Lts as lts
 
--- src/ctx.rt:239:24
 add-next : tie.Need-add-next
 add-next c = search needs
 
--- src/ctx.rt:240:22
 add-next-2 : tie.Need-add-next-2
 add-next-2 c = search needs
 
--- src/ctx.rt:234:5
 returns : tie.Need-returns
 unfolding oneMore
 returns c = refl

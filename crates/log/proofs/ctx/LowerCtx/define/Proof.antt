@@ -1,43 +1,45 @@
--- A record made in its chain (Holding).
-use Rattle.log.proofs.Holding.{adds-def}
+-- A definition made (Typed).
+use Rattle.log.proofs.Typed.{makes-def}
+use mathlib.Core.Path.{refl}
 use borrow.Author.Needs.{needs}
 use Rattle.log.proofs.ctx.LowerCtx.define.Statement.{statement}
 use Rattle.log.proofs.ctx.LowerCtx.define.Tie as tie
-use Rattle.log.proofs.ctx.LowerCtx.define.Reads as reads
-use Rattle.log.proofs.ctx.LowerCtx.define.Lts as lts
-use Rattle.log.proofs.add.end_link.Reads as end-link-reads
-use Rattle.log.proofs.ctx.LowerCtx.make_joined.Reads as make-joined-reads
-use Rattle.log.proofs.ctx.LowerCtx.with_def.Reads as with-def-reads
 
--- src/add.rt:30:13
 end-link-requires : tie.Need-end-link-requires
 end-link-requires c κs = search needs
 
--- src/add.rt:31:13
+kind-number-requires : tie.Need-kind-number-requires
+kind-number-requires c κs = search needs
+
+omit-number-requires : tie.Need-omit-number-requires
+omit-number-requires c κs = search needs
+
+spanned-rec-requires : tie.Need-spanned-rec-requires
+spanned-rec-requires c κs = search needs
+
 make-joined-requires : tie.Need-make-joined-requires
 make-joined-requires c κs = search needs
 
--- src/add.rt:32:9
 with-def-requires : tie.Need-with-def-requires
 with-def-requires c κs = search needs
 
--- src/add.rt:19:5
 same-length : tie.Need-same-length
 same-length c = search needs
 
--- src/add.rt:19:5
 same-length-2 : tie.Need-same-length-2
 same-length-2 c = search needs
 
--- src/add.rt:19:5
 returns : tie.Need-returns
-returns c = adds-def (c .before .before .before .before .before .make-joined .ensures) (c .before .before .before .before .before .before .before .before .end-link .ensures) (c .with-def .ensures)
+returns c = let a = c .before .before .before .before .before .before .before .before .before .before .before .before .before .before .before .before .args in makes-def (c .before .before .before .before .before .make-joined .ensures) (a .kind) (a .span) (a .name-span) _ _ refl (c .before .before .before .before .before .before .before .before .spanned-rec .ensures) (c .before .before .before .before .before .before .before .before .before .before .kind-number .ensures) (c .before .before .before .before .before .before .before .before .before .omit-number .ensures) (c .before .before .before .before .before .before .before .before .before .before .before .end-link .ensures) (c .with-def .ensures)
 
 pub define-spec : {M : Type 1} → statement M
 define-spec =
     tie.close
     (tie.spec
     end-link-requires
+    kind-number-requires
+    omit-number-requires
+    spanned-rec-requires
     make-joined-requires
     with-def-requires
     same-length

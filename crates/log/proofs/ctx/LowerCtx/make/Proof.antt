@@ -1,40 +1,28 @@
 -- By whether the record is made (Told).
 use Prim.Native.Nat.{_+_}
-use mathlib.Core.Path.{refl, sym, _∙_}
+use mathlib.Core.Path.{refl}
 use native.Mathlib.Omega.{arith}
 use lib.ListN.{length}
 use Rattle.log.proofs.Told.{tested-none, tested-room, tested-made}
 use borrow.Author.Needs.{needs}
 use Rattle.log.proofs.ctx.LowerCtx.make.Statement.{statement}
 use Rattle.log.proofs.ctx.LowerCtx.make.Tie as tie
-use Rattle.log.proofs.ctx.LowerCtx.make.Reads as reads
-use Rattle.log.proofs.ctx.LowerCtx.make.Lts as lts
-use Rattle.log.proofs.ctx.LowerCtx.admits.Reads as admits-reads
-use Rattle.log.proofs.ctx.LowerCtx.put.Reads as put-reads
-use Rattle.log.proofs.ctx.LowerCtx.run_short.Reads as run-short-reads
-use Rattle.log.proofs.fill.write_two.Reads as write-two-reads
 
--- src/ctx.rt:131:39
 add-admits : tie.Need-add-admits
 add-admits c = search needs
 
--- src/ctx.rt:131:13
 admits-requires : tie.Need-admits-requires
 admits-requires c κs = search needs
 
--- src/ctx.rt:132:13
 run-short-requires : tie.Need-run-short-requires
 run-short-requires c κs = search needs
 
--- src/ctx.rt:132:13
 same-length : tie.Need-same-length
 same-length c = search needs
 
--- src/ctx.rt:132:13
 same-length-2 : tie.Need-same-length-2
 same-length-2 c = search needs
 
--- src/ctx.rt:132:13
 returns : tie.Need-returns
 returns c =
     let k = c .before .before .before .before .before .before .before .before .before in
@@ -43,11 +31,9 @@ returns c =
     let y = a .second .now in
     tested-none (a .self) (a .words .now) (a .bytes .now) (a .rec) x y (a .link) (length x + length y) refl _ (c .before .before .admits .ensures) _ (c .before .if1 .taken) (c .run-short .ensures)
 
--- src/ctx.rt:134:26
 cast-write-two : tie.Need-cast-write-two
 cast-write-two c = search needs
 
--- src/ctx.rt:134:9
 write-two-requires : tie.Need-write-two-requires
 write-two-requires c κs =
     let k = c .before .before .before .before .before .before .before .before .before .before in
@@ -57,7 +43,6 @@ write-two-requires c κs =
     let r = tested-room (a .self) (a .words .now) (a .bytes .now) (a .rec) x y (a .link) (length x + length y) refl _ (c .before .before .before .admits .ensures) (c .before .before .if1 .left) in
     omega (arith, r .bytesFit)
 
--- src/ctx.rt:135:30
 cast-put : tie.Need-cast-put
 cast-put c =
     let k = c .before .before .before .before .before .before .before .before .before .before .before .before .before .before in
@@ -67,7 +52,6 @@ cast-put c =
     let r = tested-room (a .self) (a .words .now) (a .bytes .now) (a .rec) x y (a .link) (length x + length y) refl _ (c .before .before .before .before .before .before .before .admits .ensures) (c .before .before .before .before .before .before .if1 .left) in
     omega (arith, r .bytesMost)
 
--- src/ctx.rt:135:50
 cast-put-2 : tie.Need-cast-put-2
 cast-put-2 c =
     let k = c .before .before .before .before .before .before .before .before .before .before .before .before .before .before in
@@ -77,7 +61,6 @@ cast-put-2 c =
     let r = tested-room (a .self) (a .words .now) (a .bytes .now) (a .rec) x y (a .link) (length x + length y) refl _ (c .before .before .before .before .before .before .before .admits .ensures) (c .before .before .before .before .before .before .if1 .left) in
     omega (arith, r .bytesMost)
 
--- src/ctx.rt:135:9
 put-requires : tie.Need-put-requires
 put-requires c κs =
     let k = c .before .before .before .before .before .before .before .before .before .before .before .before .before .before in
@@ -87,15 +70,12 @@ put-requires c κs =
     let r = tested-room (a .self) (a .words .now) (a .bytes .now) (a .rec) x y (a .link) (length x + length y) refl _ (c .before .before .before .before .before .before .before .admits .ensures) (c .before .before .before .before .before .before .if1 .left) in
     (r .recordsFit, r .linkFits, r .bytesMost)
 
--- src/ctx.rt:120:5
 same-length-3 : tie.Need-same-length-3
 same-length-3 c = search needs
 
--- src/ctx.rt:120:5
 same-length-4 : tie.Need-same-length-4
 same-length-4 c = search needs
 
--- src/ctx.rt:120:5
 returns-2 : tie.Need-returns-2
 returns-2 c =
     let k = c .before .before .before .before .before .before .before .before .before .before .before .before .before .before .before .before .before in

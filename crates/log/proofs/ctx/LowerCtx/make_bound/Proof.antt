@@ -1,7 +1,6 @@
 -- By whether the record is made (Told).
 use Prim.Native.Nat.{ℕ, _+_}
 use mathlib.Core.Path.{_≡_, refl, sym, ap, _∙_}
-use mathlib.Core.List.{List, [], _++_, append-nil}
 use native.Mathlib.Omega.{arith}
 use lib.ListN.{length}
 use Rattle.log.specs.declared.place.PathAt.{PathAt}
@@ -12,48 +11,31 @@ use Rattle.log.proofs.Told.{tested-none, tested-room, tested-made}
 use borrow.Author.Needs.{needs}
 use Rattle.log.proofs.ctx.LowerCtx.make_bound.Statement.{statement}
 use Rattle.log.proofs.ctx.LowerCtx.make_bound.Tie as tie
-use Rattle.log.proofs.ctx.LowerCtx.make_bound.Reads as reads
-use Rattle.log.proofs.ctx.LowerCtx.make_bound.Lts as lts
-use Rattle.log.proofs.ctx.LowerCtx.admits.Reads as admits-reads
-use Rattle.log.proofs.ctx.LowerCtx.put.Reads as put-reads
-use Rattle.log.proofs.ctx.LowerCtx.run_short.Reads as run-short-reads
-use Rattle.log.proofs.fill.write_and_copy.Reads as write-and-copy-reads
-use Rattle.log.proofs.place.place_len.Reads as place-len-reads
-use Rattle.log.proofs.place.settle.Reads as settle-reads
 
--- src/ctx.rt:192:13
 settle-requires : tie.Need-settle-requires
 settle-requires c κs = search needs
 
--- src/ctx.rt:193:13
 place-len-requires : tie.Need-place-len-requires
 place-len-requires c κs = search needs
 
--- src/ctx.rt:194:54
 cast-admits : tie.Need-cast-admits
 cast-admits c = search needs
 
--- src/ctx.rt:194:39
 add-admits : tie.Need-add-admits
 add-admits c = search needs
 
--- src/ctx.rt:194:13
 admits-requires : tie.Need-admits-requires
 admits-requires c κs = search needs
 
--- src/ctx.rt:195:13
 run-short-requires : tie.Need-run-short-requires
 run-short-requires c κs = search needs
 
--- src/ctx.rt:195:13
 same-length : tie.Need-same-length
 same-length c = search needs
 
--- src/ctx.rt:195:13
 same-length-2 : tie.Need-same-length-2
 same-length-2 c = search needs
 
--- src/ctx.rt:195:13
 returns : tie.Need-returns
 returns c =
     let k = c .before .before .before .before .before .before .before .before .before .before .before in
@@ -70,11 +52,9 @@ returns c =
     let same = ap (λ (i : ℕ). makes (a .self) (a .words .now) (a .bytes .now) i (a .link)) z in
     tested-none (a .self) (a .words .now) (a .bytes .now) (a .rec) l x (a .link) (length l + m) same _ (c .before .before .admits .ensures) _ (c .before .if1 .taken) (c .run-short .ensures)
 
--- src/ctx.rt:197:31
 cast-write-and-copy : tie.Need-cast-write-and-copy
 cast-write-and-copy c = search needs
 
--- src/ctx.rt:197:9
 write-and-copy-requires : tie.Need-write-and-copy-requires
 write-and-copy-requires c κs =
     let k = c .before .before .before .before .before .before .before .before .before .before .before .before in
@@ -92,7 +72,6 @@ write-and-copy-requires c κs =
     let r = tested-room (a .self) (a .words .now) (a .bytes .now) (a .rec) l x (a .link) (length l + m) same _ (c .before .before .before .admits .ensures) (c .before .before .if1 .left) in
     (s .0, omega (arith, r .bytesFit, ap length j))
 
--- src/ctx.rt:198:30
 cast-put : tie.Need-cast-put
 cast-put c =
     let k = c .before .before .before .before .before .before .before .before .before .before .before .before .before .before .before .before in
@@ -110,7 +89,6 @@ cast-put c =
     let r = tested-room (a .self) (a .words .now) (a .bytes .now) (a .rec) l x (a .link) (length l + m) same _ (c .before .before .before .before .before .before .before .admits .ensures) (c .before .before .before .before .before .before .if1 .left) in
     omega (arith, r .bytesMost)
 
--- src/ctx.rt:198:9
 put-requires : tie.Need-put-requires
 put-requires c κs =
     let k = c .before .before .before .before .before .before .before .before .before .before .before .before .before .before .before .before in
@@ -128,15 +106,12 @@ put-requires c κs =
     let r = tested-room (a .self) (a .words .now) (a .bytes .now) (a .rec) l x (a .link) (length l + m) same _ (c .before .before .before .before .before .before .before .admits .ensures) (c .before .before .before .before .before .before .if1 .left) in
     (r .recordsFit, r .linkFits, omega (arith, r .bytesMost))
 
--- src/ctx.rt:181:5
 same-length-3 : tie.Need-same-length-3
 same-length-3 c = search needs
 
--- src/ctx.rt:181:5
 same-length-4 : tie.Need-same-length-4
 same-length-4 c = search needs
 
--- src/ctx.rt:181:5
 returns-2 : tie.Need-returns-2
 returns-2 c =
     let k = c .before .before .before .before .before .before .before .before .before .before .before .before .before .before .before .before .before .before .before in

@@ -1,7 +1,7 @@
 -- By the count of the bytes, and whether the record is made (Told).
-use Prim.Native.Nat.{ℕ, _+_}
-use mathlib.Core.Path.{_≡_, refl, sym, ap, _∙_}
-use mathlib.Core.List.{List, [], _++_, append-nil}
+use Prim.Native.Nat.{ℕ}
+use mathlib.Core.Path.{refl, sym, ap, _∙_}
+use mathlib.Core.List.{[], append-nil}
 use native.Mathlib.Nat.{add-zero}
 use native.Mathlib.Omega.{arith}
 use lib.ListN.{length}
@@ -13,43 +13,28 @@ use Rattle.log.proofs.Told.{tested-none, tested-room, tested-made}
 use borrow.Author.Needs.{needs}
 use Rattle.log.proofs.ctx.LowerCtx.make_bytestring.Statement.{statement}
 use Rattle.log.proofs.ctx.LowerCtx.make_bytestring.Tie as tie
-use Rattle.log.proofs.ctx.LowerCtx.make_bytestring.Reads as reads
-use Rattle.log.proofs.ctx.LowerCtx.make_bytestring.Lts as lts
-use Rattle.log.proofs.ctx.LowerCtx.admits.Reads as admits-reads
-use Rattle.log.proofs.ctx.LowerCtx.put.Reads as put-reads
-use Rattle.log.proofs.ctx.LowerCtx.run_short.Reads as run-short-reads
-use Rattle.paths_numbers.proofs.dt_property.bytestring_len.Reads as bytestring-len-reads
-use Rattle.paths_numbers.proofs.dt_property.lower_bytestring.Reads as lower-bytestring-reads
 
--- src/ctx.rt:215:15
 bytestring-len-requires : tie.Need-bytestring-len-requires
 bytestring-len-requires c κs = search needs
 
--- src/ctx.rt:216:40
 enum-told : tie.Need-enum-told
 enum-told c = search needs
 
--- src/ctx.rt:217:30
 enum-known-size : tie.Need-enum-known-size
 enum-known-size c = search needs
 
--- src/ctx.rt:218:21
 admits-requires : tie.Need-admits-requires
 admits-requires c κs = search needs
 
--- src/ctx.rt:219:21
 run-short-requires : tie.Need-run-short-requires
 run-short-requires c κs = search needs
 
--- src/ctx.rt:219:21
 same-length : tie.Need-same-length
 same-length c = search needs
 
--- src/ctx.rt:219:21
 same-length-2 : tie.Need-same-length-2
 same-length-2 c = search needs
 
--- src/ctx.rt:219:21
 returns : tie.Need-returns
 returns c =
     let k = c .before .before .before .before .before .before .before .before .before .before .before .before in
@@ -60,15 +45,12 @@ returns c =
     let same = ap (λ (i : ℕ). makes (a .self) (a .words .now) (a .bytes .now) i (a .link)) (sym (add-zero (length x) ∙ n .1)) in
     record { even = λ o. tested-none (a .self) (a .words .now) (a .bytes .now) (a .rec) x [] (a .link) _ same _ (c .before .before .admits .ensures) _ (c .before .if1 .taken) (c .run-short .ensures); odd = λ o. absurd (not-both o (n .0)) }
 
--- src/ctx.rt:221:47
 cast-lower-bytestring : tie.Need-cast-lower-bytestring
 cast-lower-bytestring c = search needs
 
--- src/ctx.rt:221:17
 lower-bytestring-requires : tie.Need-lower-bytestring-requires
 lower-bytestring-requires c κs = search needs
 
--- src/ctx.rt:222:38
 cast-put : tie.Need-cast-put
 cast-put c =
     let k = c .before .before .before .before .before .before .before .before .before .before .before .before .before .before .before .before .before in
@@ -80,7 +62,6 @@ cast-put c =
     let r = tested-room (a .self) (a .words .now) (a .bytes .now) (a .rec) x [] (a .link) _ same _ (c .before .before .before .before .before .before .before .admits .ensures) (c .before .before .before .before .before .before .if1 .left) in
     omega (arith, r .bytesMost, n .1)
 
--- src/ctx.rt:222:17
 put-requires : tie.Need-put-requires
 put-requires c κs =
     let k = c .before .before .before .before .before .before .before .before .before .before .before .before .before .before .before .before .before in
@@ -92,22 +73,18 @@ put-requires c κs =
     let r = tested-room (a .self) (a .words .now) (a .bytes .now) (a .rec) x [] (a .link) _ same _ (c .before .before .before .before .before .before .before .admits .ensures) (c .before .before .before .before .before .before .if1 .left) in
     (r .recordsFit, r .linkFits, omega (arith, r .bytesMost, n .1))
 
--- src/ctx.rt:205:5
 returns-2 : tie.Need-returns-2
 returns-2 c =
     let a = c .before .before .before .before .before .before .args in
     let o = count-missing (a .text .now) (sym (c .before .before .bytestring-len .ensures) ∙ c .enum-told .given .1) in
     record { even = λ e. absurd (not-both o e); odd = λ e. (refl, refl, refl) }
 
--- src/ctx.rt:205:5
 same-length-3 : tie.Need-same-length-3
 same-length-3 c = search needs
 
--- src/ctx.rt:205:5
 same-length-4 : tie.Need-same-length-4
 same-length-4 c = search needs
 
--- src/ctx.rt:205:5
 returns-3 : tie.Need-returns-3
 returns-3 c =
     let k = c .before .before .before .before .before .before .before .before .before .before .before .before .before .before .before .before .before .before .before .before in

@@ -1,7 +1,7 @@
 -- By whether the record is made (Told).
 use Prim.Native.Nat.{ℕ, _+_}
 use mathlib.Core.Path.{_≡_, refl, sym, ap, _∙_}
-use mathlib.Core.List.{List, [], _++_, append-nil}
+use mathlib.Core.List.{[], append-nil}
 use native.Mathlib.Omega.{arith}
 use lib.ListN.{length}
 use Rattle.log.specs.declared.place.PathAt.{PathAt}
@@ -12,44 +12,28 @@ use Rattle.log.proofs.Told.{tested-none, tested-room, tested-made}
 use borrow.Author.Needs.{needs}
 use Rattle.log.proofs.ctx.LowerCtx.make_copied.Statement.{statement}
 use Rattle.log.proofs.ctx.LowerCtx.make_copied.Tie as tie
-use Rattle.log.proofs.ctx.LowerCtx.make_copied.Reads as reads
-use Rattle.log.proofs.ctx.LowerCtx.make_copied.Lts as lts
-use Rattle.log.proofs.ctx.LowerCtx.admits.Reads as admits-reads
-use Rattle.log.proofs.ctx.LowerCtx.put.Reads as put-reads
-use Rattle.log.proofs.ctx.LowerCtx.run_short.Reads as run-short-reads
-use Rattle.log.proofs.fill.write_path_at.Reads as write-path-at-reads
-use Rattle.log.proofs.place.place_len.Reads as place-len-reads
-use Rattle.log.proofs.place.settle.Reads as settle-reads
 
--- src/ctx.rt:171:13
 settle-requires : tie.Need-settle-requires
 settle-requires c κs = search needs
 
--- src/ctx.rt:172:13
 place-len-requires : tie.Need-place-len-requires
 place-len-requires c κs = search needs
 
--- src/ctx.rt:173:39
 cast-admits : tie.Need-cast-admits
 cast-admits c = search needs
 
--- src/ctx.rt:173:13
 admits-requires : tie.Need-admits-requires
 admits-requires c κs = search needs
 
--- src/ctx.rt:174:13
 run-short-requires : tie.Need-run-short-requires
 run-short-requires c κs = search needs
 
--- src/ctx.rt:174:13
 same-length : tie.Need-same-length
 same-length c = search needs
 
--- src/ctx.rt:174:13
 same-length-2 : tie.Need-same-length-2
 same-length-2 c = search needs
 
--- src/ctx.rt:174:13
 returns : tie.Need-returns
 returns c =
     let k = c .before .before .before .before .before .before .before .before .before .before in
@@ -65,11 +49,9 @@ returns c =
     let same = ap (λ (i : ℕ). makes (a .self) (a .words .now) (a .bytes .now) i (a .link)) z in
     tested-none (a .self) (a .words .now) (a .bytes .now) (a .rec) x [] (a .link) m same _ (c .before .before .admits .ensures) _ (c .before .if1 .taken) (c .run-short .ensures)
 
--- src/ctx.rt:176:30
 cast-write-path-at : tie.Need-cast-write-path-at
 cast-write-path-at c = search needs
 
--- src/ctx.rt:176:9
 write-path-at-requires : tie.Need-write-path-at-requires
 write-path-at-requires c κs =
     let k = c .before .before .before .before .before .before .before .before .before .before .before in
@@ -86,7 +68,6 @@ write-path-at-requires c κs =
     let r = tested-room (a .self) (a .words .now) (a .bytes .now) (a .rec) x [] (a .link) m same _ (c .before .before .before .admits .ensures) (c .before .before .if1 .left) in
     (s .0, omega (arith, r .bytesFit, ap length j))
 
--- src/ctx.rt:177:9
 put-requires : tie.Need-put-requires
 put-requires c κs =
     let k = c .before .before .before .before .before .before .before .before .before .before .before .before .before .before .before in
@@ -103,15 +84,12 @@ put-requires c κs =
     let r = tested-room (a .self) (a .words .now) (a .bytes .now) (a .rec) x [] (a .link) m same _ (c .before .before .before .before .before .before .before .admits .ensures) (c .before .before .before .before .before .before .if1 .left) in
     (r .recordsFit, r .linkFits, omega (arith, r .bytesMost))
 
--- src/ctx.rt:161:5
 same-length-3 : tie.Need-same-length-3
 same-length-3 c = search needs
 
--- src/ctx.rt:161:5
 same-length-4 : tie.Need-same-length-4
 same-length-4 c = search needs
 
--- src/ctx.rt:161:5
 returns-2 : tie.Need-returns-2
 returns-2 c =
     let k = c .before .before .before .before .before .before .before .before .before .before .before .before .before .before .before .before .before .before in

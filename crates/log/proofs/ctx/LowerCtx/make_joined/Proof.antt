@@ -1,54 +1,35 @@
 -- By whether the record is made (Told); the path's length is cut only where it has no room.
-use Prim.Native.Nat.{ℕ, _+_}
-use mathlib.Core.Path.{_≡_, refl, sym, ap, _∙_}
-use mathlib.Core.List.{List, [], append-nil}
+use mathlib.Core.Path.{_≡_, refl, ap, _∙_}
+use mathlib.Core.List.{[], append-nil}
 use native.Mathlib.Omega.{arith}
 use lib.ListN.{length}
-use Rattle.paths_numbers.specs.Text.{written}
-use Rattle.paths_numbers.specs.Path.{joined, largestUsize}
-use Rattle.paths_numbers.proofs.Lengths.{kept}
+use Rattle.paths_numbers.specs.Path.{joined}
 use Rattle.log.specs.declared.place.PathAt.{PathAt}
 use Rattle.log.specs.PathPlaces.{pathOf, settled}
-use Rattle.log.specs.Made.{makes}
 use Rattle.log.proofs.PathPlaces.{settled-in}
 use Rattle.log.proofs.Told.{tested-none, tested-room, tested-made, makes-joined, joined-size}
 use borrow.Author.Needs.{needs}
 use Rattle.log.proofs.ctx.LowerCtx.make_joined.Statement.{statement}
 use Rattle.log.proofs.ctx.LowerCtx.make_joined.Tie as tie
-use Rattle.log.proofs.ctx.LowerCtx.make_joined.Reads as reads
-use Rattle.log.proofs.ctx.LowerCtx.make_joined.Lts as lts
-use Rattle.log.proofs.ctx.LowerCtx.admits.Reads as admits-reads
-use Rattle.log.proofs.ctx.LowerCtx.put.Reads as put-reads
-use Rattle.log.proofs.ctx.LowerCtx.run_short.Reads as run-short-reads
-use Rattle.log.proofs.fill.write_joined.Reads as write-joined-reads
-use Rattle.log.proofs.place.joined_len.Reads as joined-len-reads
-use Rattle.log.proofs.place.settle.Reads as settle-reads
 
--- src/ctx.rt:151:13
 settle-requires : tie.Need-settle-requires
 settle-requires c κs = search needs
 
--- src/ctx.rt:152:13
 joined-len-requires : tie.Need-joined-len-requires
 joined-len-requires c κs = let a = c .before .before .before .before .before .before .before .args in settled-in (a .self .bytes) (a .bytes .now) (a .path) _ (c .before .settle .ensures) .1
 
--- src/ctx.rt:153:13
 admits-requires : tie.Need-admits-requires
 admits-requires c κs = search needs
 
--- src/ctx.rt:154:13
 run-short-requires : tie.Need-run-short-requires
 run-short-requires c κs = search needs
 
--- src/ctx.rt:154:13
 same-length : tie.Need-same-length
 same-length c = search needs
 
--- src/ctx.rt:154:13
 same-length-2 : tie.Need-same-length-2
 same-length-2 c = search needs
 
--- src/ctx.rt:154:13
 returns : tie.Need-returns
 returns c =
     let k = c .before .before .before .before .before .before .before .before .before .before .before .before .before in
@@ -61,11 +42,9 @@ returns c =
     let same = makes-joined (a .self) (a .words .now) (a .bytes .now) x (a .link) _ _ j n in
     tested-none (a .self) (a .words .now) (a .bytes .now) (a .rec) x [] (a .link) (c .before .before .before .before .before .joined-len .result) same _ (c .before .before .admits .ensures) _ (c .before .if1 .taken) (c .run-short .ensures)
 
--- src/ctx.rt:156:29
 cast-write-joined : tie.Need-cast-write-joined
 cast-write-joined c = search needs
 
--- src/ctx.rt:156:9
 write-joined-requires : tie.Need-write-joined-requires
 write-joined-requires c κs =
     let k = c .before .before .before .before .before .before .before .before .before .before .before .before .before .before in
@@ -79,7 +58,6 @@ write-joined-requires c κs =
     let r = tested-room (a .self) (a .words .now) (a .bytes .now) (a .rec) x [] (a .link) (c .before .before .before .before .before .before .joined-len .result) same _ (c .before .before .before .admits .ensures) (c .before .before .if1 .left) in
     (settled-in (a .self .bytes) (a .bytes .now) (a .path) q e .0, omega (arith, r .bytesFit, ap length j))
 
--- src/ctx.rt:157:30
 cast-put : tie.Need-cast-put
 cast-put c =
     let k = c .before .before .before .before .before .before .before .before .before .before .before .before .before .before .before .before .before .before in
@@ -93,7 +71,6 @@ cast-put c =
     let r = tested-room (a .self) (a .words .now) (a .bytes .now) (a .rec) x [] (a .link) (c .before .before .before .before .before .before .before .before .before .before .joined-len .result) same _ (c .before .before .before .before .before .before .before .admits .ensures) (c .before .before .before .before .before .before .if1 .left) in
     omega (arith, r .bytesMost, joined-size x _ _ j n (omega (arith, r .bytesMost)))
 
--- src/ctx.rt:157:9
 put-requires : tie.Need-put-requires
 put-requires c κs =
     let k = c .before .before .before .before .before .before .before .before .before .before .before .before .before .before .before .before .before .before in
@@ -107,15 +84,12 @@ put-requires c κs =
     let r = tested-room (a .self) (a .words .now) (a .bytes .now) (a .rec) x [] (a .link) (c .before .before .before .before .before .before .before .before .before .before .joined-len .result) same _ (c .before .before .before .before .before .before .before .admits .ensures) (c .before .before .before .before .before .before .if1 .left) in
     (r .recordsFit, r .linkFits, omega (arith, r .bytesMost, joined-size x _ _ j n (omega (arith, r .bytesMost))))
 
--- src/ctx.rt:139:5
 same-length-3 : tie.Need-same-length-3
 same-length-3 c = search needs
 
--- src/ctx.rt:139:5
 same-length-4 : tie.Need-same-length-4
 same-length-4 c = search needs
 
--- src/ctx.rt:139:5
 returns-2 : tie.Need-returns-2
 returns-2 c =
     let k = c .before .before .before .before .before .before .before .before .before .before .before .before .before .before .before .before .before .before .before .before .before in

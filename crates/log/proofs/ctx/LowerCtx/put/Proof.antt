@@ -5,33 +5,24 @@ use Rattle.log.proofs.Layouts.{count-words, count-most}
 use borrow.Author.Needs.{needs}
 use Rattle.log.proofs.ctx.LowerCtx.put.Statement.{statement}
 use Rattle.log.proofs.ctx.LowerCtx.put.Tie as tie
-use Rattle.log.proofs.ctx.LowerCtx.put.Reads as reads
-use Rattle.log.proofs.ctx.LowerCtx.put.Lts as lts
-use Rattle.log.proofs.ctx.LowerCtx.count_one.Reads as count-one-reads
-use Rattle.log.proofs.ctx.put_record.Reads as put-record-reads
 
--- src/ctx.rt:220:9
 put-record-requires : tie.Need-put-record-requires
 put-record-requires c κs =
     let k = c .before .before in
     let h = count-words (k .args .words .now) (k .args .self .records + 1) (omega (arith, k .pre .0)) in
     (omega arith, k .pre .1, omega (arith, k .pre .2))
 
--- src/ctx.rt:221:24
 add-count-one : tie.Need-add-count-one
 add-count-one c = search needs
 
--- src/ctx.rt:221:9
 count-one-requires : tie.Need-count-one-requires
 count-one-requires c κs =
     let k = c .before .before .before .before .before in
     (omega (arith, k .pre .0, count-most (k .args .words .now)), omega (arith, k .pre .2))
 
--- src/ctx.rt:215:5
 same-length : tie.Need-same-length
 same-length c = search needs
 
--- src/ctx.rt:215:5
 returns : tie.Need-returns
 returns c = search needs
 

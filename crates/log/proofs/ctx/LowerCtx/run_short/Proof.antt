@@ -3,10 +3,7 @@ use mathlib.Core.Path.{refl}
 use Rattle.log.specs.Made.{ranShort}
 use Rattle.log.proofs.ctx.LowerCtx.run_short.Statement.{statement}
 use Rattle.log.proofs.ctx.LowerCtx.run_short.Tie as tie
-use Rattle.log.proofs.ctx.LowerCtx.run_short.Reads as reads
-use Rattle.log.proofs.ctx.LowerCtx.run_short.Lts as lts
 
--- src/ctx.rt:225:5
 returns : tie.Need-returns
 unfolding ranShort
 returns c = refl
