@@ -14,6 +14,7 @@ use Rattle.log.specs.ReadBack.{chainOf, defAt, readDefs}
 use Rattle.log.specs.Sound.{Soundness, sound, broken, soundness}
 use Rattle.queries.specs.Live.{containsNode}
 use Rattle.queries.specs.Query.{liveNumbers, historyNumbers, Answered, soundAnswer, goodAnswer, listAnswer, soundOut, queryAnswer, queryOut, liveAnswers, historyAnswers, containsAnswer}
+use Rattle.queries.specs.Table.{fitted}
 use Rattle.queries.specs.Answer.{refusal}
 
 -- a number of a refusal is not 0
@@ -90,6 +91,12 @@ module _ (w b p list answers : List ℕ) (r : Answered) (e : r ≡ refusal w b p
     where
       filled : out ≡ cond (leb (length answers) (length list)) (written list 0 answers) list
       filled = rw (le-leb (length answers) (length list) (omega (arith, c, h))) d
+
+  -- a list that holds the answers if they fit
+  pub fitted-out : (out : List ℕ) → r .number ≡ 0 → out ≡ fitted list answers → out ≡ queryOut w b p list answers
+  unfolding refusal queryOut fitted
+  fitted-out out n d =
+      d ∙ out-answered-by (soundness w b) (goodPath p) r (cond (leb (length answers) (length list)) (written list 0 answers) list) list e n
 
 -- the answers, of a chain that starts at record 0's first definition
 pub live-of : (w b base : List ℕ) (first : ℕ) → first ≡ firstDef w → liveNumbers (defAt w b) base (chainOf w first) ≡ liveAnswers w b base

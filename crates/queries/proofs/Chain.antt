@@ -6,9 +6,10 @@ use mathlib.Core.List.{List, [], _∷_, map}
 use native.Mathlib.Omega.{arith}
 use borrow.Author.Tests.{leb-true, eqb-false, ne-eqb}
 use lib.Dec.{eqb, leb}
+use lib.ListN.{length}
 use Rattle.paths_numbers.proofs.Texts.{by-test, not-both}
 use Rattle.log.specs.Record.{nextOf, leads, logCount, outCount, mostRecords}
-use Rattle.log.specs.ReadBack.{chainFrom}
+use Rattle.log.specs.ReadBack.{chainFrom, chainOf}
 use Rattle.queries.specs.Kind.{any}
 use Rattle.queries.specs.Pass.{goesOn}
 
@@ -48,6 +49,19 @@ count-most words =
     by-test (leb (outCount words) mostRecords)
     (λ t. rw t (leb-true _ _ t))
     (λ t. rw t (omega arith))
+
+-- a chain has no more records than may be left
+chain-length : (words : List ℕ) (left r : ℕ) → length (chainFrom left words r) ≤ left
+unfolding chainFrom
+chain-length words zero r = omega arith
+chain-length words (suc left) r =
+    by-test (leads words r)
+    (λ t. rw t (omega (arith, chain-length words left (nextOf words r))))
+    (λ t. rw t (omega arith))
+
+pub chain-most : (words : List ℕ) (r : ℕ) → length (chainOf words r) ≤ logCount words
+unfolding chainOf
+chain-most words r = chain-length words (logCount words) r
 
 -- w is whether some record of the chain passes a test, and the invariant says that it is decided by what is left
 module _ {A : Type 0} (def : ℕ → A) (test : A → Bool) (words : List ℕ) (r left : ℕ) (w : Bool) (inv : w ≡ any test (map def (chainFrom left words r))) where

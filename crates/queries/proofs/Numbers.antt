@@ -1,19 +1,23 @@
 -- The answers of the queries by record numbers: that they stand for the definitions that are meant, and how a walk over a chain makes them.
 use Prim.Native.Nat.{ℕ, suc, _+_, _-_, _≤_, _<_}
-use mathlib.Core.Path.{_≡_, refl, ap, _∙_}
+use mathlib.Core.Path.{_≡_, refl, sym, ap, _∙_}
 use mathlib.Core.Bool.{Bool, true, false, cond}
 use mathlib.Core.List.{List, [], _∷_, _++_, map, append-nil, append-assoc}
 use native.Mathlib.Omega.{arith}
-use lib.ListN.{length, take, drop, set, length-append}
-use lib.Seq.{set-split, drop-at, length-take-le}
+use native.Mathlib.Numerals.{add-one}
+use borrow.Author.Tests.{le-leb, lt-leb}
+use lib.ListN.{length, getD, take, drop, set, length-append, length-drop}
+use lib.Seq.{drop-cons, drop-length, take-all, take-append-seam, set-append-seam}
 use Rattle.paths_numbers.specs.Text.{same, written}
 use Rattle.paths_numbers.proofs.Texts.{by-test}
+use Rattle.paths_numbers.proofs.Written.{written-cons}
 use Rattle.log.specs.Meaning.{Def}
 use Rattle.log.specs.Record.{nextOf, firstDef}
 use Rattle.log.specs.ReadBack.{chainFrom, chainOf, defAt, readDefs}
 use Rattle.queries.specs.Live.{deletes, isLive, live}
 use Rattle.queries.specs.History.{definedBy, historyFrom, history}
 use Rattle.queries.specs.Query.{liveNumbers, historyNumbers, liveAnswers, historyAnswers}
+use Rattle.queries.specs.Table.{fitted}
 use Rattle.queries.specs.Pass.{goesOn, isListed, definedAfter}
 use Rattle.queries.proofs.Chain.{goes, stops}
 
@@ -77,37 +81,70 @@ module _ (def : ℕ → Def) (defined : Bool) (path words : List ℕ) (r left : 
   unfolding historyNumbers
   history-end g = rw (stops words r left g) refl
 
--- the live numbers along a chain
-module _ (def : ℕ → Def) (base words : List ℕ) (r left : ℕ) where
-  pub live-taken : goesOn words r left ≡ true → isLive base (def r) (map def (chainFrom (left - 1) words (nextOf words r))) ≡ true
-      → (next : ℕ) → next ≡ nextOf words r
-      → liveNumbers def base (chainFrom left words r) ≡ liveNumbers def base (chainFrom (left - 1) words next) ++ r ∷ []
-  unfolding liveNumbers
-  live-taken g t next n = rw (goes words r left g, t, n) refl
+-- the live numbers from one record of a chain on, by those from the next one on
+module _ (def : ℕ → Def) (base order : List ℕ) (i : ℕ) (b : 0 < i) (m : i ≤ length order) where
+  pub one-before : drop (i - 1) order ≡ getD order (i - 1) 0 ∷ drop i order
+  one-before =
+      let n : suc (i - 1) ≡ i = omega arith in
+      drop-cons order (i - 1) 0 (omega arith) ∙ ap (λ (k : ℕ). getD order (i - 1) 0 ∷ drop k order) n
 
-  pub live-passed : goesOn words r left ≡ true → isLive base (def r) (map def (chainFrom (left - 1) words (nextOf words r))) ≡ false
-      → (next : ℕ) → next ≡ nextOf words r
-      → liveNumbers def base (chainFrom left words r) ≡ liveNumbers def base (chainFrom (left - 1) words next)
+  pub live-taken : isLive base (def (getD order (i - 1) 0)) (map def (drop i order)) ≡ true
+      → liveNumbers def base (drop (i - 1) order) ≡ liveNumbers def base (drop i order) ++ getD order (i - 1) 0 ∷ []
   unfolding liveNumbers
-  live-passed g t next n = rw (goes words r left g, t, n) (append-nil (liveNumbers def base (chainFrom (left - 1) words (nextOf words r))))
+  live-taken t = rw (one-before, t) refl
 
-  pub live-end : goesOn words r left ≡ false → liveNumbers def base (chainFrom left words r) ≡ []
+  pub live-passed : isLive base (def (getD order (i - 1) 0)) (map def (drop i order)) ≡ false
+      → liveNumbers def base (drop (i - 1) order) ≡ liveNumbers def base (drop i order)
   unfolding liveNumbers
-  live-end g = rw (stops words r left g) refl
+  live-passed t = rw (one-before, t) (append-nil (liveNumbers def base (drop i order)))
 
--- the last number written, then those before it
-pub written-last : (d s : List ℕ) (b : ℕ) → length s < length d → written d 0 (s ++ b ∷ []) ≡ written (set d (length s) b) 0 s
+-- there are no more of them than records
+pub live-most : (def : ℕ → Def) (base l : List ℕ) → length (liveNumbers def base l) ≤ length l
+unfolding liveNumbers
+live-most def base [] = omega arith
+live-most def base (r ∷ l) =
+    by-test (isLive base (def r) (map def l))
+    (λ t. rw t (omega (arith, length-append (liveNumbers def base l) (r ∷ []), live-most def base l)))
+    (λ t. rw (t, append-nil) (omega (arith, live-most def base l)))
+
+-- there are none behind the last
+pub live-none : (def : ℕ → Def) (base order : List ℕ) → liveNumbers def base (drop (length order) order) ≡ []
+unfolding liveNumbers
+live-none def base order = rw (drop-length order) refl
+
+-- the part of a list from one place on
+pub part-on : (s : List ℕ) (i : ℕ) → take (length s - i) (drop i s) ≡ drop i s
+part-on s i = take-all (length s - i) (drop i s) (omega (arith, length-drop i s))
+
+-- one number more of a list that is written number by number: w is the whole written, and the invariant says that the rest written gives it
+pub written-next : (d s w : List ℕ) (i : ℕ) → w ≡ written d i (drop i s) → i < length d → i < length s → w ≡ written (set d i (getD s i 0)) (i + 1) (drop (i + 1) s)
+written-next d s w i inv h k = inv ∙ rw (drop-cons s i 0 k, written-cons d i (getD s i 0) (drop (suc i) s) h, add-one i) refl
+
+-- a number written behind those that are written
+pub written-more : (d s : List ℕ) (b : ℕ) → length s < length d → set (written d 0 s) (length s) b ≡ written d 0 (s ++ b ∷ [])
 unfolding written
-written-last d s b h =
+written-more d s b h =
     let n : 0 + length (s ++ b ∷ []) ≡ suc (length s) = omega (arith, length-append s (b ∷ [])) in
-    let e : drop (0 + length s) (set d (length s) b) ≡ b ∷ drop (suc (length s)) d =
-    rw (set-split d (length s) b h) (drop-at (take (length s) d) (b ∷ drop (suc (length s)) d) (0 + length s) (omega (arith, length-take-le (length s) d (omega arith)))) in
-    rw (n, e) (append-assoc s (b ∷ []) (drop (suc (length s)) d))
+    let z : 0 + length s ≡ length s = omega arith in
+    rw (n, z, drop-cons d (length s) 0 h, set-append-seam s (getD d (length s) 0) (drop (suc (length s)) d) b) (sym (append-assoc s (b ∷ []) (drop (suc (length s)) d)))
 
--- as a list is filled from the back: w is the whole written, and the invariant says that the rest written gives it
-pub written-back : (d s t w : List ℕ) (b at : ℕ) → w ≡ written d 0 s → s ≡ t ++ b ∷ [] → at ≡ length s → length s ≤ length d
-    → w ≡ written (set d (at - 1) b) 0 t
-written-back d s t w b at inv e n h =
-    let m : length s ≡ length t + 1 = ap length e ∙ length-append t (b ∷ []) in
-    let k : at - 1 ≡ length t = omega arith in
-    inv ∙ rw (k, e) (written-last d t b (omega arith))
+-- as answers are collected: w is what is written of them, and one more is written
+pub collected : (d s t w : List ℕ) (count b : ℕ) → w ≡ written d 0 s → count ≡ length s → t ≡ s ++ b ∷ [] → count < length d
+    → (set w count b ≡ written d 0 t) × (count + 1 ≡ length t)
+collected d s t w count b inv n e h =
+    let k : length t ≡ length s + 1 = ap length e ∙ length-append s (b ∷ []) in
+    (rw (inv, n, e) (written-more d s b (omega arith)), omega arith)
+
+-- what is written is at the start
+pub written-start : (d s : List ℕ) (n : ℕ) → n ≡ length s → take n (written d 0 s) ≡ s
+unfolding written
+written-start d s n e = rw e (take-append-seam s (drop (0 + length s) d))
+
+-- a list that has room for the answers, and one that has not
+pub fitted-full : (list answers : List ℕ) → length answers ≤ length list → written list 0 answers ≡ fitted list answers
+unfolding fitted
+fitted-full list answers h = rw (le-leb _ _ h) refl
+
+pub fitted-short : (list answers : List ℕ) → length list < length answers → list ≡ fitted list answers
+unfolding fitted
+fitted-short list answers h = rw (lt-leb _ _ h) refl

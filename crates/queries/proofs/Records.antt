@@ -14,11 +14,12 @@ use Rattle.log.specs.Record.{kindOf, childOf, firstText, nodeKind, propertyKind
 use Rattle.log.specs.ReadBack.{defAt, defValueAt, readLabels}
 use Rattle.queries.specs.Kind.{isNode, isProperty, isDeletedNode, isDeletedProperty, isPlugin, any}
 use Rattle.queries.specs.Live.{deletes, overwrites, nodeAt}
+use Rattle.queries.specs.Table.{deletedAt}
 use Rattle.queries.specs.History.{definedBy}
 use Rattle.queries.specs.Labels.{labelsIn, hasLabelAt}
 
 -- by which of the kinds a number is
-by-kind : (P : ℕ → Type 0) (k : ℕ) → P nodeKind → P propertyKind → P deletedNodeKind → P deletedPropertyKind → P pluginKind
+pub by-kind : (P : ℕ → Type 0) (k : ℕ) → P nodeKind → P propertyKind → P deletedNodeKind → P deletedPropertyKind → P pluginKind
     → (eqb k nodeKind ≡ false → eqb k propertyKind ≡ false → eqb k deletedNodeKind ≡ false → eqb k deletedPropertyKind ≡ false → eqb k pluginKind ≡ false → P k)
     → P k
 by-kind P k n p dn dp pl other =
@@ -30,7 +31,7 @@ by-kind P k n p dn dp pl other =
     (λ f5. other f1 f2 f3 f4 f5)))))
 
 -- what a definition of a kind is, with these labels, this omit mark and these values
-abbrev valueOf : List (List ℕ) → Bool → List Value → ℕ → DefValue
+abbrev pub valueOf : List (List ℕ) → Bool → List Value → ℕ → DefValue
 valueOf ls o vs k =
     cond (eqb k nodeKind) (node ls o)
     (cond (eqb k propertyKind) (property vs)
@@ -108,6 +109,9 @@ module _ (words bytes : List ℕ) (r : ℕ) where
 
   pub deletes-at : (path : List ℕ) → deletes path (defAt words bytes r) ≡ cond (eqb (kindOf words r) deletedNodeKind) (atOrUnder path (firstText words bytes r)) false
   deletes-at path = rw (deleted-node-kind, path-at) refl
+
+  pub deleted-at : (path : List ℕ) → deletedAt path (defAt words bytes r) ≡ cond (eqb (kindOf words r) deletedNodeKind) (same (firstText words bytes r) path) false
+  deleted-at path = rw (deleted-node-kind, path-at) refl
 
   pub overwrites-at : (path : List ℕ) → overwrites path (defAt words bytes r) ≡ cond (cond (eqb (kindOf words r) propertyKind) true (eqb (kindOf words r) deletedPropertyKind)) (same (firstText words bytes r) path) false
   overwrites-at path = rw (property-kind, deleted-property-kind, path-at) refl

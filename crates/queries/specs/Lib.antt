@@ -4,5 +4,5 @@ pub mod Labels
 pub mod History
 pub mod Query
 pub mod Pass
-pub mod Marks
+pub mod Table
 pub mod Answer

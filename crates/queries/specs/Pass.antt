@@ -6,7 +6,7 @@ use lib.Dec.{eqb}
 use Rattle.paths_numbers.specs.Text.{same}
 use Rattle.log.specs.Meaning.{Def}
 use Rattle.log.specs.Record.{leads}
-use Rattle.queries.specs.Live.{deletes, overwrites}
+use Rattle.queries.specs.Live.{deletes}
 use Rattle.queries.specs.History.{definedBy}
 
 -- whether a chain of which so many records may be left has one at r
@@ -16,10 +16,6 @@ goesOn words r left = cond (eqb left 0) false (leads words r)
 -- what is found after a definition that sets or clears it
 abbrev pub foundAfter : Bool → Bool → Bool → Bool
 foundAfter sets clears found = cond sets true (cond clears false found)
-
--- whether a later definition takes away what is at a path: a property or not
-abbrev pub takesAway : List ℕ → Bool → Def → Bool
-takesAway path property d = cond (deletes path d) true (cond property (overwrites path d) false)
 
 -- whether a definition is in a path's history, where the path was defined before it or not, and whether the path is defined after it
 unfoldable pub isListed : List ℕ → Def → Bool → Bool

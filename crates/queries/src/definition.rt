@@ -8,7 +8,8 @@ ghost use Rattle.queries.specs.Kind.{any};
 ghost use Rattle.queries.specs.Live.{deletes, overwrites, nodeAt};
 ghost use Rattle.queries.specs.History.{definedBy};
 ghost use Rattle.queries.specs.Labels.{hasLabelAt};
-ghost use Rattle.queries.specs.Pass.{goesOn, takesAway};
+ghost use Rattle.queries.specs.Table.{deletedAt};
+ghost use Rattle.queries.specs.Pass.{goesOn};
 use log::record::child_of;
 use log::record::first_text;
 use log::record::kind_of;
@@ -85,6 +86,16 @@ pub fn deletes_above_path(
     path_lies_under(parent, name, unit, first_text(words, bytes, r))
 }
 
+// Whether a definition is a deleted node at a path.
+pub fn is_deleted_at(words: &[u32], bytes: &[u8], r: u32, path: &[u8]) -> bool
+    ensures { λ t. ⌜ t ≡ deletedAt (now (path .entry)) (defAt (now (words .entry)) (now (bytes .entry)) r) ⌝ }
+{
+    if kind_of(words, r) != DELETED_NODE {
+        return false;
+    }
+    equals(first_text(words, bytes, r), path)
+}
+
 // Whether a definition is a property or a deleted property at a path.
 pub fn overwrites_at(words: &[u32], bytes: &[u8], r: u32, path: &[u8]) -> bool
     ensures { λ t. ⌜ t ≡ overwrites (now (path .entry)) (defAt (now (words .entry)) (now (bytes .entry)) r) ⌝ }
@@ -96,19 +107,6 @@ pub fn overwrites_at(words: &[u32], bytes: &[u8], r: u32, path: &[u8]) -> bool
         }
     }
     equals(first_text(words, bytes, r), path)
-}
-
-// Whether a definition takes away what is at a path, a property or not.
-pub fn takes_away(words: &[u32], bytes: &[u8], r: u32, path: &[u8], property: bool) -> bool
-    ensures { λ t. ⌜ t ≡ takesAway (now (path .entry)) property (defAt (now (words .entry)) (now (bytes .entry)) r) ⌝ }
-{
-    if deletes_above(words, bytes, r, path) {
-        return true;
-    }
-    if property {
-        return overwrites_at(words, bytes, r, path);
-    }
-    false
 }
 
 // Whether a path is defined after a definition at it.

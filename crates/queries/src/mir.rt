@@ -2,23 +2,18 @@
 // function answers for any words and bytes: for what they read as.
 ghost use mathlib.Core.Path.{_≡_};
 ghost use mathlib.Core.Bool.{true, false};
-ghost use mathlib.Core.List.{List, map};
+ghost use mathlib.Core.List.{List};
 ghost use Prim.Native.Nat.{ℕ, _≤_};
 ghost use lib.ListN.{length};
 ghost use Rattle.paths_numbers.specs.Text.{written};
 ghost use Rattle.paths_numbers.specs.Path.{joined};
-ghost use Rattle.log.specs.Record.{nextOf, logCount};
-ghost use Rattle.log.specs.ReadBack.{chainFrom, chainOf, defAt, readDefs};
+ghost use Rattle.log.specs.ReadBack.{chainOf, defAt, readDefs};
 ghost use Rattle.queries.specs.Kind.{any, setsOverlay};
-ghost use Rattle.queries.specs.Live.{deletes, isLive, live, nodeAt, containsNode};
+ghost use Rattle.queries.specs.Live.{deletes, live, nodeAt, containsNode};
 ghost use Rattle.queries.specs.Labels.{hasLabelAt};
-ghost use Rattle.queries.specs.Query.{liveNumbers, historyNumbers};
-ghost use Rattle.queries.specs.Pass.{foundAfter, takesAway, isListed, definedAfter};
-ghost use Rattle.queries.specs.Marks.{Marks};
-use crate::definition::DELETED_NODE;
-use crate::definition::DELETED_PROPERTY;
+ghost use Rattle.queries.specs.Query.{historyNumbers};
+ghost use Rattle.queries.specs.Pass.{foundAfter, isListed, definedAfter};
 use crate::definition::PLUGIN;
-use crate::definition::PROPERTY;
 use crate::definition::defined_by;
 use crate::definition::deletes_above;
 use crate::definition::deletes_above_path;
@@ -26,10 +21,6 @@ use crate::definition::goes_on;
 use crate::definition::has_label_at;
 use crate::definition::is_node_at;
 use crate::definition::is_node_at_path;
-use crate::definition::takes_away;
-use crate::marking::NO_MARK;
-use crate::marking::is_suspect;
-use crate::marking::mark_chain;
 use log::record::first_text;
 use log::record::kind_of;
 use log::record::log_count;
@@ -181,125 +172,6 @@ pub(crate) fn history_fill(words: &[u32], bytes: &[u8], first: u32, path: &[u8],
         r = next_of(words, r);
         left -= 1;
     }
-}
-
-// How many definitions of a chain are live under a base.
-pub fn live_count(words: &[u32], bytes: &[u8], first: u32, base: &[u8]) -> u32
-    ensures { λ n. ⌜ n ≡ length (liveNumbers (defAt (now (words .entry)) (now (bytes .entry))) (now (base .entry)) (chainOf (now (words .entry)) first)) ⌝ }
-{
-    let mut marks = [NO_MARK; 65536];
-    mark_chain(words, bytes, first, &mut marks);
-    live_count_by(words, bytes, first, base, &marks)
-}
-
-// The same, with the marks of the chain.
-fn live_count_by(words: &[u32], bytes: &[u8], first: u32, base: &[u8], marks: &[u32]) -> u32
-    requires { ⌜ Marks (now marks) (logCount (now words)) (readDefs (now words) (now bytes) first) ⌝ }
-    ensures { λ n. ⌜ n ≡ length (liveNumbers (defAt (now (words .entry)) (now (bytes .entry))) (now (base .entry)) (chainOf (now (words .entry)) first)) ⌝ }
-{
-    let mut count: u32 = 0;
-    let mut r = first;
-    let mut left = log_count(words);
-    while goes_on(words, r, left) {
-        left -= 1;
-        if is_live_at(words, bytes, r, left, base, marks) {
-            count += 1;
-        }
-        r = next_of(words, r);
-    }
-    count
-}
-
-// Writes the record numbers of the definitions that are live under a base, of which there are
-// `count`, to the start of a list, latest first.
-pub(crate) fn live_fill(
-    words: &[u32],
-    bytes: &[u8],
-    first: u32,
-    base: &[u8],
-    count: u32,
-    list: &mut [u32],
-)
-    requires { ⌜ count ≡ length (liveNumbers (defAt (now words) (now bytes)) (now base) (chainOf (now words) first)) ⌝ }
-    requires { ⌜ count ≤ length (now list) ⌝ }
-    ensures { λ _. ⌜ now (list .exit) ≡ written (now (list .entry)) 0 (liveNumbers (defAt (now (words .entry)) (now (bytes .entry))) (now (base .entry)) (chainOf (now (words .entry)) first)) ⌝ }
-{
-    let mut marks = [NO_MARK; 65536];
-    mark_chain(words, bytes, first, &mut marks);
-    live_fill_by(words, bytes, first, base, count, list, &marks);
-}
-
-// The same, with the marks of the chain: from the list's last place back, as the chain comes.
-fn live_fill_by(
-    words: &[u32],
-    bytes: &[u8],
-    first: u32,
-    base: &[u8],
-    count: u32,
-    list: &mut [u32],
-    marks: &[u32],
-)
-    requires { ⌜ count ≡ length (liveNumbers (defAt (now words) (now bytes)) (now base) (chainOf (now words) first)) ⌝ }
-    requires { ⌜ count ≤ length (now list) ⌝ }
-    requires { ⌜ Marks (now marks) (logCount (now words)) (readDefs (now words) (now bytes) first) ⌝ }
-    ensures { λ _. ⌜ now (list .exit) ≡ written (now (list .entry)) 0 (liveNumbers (defAt (now (words .entry)) (now (bytes .entry))) (now (base .entry)) (chainOf (now (words .entry)) first)) ⌝ }
-{
-    let mut at = count as usize;
-    let mut r = first;
-    let mut left = log_count(words);
-    while goes_on(words, r, left) {
-        left -= 1;
-        if is_live_at(words, bytes, r, left, base, marks) {
-            at -= 1;
-            list[at] = r;
-        }
-        r = next_of(words, r);
-    }
-}
-
-// Whether a definition is live under a base, where so many records may follow it in its chain.
-fn is_live_at(words: &[u32], bytes: &[u8], r: u32, left: u32, base: &[u8], marks: &[u32]) -> bool
-    requires { ⌜ Marks (now marks) left (map (defAt (now words) (now bytes)) (chainFrom left (now words) (nextOf (now words) r))) ⌝ }
-    ensures { λ t. ⌜ t ≡ isLive (now (base .entry)) (defAt (now (words .entry)) (now (bytes .entry)) r) (map (defAt (now (words .entry)) (now (bytes .entry))) (chainFrom left (now (words .entry)) (nextOf (now (words .entry)) r))) ⌝ }
-{
-    let kind = kind_of(words, r);
-    if kind == DELETED_NODE {
-        return false;
-    }
-    if kind == DELETED_PROPERTY {
-        return false;
-    }
-    let path = first_text(words, bytes, r);
-    if !lies_under(path, base) {
-        return false;
-    }
-    if !is_suspect(marks, path, left) {
-        return true;
-    }
-    !is_gone(
-        words,
-        bytes,
-        path,
-        kind == PROPERTY,
-        next_of(words, r),
-        left,
-    )
-}
-
-// Whether a chain takes away what is at a path, a property or not.
-fn is_gone(words: &[u32], bytes: &[u8], path: &[u8], property: bool, first: u32, most: u32) -> bool
-    ensures { λ t. ⌜ t ≡ any (takesAway (now (path .entry)) property) (map (defAt (now (words .entry)) (now (bytes .entry))) (chainFrom most (now (words .entry)) first)) ⌝ }
-{
-    let mut r = first;
-    let mut left = most;
-    while goes_on(words, r, left) {
-        if takes_away(words, bytes, r, path, property) {
-            return true;
-        }
-        r = next_of(words, r);
-        left -= 1;
-    }
-    false
 }
 
 // What becomes of a path's history at a definition.

@@ -4,11 +4,10 @@ ghost use lib.ListN.{length};
 ghost use Rattle.paths_numbers.specs.Path.{goodPath};
 ghost use Rattle.queries.specs.Query.{goodAnswer, queryAnswer, queryOut, liveAnswers, historyAnswers, containsAnswer};
 ghost use Rattle.queries.specs.Answer.{told, refusal};
+use crate::live::live_list;
 use crate::mir::contains_node_in;
 use crate::mir::history_count;
 use crate::mir::history_fill;
-use crate::mir::live_count;
-use crate::mir::live_fill;
 use log::record::out_field;
 use log::sound::Soundness;
 use log::sound::check_log;
@@ -16,8 +15,8 @@ use paths_numbers::mir::good_path;
 
 // 01's number and what is returned with it.
 pub struct Answer {
-    number: u32,
-    returned: u32,
+    pub number: u32,
+    pub returned: u32,
 }
 
 // The live definitions under a base, latest first, by their record numbers.
@@ -30,14 +29,13 @@ pub fn iter_live_defs_under(words: &[u32], bytes: &[u8], base: &[u8], list: &mut
         return refusal;
     }
     let first = out_field(words, 0, 1);
-    let count = live_count(words, bytes, first, base);
+    let count = live_list(words, bytes, first, base, list);
     if list.len() < count as usize {
         return Answer {
             number: 10,
             returned: count,
         };
     }
-    live_fill(words, bytes, first, base, count, list);
     Answer {
         number: 0,
         returned: count,
