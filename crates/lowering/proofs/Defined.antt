@@ -18,7 +18,8 @@ use Rattle.lowering.specs.Report.{Got, Made, report}
 use Rattle.lowering.specs.Name.{fullName, labelsOf}
 use Rattle.lowering.specs.Phandle.{lowerPhandle, Resolution, reaches, missing, resolve}
 use Rattle.lowering.specs.Property.{lowerValues}
-use Rattle.lowering.specs.State.{State, define, bind, emit, apart, dropped, extended, unbind}
+use Rattle.log.specs.State.{State, define, bind, emit, apart, dropped, extended}
+use Rattle.lowering.specs.Unbind.{unbind}
 use Rattle.lowering.specs.Lower.{Place, at, aside, discarded, nowhere, Placed, placeOf, nodeDef, opened, settled, lowerPlaced, lowerNode, namedProperty, lowerProperty, bare, deleteNode, deleteResolved, deleteTarget, deleteReferenced, deleteNamed, lowerDeleteNode, deletePropertyNamed, lowerDirective, lowerAs, lowerItem, lowerItems}
 use Rattle.lowering.specs.Post.{Headers, atFirst, defined, nextHeaders, headerReport, directivesFrom, checkDirectives}
 

@@ -16,7 +16,8 @@ use Rattle.queries.proofs.Gap.{isDirective, Within, none as no-defs, next as on
 use Rattle.lowering.specs.Tree.{Tree, Trees, empty, more, kindOf, spanOf, childrenOf, labelKind}
 use Rattle.lowering.specs.Report.{Got, Made, andThen}
 use Rattle.lowering.specs.Name.{nameOrMacro, labelled, labelsOf}
-use Rattle.lowering.specs.State.{State, define, bind, emit, bindsLabelOf, without, unbind}
+use Rattle.log.specs.State.{State, define, bind, emit}
+use Rattle.lowering.specs.Unbind.{bindsLabelOf, without, unbind}
 use Rattle.lowering.specs.Lower.{labelTexts, nodeDef, opened, bare, deleteNode}
 use Rattle.lowering.proofs.Held.{held, live-held, live-other, held-more, held-new}
 

@@ -7,24 +7,8 @@ use native.Mathlib.Omega.{arith}
 use Rattle.lowering.specs.Tree.{empty, more}
 use Rattle.lowering.specs.Input.{recordCount, kindAt, nextAt, childAt, secondAt, treesAt, chainAt, recordAt}
 use Rattle.lowering.specs.Place.{InputPlace, childPlace, secondPlace}
+use Rattle.lowering.specs.Linked.{Link, Linked, At}
 use Rattle.lowering.specs.Rows.{visits, visitsFrom}
-
--- a link l of record r is 0, or leads above r and to a record that there is
-pub record Link (words : List ℕ) (r l : ℕ) : Type 0 where
-  pub up : (l ≡ 0 → ⊥) → r < l
-  pub within : (l ≡ 0 → ⊥) → l < recordCount words
-
-pub record Links (words : List ℕ) (r : ℕ) : Type 0 where
-  pub next : Link words r (nextAt words r)
-  pub child : Link words r (childAt words r)
-  pub second : Link words r (secondAt words r)
-
-pub record Linked (words : List ℕ) : Type 0 where
-  pub all : (r : ℕ) → r < recordCount words → Links words r
-
--- a record's number, or 0
-abbrev pub At : List ℕ → ℕ → Type 0
-At words r = (r ≡ 0 → ⊥) → r < recordCount words
 
 -- as many links as can be followed in a row from record r on
 abbrev pub Enough : ℕ → List ℕ → ℕ → Type 0

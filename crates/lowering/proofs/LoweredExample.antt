@@ -14,7 +14,7 @@ use Rattle.queries.specs.Live.{live, isLive, gone}
 use Rattle.queries.specs.Query.{Answered}
 use Rattle.lowering.specs.Tree.{Trees, firstOf, has}
 use Rattle.lowering.specs.Name.{nameOrMacro, fullName, nodeNameSpan, labelsOf}
-use Rattle.lowering.specs.State.{State, define, bind, emit, bindingsBytes, diagsBytes, textsBytes}
+use Rattle.log.specs.State.{State, define, bind, emit, bindingsBytes, diagsBytes, textsBytes}
 use Rattle.lowering.specs.Lower.{lowered, lowerItem, lowerItems, lowerNode, lowerDirective, placeOf, opened, labelTexts}
 use Rattle.lowering.specs.Post.{postChecks, checkDirectives, directivesFrom, checkReferences, checkDefs, duplicateLabels, duplicatesOf}
 use Rattle.lowering.specs.Input.{description}

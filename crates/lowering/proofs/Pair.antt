@@ -18,7 +18,8 @@ use Rattle.lowering.specs.Tree.{Tree, Trees, tree, empty, more, kindOf, 
 use Rattle.lowering.specs.Report.{Got, Made, report}
 use Rattle.lowering.specs.Name.{fullName, nodeNameSpan}
 use Rattle.lowering.specs.Property.{lowerValues}
-use Rattle.lowering.specs.State.{State, define, emit, unbind}
+use Rattle.log.specs.State.{State, define, emit}
+use Rattle.lowering.specs.Unbind.{unbind}
 use Rattle.lowering.specs.Lower.{Place, at, Placed, placedAs, byName, byParts, placeOf, opened, lowerPlaced, lowerNode, namedProperty, lowerProperty, bare, deleteNode, deleteReferenced, deleteNamed, lowerDeleteNode, deletePropertyNamed, lowerDirective, lowerAs, lowerItem, lowerItems}
 use Rattle.lowering.specs.TwoRuns.{goodNames, goodNamesIn, plainName, quietDirective, quiet, quietIn, Names, Pair}
 use Rattle.lowering.proofs.Grown.{Grown, grown-none, grown-emit, grown-define, grown-opened, grown-delete, all-unbound}

@@ -13,15 +13,16 @@ use Rattle.queries.specs.Kind.{any}
 use Rattle.queries.proofs.Lists.{any-append, any-head, any-front, any-back}
 use Rattle.lowering.specs.Input.{recordCount, kindAt, nextAt, childAt, secondAt}
 use Rattle.lowering.specs.Place.{InputPlace, items, childPlace, secondPlace}
+use Rattle.lowering.specs.Linked.{Links, Linked, At}
 use Rattle.lowering.specs.Rows.{rowTwo, linksOf, Visit, visits, visitsFrom, reached, lowest, lowestOf}
 use Rattle.lowering.specs.Rising.{visit, looked, known, finds}
 use Rattle.lowering.proofs.GoodNames.{never}
 use Rattle.lowering.proofs.Search.{neither, only, lowest-same, lowest-of-rising}
-use Rattle.lowering.proofs.Input.{Links, Linked, At, visits-more}
+use Rattle.lowering.proofs.Input.{visits-more}
 use Rattle.lowering.proofs.Rows.{links, Once, linked-once, linked-apart}
 
 -- a record that does not lead to k tells nothing of it
-looked-apart : (words : List ℕ) (r k : ℕ) (here before : Option Visit) → any (eqb k) (linksOf words r) ≡ false → looked words r k here before ≡ before
+pub looked-apart : (words : List ℕ) (r k : ℕ) (here before : Option Visit) → any (eqb k) (linksOf words r) ≡ false → looked words r k here before ≡ before
 unfolding any looked
 looked-apart words zero k here before e =
     let a = neither (eqb k (nextAt words 0)) _ e in
@@ -53,7 +54,7 @@ told words (suc r) k (some u) before v e =
     (λ q''. earlier (rw (q, q', q'') at e))))
 
 -- what is known of record k carries its number
-known-number : (words : List ℕ) (r k : ℕ) (v : Visit) → known words r k ≡ some v → v .number ≡ k
+pub known-number : (words : List ℕ) (r k : ℕ) (v : Visit) → known words r k ≡ some v → v .number ≡ k
 unfolding known
 known-number words zero k v e = never e
 known-number words (suc r) k v e = go (known-number words r k v) (told words r k (known words r r) (known words r k) v e)

@@ -14,11 +14,11 @@ use Rattle.queries.specs.Kind.{any}
 use Rattle.lowering.specs.Tree.{nameKind}
 use Rattle.lowering.specs.Input.{recordWords, recordCount, kindAt, nextAt, childAt, textStartAt, textLengthAt, spanAt, textAt, secondAt, numberAt, treesAt, chainAt, description}
 use Rattle.lowering.specs.Place.{InputPlace, items, fitsAlone, fitsPlaces, depthsOf}
+use Rattle.lowering.specs.Linked.{Link, Links, Linked}
 use Rattle.lowering.specs.Rows.{Verdict, accepted, refused, mostRecords, mostText, mostLinks, wrongSize, linksOf, linkedBelow, badLink, badLinks, rowTwo, badText, rowThree, Visit, visits, visitsFrom, reached, lowestOf, unfit, badHead, rowFour, badName, rowFive, tooDeep, rowSix, orElse, verdict}
 use Rattle.lowering.specs.TwoRuns.{goodName, goodNamesIn}
 use Rattle.lowering.proofs.GoodNames.{never}
 use Rattle.lowering.proofs.Search.{neither, none-of, lowest-none, lowest-of-none}
-use Rattle.lowering.proofs.Input.{Link, Links, Linked}
 
 -- accepted: no row finds anything
 pub record Accepted (words text : List ℕ) : Type 0 where

@@ -18,7 +18,8 @@ use Rattle.lowering.specs.Report.{Got, Made, report}
 use Rattle.lowering.specs.Name.{fullName, nodeNameSpan, labelsOf}
 use Rattle.lowering.specs.Phandle.{lowerPhandle, firstBinding, Resolution, reaches, missing, liveAt, belowLabel, resolve, unresolved}
 use Rattle.lowering.specs.Property.{lowerValues}
-use Rattle.lowering.specs.State.{State, define, bind, emit, apart, dropped, extended, without, unbind}
+use Rattle.log.specs.State.{State, define, bind, emit, apart, dropped, extended}
+use Rattle.lowering.specs.Unbind.{without, unbind}
 use Rattle.lowering.specs.Lower.{Place, at, aside, discarded, nowhere, Placed, byResolution, byTarget, byName, byParts, placeOf, nodeDef, opened, settled, lowerPlaced, lowerNode, namedProperty, lowerProperty, bare, deleteNode, deleteResolved, deleteTarget, deleteReferenced, deleteNamed, lowerDeleteNode, deletePropertyNamed, lowerDirective, lowerAs, lowerItem, lowerItems}
 
 -- two logs: the same, or with a gap

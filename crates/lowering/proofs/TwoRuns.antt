@@ -12,7 +12,7 @@ use Rattle.queries.specs.Kind.{any, setsOverlay}
 use Rattle.queries.specs.Live.{live}
 use Rattle.queries.proofs.Gap.{Gap, gap-within, gap-live, gap-overlay, gap-history}
 use Rattle.lowering.specs.Tree.{Tree, Trees, tree, empty, more, nodeKind}
-use Rattle.lowering.specs.State.{State, start, emit}
+use Rattle.log.specs.State.{State, start, emit}
 use Rattle.lowering.specs.Lower.{Place, at, Placed, placeOf, opened, lowerPlaced, lowerNode, lowerItem, lowerItems, lowered}
 use Rattle.lowering.specs.Post.{atFirst, duplicateLabels, referenceReport, checkTarget, checkCell, checkCells, checkValue, checkValues, checkDef, checkDefs, checkReferences, directivesFrom, checkDirectives, postChecks}
 use Rattle.lowering.specs.TwoRuns.{goodNames, goodNamesIn, Pair, Inserted, here, after, within, Alike, TwoRuns}

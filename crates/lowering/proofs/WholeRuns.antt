@@ -21,7 +21,7 @@ use Rattle.log.proofs.Pinned.{AllStand, no-record, one-record, chain-stands, zi
 use Rattle.queries.specs.Live.{live, isLive, deletes}
 use Rattle.queries.specs.History.{historyFrom, history, definedBy}
 use Rattle.queries.specs.Query.{Answered, liveNumbers, historyNumbers, mainChain, liveAnswers, historyAnswers}
-use Rattle.lowering.specs.State.{State, start}
+use Rattle.log.specs.State.{State, start}
 use Rattle.lowering.specs.Lower.{lowered}
 use Rattle.lowering.specs.Post.{postChecks}
 use Rattle.lowering.specs.Input.{description}

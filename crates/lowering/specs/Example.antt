@@ -10,7 +10,8 @@ use Rattle.queries.specs.Kind.{any, setsOverlay}
 use Rattle.queries.specs.Live.{live, isLive, gone}
 use Rattle.lowering.specs.Tree.{Tree, Trees, tree, empty, more, firstOf, has}
 use Rattle.lowering.specs.Name.{nameOrMacro, fullName, nodeNameSpan, labelsOf}
-use Rattle.lowering.specs.State.{State, define, bind, emit, bindingsBytes, diagsBytes, textsBytes, without, unbind}
+use Rattle.log.specs.State.{State, define, bind, emit, bindingsBytes, diagsBytes, textsBytes}
+use Rattle.lowering.specs.Unbind.{without, unbind}
 use Rattle.lowering.specs.Lower.{lowered, lowerItem, lowerItems, lowerNode, lowerDirective, placeOf, opened, labelTexts}
 use Rattle.lowering.specs.Post.{postChecks, checkDirectives, directivesFrom, checkReferences, checkDefs, duplicateLabels, duplicatesOf}
 

@@ -14,7 +14,8 @@ use Rattle.lowering.specs.Report.{Got, Made, report}
 use Rattle.lowering.specs.Name.{fullName, nodeNameSpan, propertyNameSpan, labelsOf}
 use Rattle.lowering.specs.Phandle.{lowerPhandle, Resolution, reaches, missing, resolve, unresolved}
 use Rattle.lowering.specs.Property.{lowerValues}
-use Rattle.lowering.specs.State.{State, start, define, bind, emit, apart, dropped, extended, unbind}
+use Rattle.log.specs.State.{State, start, define, bind, emit, apart, dropped, extended}
+use Rattle.lowering.specs.Unbind.{unbind}
 
 -- where a node goes: to a path of the log in hand, to a log of its own as what its reference names, to a log of its own that is dropped, or
 -- nowhere, and then "nothing below is lowered"

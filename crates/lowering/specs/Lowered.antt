@@ -11,7 +11,7 @@ use Rattle.log.specs.Record.{outCount}
 use Rattle.log.specs.Written.{Written}
 use Rattle.queries.specs.Query.{Answered}
 use Rattle.lowering.specs.Tree.{Trees}
-use Rattle.lowering.specs.State.{State, diagsBytes}
+use Rattle.log.specs.State.{State, diagsBytes}
 use Rattle.lowering.specs.Lower.{lowered}
 use Rattle.lowering.specs.Post.{postChecks}
 use Rattle.lowering.specs.Input.{description}

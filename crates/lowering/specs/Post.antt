@@ -9,7 +9,7 @@ use Rattle.queries.specs.Kind.{any, setsOverlay}
 use Rattle.queries.specs.Live.{live}
 use Rattle.lowering.specs.Report.{report}
 use Rattle.lowering.specs.Phandle.{Resolution, reaches, missing, resolve}
-use Rattle.lowering.specs.State.{State}
+use Rattle.log.specs.State.{State}
 
 -- code 20, at a further binding of a label whose first remaining binding is b
 abbrev pub duplicate : Binding → Binding → Diag

@@ -17,7 +17,8 @@ use Rattle.lowering.specs.Report.{report, Made}
 use Rattle.lowering.specs.Name.{nameOrMacro, fullName, nodeNameSpan, propertyNameSpan, labelsOf}
 use Rattle.lowering.specs.Phandle.{lowerPhandle, resolve, firstBinding}
 use Rattle.lowering.specs.Property.{lowerValues, lowerValue, lowerCells, lowerCell}
-use Rattle.lowering.specs.State.{State, define, bind, emit, unbind, without, apart, dropped, extended, bindingsBytes, diagsBytes, textsBytes}
+use Rattle.log.specs.State.{State, define, bind, emit, apart, dropped, extended, bindingsBytes, diagsBytes, textsBytes}
+use Rattle.lowering.specs.Unbind.{unbind, without}
 use Rattle.lowering.specs.Lower.{lowered, lowerItem, lowerItems, lowerNode, lowerProperty, lowerDirective, lowerDeleteNode, deleteNode, placeOf, opened, labelTexts}
 use Rattle.lowering.specs.Example.{span, part}
 

@@ -16,7 +16,7 @@ use Rattle.queries.specs.History.{history}
 use Rattle.lowering.specs.Tree.{Tree, Trees, tree, empty, more, kindOf, wOf, childrenOf, firstOf, has, nodeKind, directiveKind, nameKind, unitAddressKind, referenceKind, slashKind}
 use Rattle.lowering.specs.Report.{Got}
 use Rattle.lowering.specs.Name.{fullName}
-use Rattle.lowering.specs.State.{State, start, emit}
+use Rattle.log.specs.State.{State, start, emit}
 use Rattle.lowering.specs.Lower.{Placed, Place, at, placeOf, opened, lowerItem, lowered}
 use Rattle.lowering.specs.Post.{postChecks}
 

@@ -15,7 +15,8 @@ use Rattle.lowering.specs.Tree.{Tree, Trees, tree, empty, more, firstOf,
 use Rattle.lowering.specs.Name.{nameOrMacro, fullName, nodeNameSpan, propertyNameSpan, labelsOf}
 use Rattle.lowering.specs.Phandle.{lowerPhandle, resolve, firstBinding}
 use Rattle.lowering.specs.Property.{lowerValues}
-use Rattle.lowering.specs.State.{State, start, define, bind, emit, bindingsBytes, diagsBytes, textsBytes, valuesRecords, valuesBytes, without, unbind, dropped, apart, extended}
+use Rattle.log.specs.State.{State, start, define, bind, emit, bindingsBytes, diagsBytes, textsBytes, valuesRecords, valuesBytes, dropped, apart, extended}
+use Rattle.lowering.specs.Unbind.{without, unbind}
 use Rattle.lowering.specs.Lower.{lowered, lowerItem, lowerItems, lowerNode, lowerProperty, lowerDirective, lowerDeleteNode, deleteNode, placeOf, opened, labelTexts}
 use Rattle.lowering.specs.TwoRuns.{goodNames, goodNamesIn, plainName, quietDirective, quiet, quietIn, Names, Pair, Inserted, here, after, within}
 use Rattle.lowering.specs.Example.{span, part}

@@ -12,7 +12,7 @@ use Rattle.log.specs.Record.{firstExt, firstBind, firstDiag, firstPost}
 use Rattle.log.specs.ReadBack.{chainOf}
 use Rattle.log.specs.Alike.{Words32, AlikeWords, AlikeAll, AlikeDef, AlikeExt}
 use Rattle.queries.specs.Query.{Answered, liveAnswers, historyAnswers}
-use Rattle.lowering.specs.State.{start}
+use Rattle.log.specs.State.{start}
 use Rattle.lowering.specs.Input.{description}
 use Rattle.lowering.specs.Lowered.{Lowered}
 use Rattle.lowering.specs.TwoRuns.{Inserted}

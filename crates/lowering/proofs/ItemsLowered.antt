@@ -1,0 +1,67 @@
+-- Items of a chain lowered one after the other, and one item by its kind.
+use Prim.Native.Nat.{ℕ, _≤_, _<_}
+use mathlib.Core.Path.{_≡_, refl, sym, ap, subst, _∙_}
+use mathlib.Core.Bool.{Bool, true, false, cond}
+use mathlib.Core.List.{List, []}
+use borrow.Author.Tests.{eq-eqb, ne-eqb}
+use Rattle.paths_numbers.proofs.Texts.{both}
+use Rattle.log.specs.declared.ctx.LowerCtx.{LowerCtx}
+use Rattle.log.specs.declared.place.PathAt.{PathAt}
+use Rattle.log.specs.State.{State}
+use Rattle.log.specs.Represents.{Context, withPlace, Represents}
+use Rattle.lowering.specs.Tree.{Tree, Trees, tree, empty, more}
+use Rattle.lowering.specs.Lower.{lowerItem, lowerItems}
+use Rattle.lowering.specs.Input.{recordCount, nextAt, chainAt, recordAt}
+use Rattle.lowering.specs.TwoRuns.{goodNames, goodNamesIn}
+use Rattle.lowering.specs.Linked.{Linked, RecordIn, ChainIn}
+use Rattle.lowering.specs.Lowers.{LowersAt}
+use Rattle.lowering.proofs.Input.{chain-none, chain-more}
+use Rattle.lowering.proofs.Read.{chain-first, chain-next}
+
+-- the items before record r are lowered: with the rest's it is what the whole chain does
+pub record ItemsTo (parent : PathAt) (c d : LowerCtx) (words bytes w b input text : List ℕ) (first level r : ℕ) : Type 0 where
+  pub chain : ChainIn input text r level
+  pub good : goodNamesIn (chainAt input text r) ≡ true
+  pub done : List ℕ → State → State
+  pub lowers : LowersAt parent c d words bytes w b done
+  pub whole : (p : List ℕ) (s : State) → lowerItems (chainAt input text r) p (done p s) ≡ lowerItems (chainAt input text first) p s
+
+pub items-start : {parent : PathAt} {c : LowerCtx} {words bytes : List ℕ} (input text : List ℕ) (first level : ℕ) → ChainIn input text first level → goodNamesIn (chainAt input text first) ≡ true
+    → ItemsTo parent c c words bytes words bytes input text first level first
+items-start input text first level h g =
+    record { chain = h; good = g; done = λ p s. s; lowers = record { lowers = λ k p s r. r }; whole = λ p s. refl }
+
+module _ {parent : PathAt} {c d : LowerCtx} {words bytes w b input text : List ℕ} {first level r : ℕ} (l : Linked input) (h : ItemsTo parent c d words bytes w b input text first level r) where
+  pub items-whole : r ≡ 0 → LowersAt parent c d words bytes w b (λ p s. lowerItems (chainAt input text first) p s)
+  unfolding lowerItems
+  items-whole e =
+      record {
+        lowers = λ k p s m.
+            subst (λ (u : State). Represents (withPlace (record { at = parent; path = p }) k) d w b u)
+            (ap (λ (ts : Trees). lowerItems ts p (h .done p s)) (sym (chain-none input text) ∙ ap (chainAt input text) (sym e)) ∙ h .whole p s)
+            (h .lowers .lowers k p s m);
+      }
+
+  module _ (n : r ≡ 0 → ⊥) where
+    split : goodNamesIn (more (recordAt input text r) (chainAt input text (nextAt input r))) ≡ true
+    split = rw (sym (chain-more input l text r n (h .chain .at n))) (h .good)
+
+    pub item-good : goodNames (recordAt input text r) ≡ true
+    unfolding goodNamesIn
+    item-good = both (goodNames (recordAt input text r)) _ split .0
+
+    rest-good : goodNamesIn (chainAt input text (nextAt input r)) ≡ true
+    unfolding goodNamesIn
+    rest-good = both (goodNames (recordAt input text r)) _ split .1
+
+    pub items-more : {e : LowerCtx} {v u : List ℕ} → LowersAt parent d e w b v u (λ p s. lowerItem (recordAt input text r) p s)
+        → ItemsTo parent c e words bytes v u input text first level (nextAt input r)
+    unfolding lowerItems
+    items-more m =
+        record {
+          chain = chain-next input text l r level (h .chain) n;
+          good = rest-good;
+          done = λ p s. lowerItem (recordAt input text r) p (h .done p s);
+          lowers = record { lowers = λ k p s x. m .lowers k p (h .done p s) (h .lowers .lowers k p s x) };
+          whole = λ p s. ap (λ (ts : Trees). lowerItems ts p (h .done p s)) (sym (chain-more input l text r n (h .chain .at n))) ∙ h .whole p s;
+        }

@@ -1,0 +1,19 @@
+-- A state that ran short stays so, whatever goes on around it and whatever is lowered: the need only grows.
+use Prim.Native.Nat.{ℕ}
+use mathlib.Core.Path.{_≡_, refl}
+use mathlib.Core.Bool.{true}
+use mathlib.Core.List.{List}
+use Rattle.log.specs.declared.ctx.LowerCtx.{LowerCtx}
+use Rattle.log.specs.declared.place.PathAt.{PathAt}
+use Rattle.log.specs.State.{State}
+use Rattle.log.specs.Represents.{Context, Represents, over}
+use Rattle.lowering.specs.Lowers.{LowersAt}
+use Rattle.lowering.proofs.Lowers.{Grows, need-of, stays-over}
+
+pub short-anywhere : {k l : Context} {c : LowerCtx} {words bytes : List ℕ} {s : State} → c .short ≡ true → Represents k c words bytes s → Represents l c words bytes s
+short-anywhere z m = over z (need-of m z)
+
+pub short-lowers : {parent : PathAt} {c : LowerCtx} {words bytes : List ℕ} {f : List ℕ → State → State} → ((p : List ℕ) → Grows (f p)) → c .short ≡ true
+    → LowersAt parent c c words bytes words bytes f
+short-lowers {f = f} g z =
+    record { lowers = λ k p s r. stays-over (f p s) (λ y. (y, refl, refl)) z (g p .records s) (g p .bytes s) r }

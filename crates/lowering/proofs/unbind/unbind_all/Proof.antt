@@ -1,0 +1,36 @@
+-- A walk along all bindings (Unbinding).
+use Rattle.lowering.proofs.Unbinding.{walk-start, unbinds-all}
+use mathlib.Core.List.{[]}
+use borrow.Author.Needs.{needs}
+use Rattle.lowering.proofs.unbind.unbind_all.Statement.{statement}
+use Rattle.lowering.proofs.unbind.unbind_all.Tie as tie
+use Rattle.lowering.proofs.unbind.unbind_all.Reads as reads
+use Rattle.lowering.proofs.unbind.unbind_all.Lts as lts
+use Rattle.log.proofs.record.log_count.Reads as log-count-reads
+use Rattle.lowering.proofs.unbind.unbind.Reads as unbind-reads
+
+-- src/unbind.rt:217:9
+log-count-requires : tie.Need-log-count-requires
+log-count-requires c κs = search needs
+
+-- src/unbind.rt:218:9
+unbind-requires : tie.Need-unbind-requires
+unbind-requires c κs = search needs
+
+-- src/unbind.rt:206:1
+same-length : tie.Need-same-length
+same-length c = search needs
+
+-- src/unbind.rt:206:1
+same-length-2 : tie.Need-same-length-2
+same-length-2 c = search needs
+
+-- src/unbind.rt:206:1
+returns : tie.Need-returns
+returns c =
+    let u = c .before .before .before .before .before .unbind .ensures in
+    record { unbinds = λ k s p h n at. let o = u .walks k s [] p (walk-start h n (c .before .before .before .before .before .before .before .before .log-count .ensures) at) in (unbinds-all o (u .ends), o .going) }
+
+pub unbind-all-spec : {M : Type 1} → statement M
+unbind-all-spec =
+    tie.close (tie.spec log-count-requires unbind-requires same-length same-length-2 returns)

@@ -1,0 +1,40 @@
+-- Where the code puts a node before its body is lowered, and what the log says then.
+use Prim.Native.Nat.{ℕ}
+use mathlib.Core.Path.{_≡_}
+use mathlib.Core.Bool.{Bool, true, false}
+use mathlib.Core.List.{List, []}
+use Rattle.paths_numbers.specs.Text.{isEmpty}
+use Rattle.log.specs.declared.ctx.LowerCtx.{LowerCtx}
+use Rattle.log.specs.declared.place.PathAt.{PathAt}
+use Rattle.log.specs.Meaning.{Span}
+use Rattle.log.specs.Recs.{targetMade}
+use Rattle.log.specs.State.{State, emit}
+use Rattle.log.specs.Represents.{Context, withPlace, Represents}
+use Rattle.queries.specs.Kind.{setsOverlay}
+use Rattle.lowering.specs.Tree.{Trees}
+use Rattle.lowering.specs.Lower.{at, aside, discarded, nowhere, Placed, opened}
+use Rattle.lowering.specs.Input.{spanAt}
+use Rattle.lowering.specs.PhandleRead.{labelAt, pathAt}
+use Rattle.lowering.specs.PropertyMade.{isTop}
+use Rattle.lowering.specs.declared.dt_node.NodePlace.{NodePlace}
+use Rattle.lowering.specs.declared.dt_node.NodePlace.the-variants as N
+use Rattle.lowering.specs.declared.dt_node.PlacedNode.{PlacedNode}
+
+-- a log that said s: what is reported is made, and a node that goes to a path is opened there
+abbrev pub PlacedTo : Context → List ℕ → List ℕ → List ℕ → List ℕ → Trees → Span → State → LowerCtx → Placed → NodePlace → Type 0
+PlacedTo k w b input text parts span s d l (N.At place) =
+    (q : List ℕ) × (l .place ≡ at q) × Represents (withPlace (record { at = place; path = q }) k) d w b (opened q parts span (emit (l .reports) s))
+PlacedTo k w b input text parts span s d l (N.Aside r kind keeps) =
+    (l .place ≡ aside (targetMade kind (labelAt input text r) (pathAt input text r)) (spanAt input r)) × (keeps ≡ setsOverlay (s .defs)) × Represents k d w b (emit (l .reports) s)
+PlacedTo k w b input text parts span s d l N.Discarded = (l .place ≡ discarded) × Represents k d w b (emit (l .reports) s)
+PlacedTo k w b input text parts span s d l N.Nowhere = (l .place ≡ nowhere) × Represents k d w b (emit (l .reports) s)
+
+-- from state c, under a path, of which it is known whether it is the empty one
+pub record Places (parent : PathAt) (c : LowerCtx) (words bytes w b input text : List ℕ) (parts : Trees) (span : Span) (l : List ℕ → Placed) (v : PlacedNode) : Type 0 where
+  pub places : (k : Context) (p : List ℕ) (s : State) → isTop parent ≡ isEmpty p → Represents (withPlace (record { at = parent; path = p }) k) c words bytes s
+      → PlacedTo (withPlace (record { at = parent; path = p }) k) w b input text parts span s (v .ctx) (l p) (v .node)
+
+-- from a state that did not run short: what the log says decides
+pub record PlacesIn (parent : PathAt) (c : LowerCtx) (words bytes w b input text : List ℕ) (parts : Trees) (span : Span) (l : List ℕ → State → Placed) (v : PlacedNode) : Type 0 where
+  pub places : (k : Context) (p : List ℕ) (s : State) → c .short ≡ false → Represents (withPlace (record { at = parent; path = p }) k) c words bytes s
+      → PlacedTo (withPlace (record { at = parent; path = p }) k) w b input text parts span s (v .ctx) (l p s) (v .node)

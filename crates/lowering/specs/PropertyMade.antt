@@ -1,0 +1,26 @@
+-- A property made before its values.
+use Prim.Native.Nat.{ℕ}
+use mathlib.Core.Bool.{Bool, false, cond}
+use mathlib.Core.List.{List, []}
+use lib.Dec.{eqb}
+use Rattle.paths_numbers.specs.Path.{joined}
+use Rattle.log.specs.declared.place.PathAt.{PathAt}
+use Rattle.log.specs.Meaning.{property, Def}
+use Rattle.lowering.specs.Name.{propertyNameSpan}
+use Rattle.lowering.specs.Input.{childAt, spanAt, chainAt}
+use Rattle.lowering.specs.NameRead.{nameText}
+use Rattle.lowering.specs.declared.name.FullName.{FullName}
+
+-- whether a place is that of the empty path
+abbrev pub isTop : PathAt → Bool
+isTop p = cond (p .root) false (eqb (p .size) 0)
+
+-- the property of record r with a name under a path, without values
+unfoldable pub propertyAt : List ℕ → List ℕ → ℕ → FullName → List ℕ → Def
+propertyAt words text r f p =
+    record {
+      path = joined p (nameText words text (f .name)) (nameText words text (f .unit));
+      value = property [];
+      span = spanAt words r;
+      nameSpan = propertyNameSpan (chainAt words text (childAt words r)) (spanAt words r);
+    }

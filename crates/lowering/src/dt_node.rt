@@ -1,0 +1,355 @@
+// Nodes of a description (dt_node.rs): their definitions and labels.
+ghost use mathlib.Core.Path.{_≡_};
+ghost use mathlib.Core.Bool.{true};
+ghost use mathlib.Core.List.{List, [], _∷_};
+ghost use mathlib.Core.Option.{some};
+ghost use Prim.Native.Nat.{ℕ, _<_};
+ghost use Rattle.paths_numbers.specs.Path.{root, joined};
+ghost use Rattle.log.specs.declared.place.PathAt.{PathAt};
+ghost use Rattle.log.specs.Meaning.{node};
+ghost use Rattle.log.specs.Recs.{bareValue, targetMade};
+ghost use Rattle.log.specs.State.{emit};
+ghost use Rattle.lowering.specs.Tree.{has, omitKind};
+ghost use Rattle.lowering.specs.Report.{report};
+ghost use Rattle.lowering.specs.Name.{nameOrMacro, fullName, nodeNameSpan, labelled, labelsOf};
+ghost use Rattle.lowering.specs.Lower.{placedAs, byName};
+ghost use Rattle.lowering.specs.TwoRuns.{goodNamesIn};
+ghost use Rattle.lowering.specs.Input.{recordCount, childAt, spanAt, chainAt, recordAt};
+ghost use Rattle.lowering.specs.Linked.{Linked, At};
+ghost use Rattle.lowering.specs.Lowers.{Lowers};
+ghost use Rattle.lowering.specs.NameRead.{nameText, FullNameRead};
+ghost use Rattle.lowering.specs.Labelled.{LabelsAt};
+ghost use Rattle.lowering.specs.Opened.{Opens, OpensAt};
+ghost use Rattle.lowering.specs.PropertyMade.{isTop};
+ghost use Rattle.lowering.specs.NodePlaced.{Places};
+ghost use Rattle.lowering.specs.NodeLowered.{Settles};
+ghost use Rattle.lowering.specs.PhandleRead.{labelAt, pathAt};
+use crate::kinds::LABEL;
+use crate::kinds::OMIT;
+use crate::kinds::SLASH;
+use crate::name::FullName;
+use crate::name::NameOrMacro;
+use crate::name::full_name;
+use crate::name::is_named;
+use crate::name::name_or_macro;
+use crate::name::name_text;
+use crate::name::node_name_span;
+use crate::phandle::phandle_label_at;
+use crate::phandle::phandle_path_at;
+use crate::record::child_at;
+use crate::record::has_kind;
+use crate::record::kind_at;
+use crate::record::next_at;
+use crate::record::span_at;
+use crate::record::text_at;
+use crate::report::emit_name;
+use crate::report::undefined_macro;
+use log::ctx::LowerCtx;
+use log::place::PathAt;
+use log::recs::DefKind;
+use log::recs::Span;
+use log::recs::TargetKind;
+
+// The codes of a subnode outside a node, and of a root inside one.
+const OUTSIDE_NODE: u32 = 5;
+
+const ROOT_INSIDE: u32 = 6;
+
+// A label of a node whose path stands at a place: added to the node's definition and bound.
+fn lower_label(
+    words: &[u32],
+    text: &[u8],
+    r: u32,
+    place: PathAt,
+    out: &mut [u32],
+    bytes: &mut [u8],
+    ctx: LowerCtx,
+) -> LowerCtx
+    requires { ⌜ Linked (now words) ⌝ }
+    requires { ⌜ r < recordCount (now words) ⌝ }
+    ensures { λ d. ⌜ LabelsAt place ctx d (now (out .entry)) (now (bytes .entry)) (now (out .exit)) (now (bytes .exit)) (λ (p : List ℕ). labelled p (recordAt (now (words .entry)) (now (text .entry)) r) (nameOrMacro (chainAt (now (words .entry)) (now (text .entry)) (childAt (now (words .entry)) r)))) ⌝ }
+{
+    match name_or_macro(words, child_at(words, r)) {
+        NameOrMacro::Name(n) => {
+            let label = text_at(words, text, n);
+            let span = span_at(words, r);
+            let added = ctx.add_label(out, bytes, label);
+            added.bind(out, bytes, label, place, span)
+        }
+        NameOrMacro::Macro(m) => undefined_macro(words, text, m, out, bytes, ctx),
+        NameOrMacro::Nothing => ctx,
+    }
+}
+
+// The labels of a node among its parts.
+pub fn collect_labels(
+    words: &[u32],
+    text: &[u8],
+    parts: u32,
+    place: PathAt,
+    out: &mut [u32],
+    bytes: &mut [u8],
+    ctx: LowerCtx,
+) -> LowerCtx
+    requires { ⌜ Linked (now words) ⌝ }
+    requires { ⌜ At (now words) parts ⌝ }
+    ensures { λ d. ⌜ LabelsAt place ctx d (now (out .entry)) (now (bytes .entry)) (now (out .exit)) (now (bytes .exit)) (λ (p : List ℕ). labelsOf p (chainAt (now (words .entry)) (now (text .entry)) parts)) ⌝ }
+{
+    let mut state = ctx;
+    let mut r = parts;
+    while r != 0 {
+        if kind_at(words, r) == LABEL {
+            state = lower_label(words, text, r, place, out, bytes, state);
+        }
+        r = next_at(words, r);
+    }
+    state
+}
+
+// A node whose definition is made: where its path stands.
+pub struct Opened {
+    pub place: PathAt,
+    pub ctx: LowerCtx,
+}
+
+// The labels of a node whose definition was made just before.
+fn open_node(
+    words: &[u32],
+    text: &[u8],
+    parts: u32,
+    out: &mut [u32],
+    bytes: &mut [u8],
+    made: LowerCtx,
+) -> Opened
+    requires { ⌜ Linked (now words) ⌝ }
+    requires { ⌜ At (now words) parts ⌝ }
+    ensures { λ o. ⌜ Opens made (now (out .entry)) (now (bytes .entry)) (now (out .exit)) (now (bytes .exit)) (chainAt (now (words .entry)) (now (text .entry)) parts) o ⌝ }
+{
+    let place = made.newest_path(out);
+    let labelled = collect_labels(words, text, parts, place, out, bytes, made);
+    Opened {
+        place: place,
+        ctx: labelled,
+    }
+}
+
+// The kind of a node's definition.
+fn node_kind(words: &[u32], parts: u32) -> DefKind
+    requires { ⌜ Linked (now words) ⌝ }
+    requires { ⌜ At (now words) parts ⌝ }
+    ensures { λ k. ⌜ ((text : List ℕ) → bareValue k ≡ node [] (has omitKind (chainAt (now (words .entry)) text parts))) ⌝ }
+{
+    if has_kind(words, parts, OMIT) {
+        return DefKind::OmittedNode;
+    }
+    DefKind::Node
+}
+
+// Opens the node of record r at the path of its name under its parent's.
+fn define_below(
+    words: &[u32],
+    text: &[u8],
+    r: u32,
+    full: FullName,
+    parent: PathAt,
+    out: &mut [u32],
+    bytes: &mut [u8],
+    ctx: LowerCtx,
+) -> Opened
+    requires { ⌜ Linked (now words) ⌝ }
+    requires { ⌜ r < recordCount (now words) ⌝ }
+    ensures { λ o. ⌜ OpensAt parent ctx (now (out .entry)) (now (bytes .entry)) (now (out .exit)) (now (bytes .exit)) (chainAt (now (words .entry)) (now (text .entry)) (childAt (now (words .entry)) r)) (spanAt (now (words .entry)) r) (λ (p : List ℕ). joined p (nameText (now (words .entry)) (now (text .entry)) (full .name)) (nameText (now (words .entry)) (now (text .entry)) (full .unit))) o ⌝ }
+{
+    let parts = child_at(words, r);
+    let kind = node_kind(words, parts);
+    let span = span_at(words, r);
+    let name_span = node_name_span(words, parts, span);
+    let name = full.name;
+    let unit = full.unit;
+    let name_of = name_text(words, text, name);
+    let unit_of = name_text(words, text, unit);
+    let made = ctx.define(out, bytes, kind, span, name_span, parent, name_of, unit_of);
+    open_node(words, text, parts, out, bytes, made)
+}
+
+// Opens the node of record r at a path.
+fn define_there(
+    words: &[u32],
+    text: &[u8],
+    r: u32,
+    path: &[u8],
+    out: &mut [u32],
+    bytes: &mut [u8],
+    ctx: LowerCtx,
+) -> Opened
+    requires { ⌜ Linked (now words) ⌝ }
+    requires { ⌜ r < recordCount (now words) ⌝ }
+    ensures { λ o. ⌜ ((parent : PathAt) → OpensAt parent ctx (now (out .entry)) (now (bytes .entry)) (now (out .exit)) (now (bytes .exit)) (chainAt (now (words .entry)) (now (text .entry)) (childAt (now (words .entry)) r)) (spanAt (now (words .entry)) r) (λ (p : List ℕ). now (path .entry)) o) ⌝ }
+{
+    let parts = child_at(words, r);
+    let kind = node_kind(words, parts);
+    let span = span_at(words, r);
+    let name_span = node_name_span(words, parts, span);
+    let made = ctx.define_text(out, bytes, kind, span, name_span, path);
+    open_node(words, text, parts, out, bytes, made)
+}
+
+// Where a node goes before its body is lowered: to the place of its path; to a log of its own for the
+// reference of a record, of this kind, and whether that log is kept; to a log that is dropped; or
+// nowhere, and then nothing below is lowered.
+pub enum NodePlace {
+    At(PathAt),
+    Aside(u32, TargetKind, bool),
+    Discarded,
+    Nowhere,
+}
+
+pub struct PlacedNode {
+    pub node: NodePlace,
+    pub ctx: LowerCtx,
+}
+
+// Opens or refuses the node of record r by its name.
+pub fn place_by_name(
+    words: &[u32],
+    text: &[u8],
+    r: u32,
+    parent: PathAt,
+    out: &mut [u32],
+    bytes: &mut [u8],
+    ctx: LowerCtx,
+) -> PlacedNode
+    requires { ⌜ Linked (now words) ⌝ }
+    requires { ⌜ r < recordCount (now words) ⌝ }
+    requires { ⌜ goodNamesIn (chainAt (now words) (now text) (childAt (now words) r)) ≡ true ⌝ }
+    ensures { λ v. ⌜ Places parent ctx (now (out .entry)) (now (bytes .entry)) (now (out .exit)) (now (bytes .exit)) (now (words .entry)) (now (text .entry)) (chainAt (now (words .entry)) (now (text .entry)) (childAt (now (words .entry)) r)) (spanAt (now (words .entry)) r) (λ p. byName p (chainAt (now (words .entry)) (now (text .entry)) (childAt (now (words .entry)) r)) (nodeNameSpan (chainAt (now (words .entry)) (now (text .entry)) (childAt (now (words .entry)) r)) (spanAt (now (words .entry)) r)) (fullName (chainAt (now (words .entry)) (now (text .entry)) (childAt (now (words .entry)) r)) .reports) (fullName (chainAt (now (words .entry)) (now (text .entry)) (childAt (now (words .entry)) r)) .result)) v ⌝ }
+{
+    let parts = child_at(words, r);
+    let full = full_name(words, parts);
+    let reported = emit_name(words, text, full, out, bytes, ctx);
+    if is_named(full) {
+        return place_below(words, text, r, full, parent, out, bytes, reported);
+    }
+    if has_kind(words, parts, SLASH) {
+        return place_root(words, text, r, parent, out, bytes, reported);
+    }
+    PlacedNode {
+        node: NodePlace::Discarded,
+        ctx: reported,
+    }
+}
+
+// A node with a name: under its parent, which is not the top.
+fn place_below(
+    words: &[u32],
+    text: &[u8],
+    r: u32,
+    full: FullName,
+    parent: PathAt,
+    out: &mut [u32],
+    bytes: &mut [u8],
+    ctx: LowerCtx,
+) -> PlacedNode
+    requires { ⌜ Linked (now words) ⌝ }
+    requires { ⌜ r < recordCount (now words) ⌝ }
+    requires { ⌜ FullNameRead (now words) (childAt (now words) r) full ⌝ }
+    requires { ⌜ goodNamesIn (chainAt (now words) (now text) (childAt (now words) r)) ≡ true ⌝ }
+    ensures { λ v. ⌜ ((n : List ℕ) → fullName (chainAt (now (words .entry)) (now (text .entry)) (childAt (now (words .entry)) r)) .result ≡ some n → Places parent ctx (now (out .entry)) (now (bytes .entry)) (now (out .exit)) (now (bytes .exit)) (now (words .entry)) (now (text .entry)) (chainAt (now (words .entry)) (now (text .entry)) (childAt (now (words .entry)) r)) (spanAt (now (words .entry)) r) (λ p. placedAs p n (nodeNameSpan (chainAt (now (words .entry)) (now (text .entry)) (childAt (now (words .entry)) r)) (spanAt (now (words .entry)) r)) []) v) ⌝ }
+{
+    if is_top(parent) {
+        return PlacedNode {
+            node: NodePlace::Nowhere,
+            ctx: refuse_node(words, r, OUTSIDE_NODE, out, bytes, ctx),
+        };
+    }
+    let node = define_below(words, text, r, full, parent, out, bytes, ctx);
+    let place = node.place;
+    let labelled = node.ctx;
+    PlacedNode {
+        node: NodePlace::At(place),
+        ctx: labelled,
+    }
+}
+
+// A node with a slash: the root, on top.
+fn place_root(
+    words: &[u32],
+    text: &[u8],
+    r: u32,
+    parent: PathAt,
+    out: &mut [u32],
+    bytes: &mut [u8],
+    ctx: LowerCtx,
+) -> PlacedNode
+    requires { ⌜ Linked (now words) ⌝ }
+    requires { ⌜ r < recordCount (now words) ⌝ }
+    ensures { λ v. ⌜ Places parent ctx (now (out .entry)) (now (bytes .entry)) (now (out .exit)) (now (bytes .exit)) (now (words .entry)) (now (text .entry)) (chainAt (now (words .entry)) (now (text .entry)) (childAt (now (words .entry)) r)) (spanAt (now (words .entry)) r) (λ p. placedAs p root (nodeNameSpan (chainAt (now (words .entry)) (now (text .entry)) (childAt (now (words .entry)) r)) (spanAt (now (words .entry)) r)) []) v ⌝ }
+{
+    if !is_top(parent) {
+        return PlacedNode {
+            node: NodePlace::Nowhere,
+            ctx: refuse_node(words, r, ROOT_INSIDE, out, bytes, ctx),
+        };
+    }
+    let root = [b'/'];
+    let node = define_there(words, text, r, &root, out, bytes, ctx);
+    let place = node.place;
+    let labelled = node.ctx;
+    PlacedNode {
+        node: NodePlace::At(place),
+        ctx: labelled,
+    }
+}
+
+// Reports a code at a node's name.
+fn refuse_node(
+    words: &[u32],
+    r: u32,
+    code: u32,
+    out: &mut [u32],
+    bytes: &mut [u8],
+    ctx: LowerCtx,
+) -> LowerCtx
+    requires { ⌜ Linked (now words) ⌝ }
+    requires { ⌜ r < recordCount (now words) ⌝ }
+    ensures { λ d. ⌜ ((text : List ℕ) → Lowers ctx d (now (out .entry)) (now (bytes .entry)) (now (out .exit)) (now (bytes .exit)) (emit (report code [] (nodeNameSpan (chainAt (now (words .entry)) text (childAt (now (words .entry)) r)) (spanAt (now (words .entry)) r)) ∷ []))) ⌝ }
+{
+    let none: [u8; 0] = [];
+    let span = node_name_span(words, child_at(words, r), span_at(words, r));
+    ctx.emit(out, bytes, code, &none, span, Span { from: 0, to: 0 })
+}
+
+// Whether a path is that of the top, the empty one.
+fn is_top(path: PathAt) -> bool
+    ensures { λ t. ⌜ t ≡ isTop path ⌝ }
+{
+    if path.root {
+        return false;
+    }
+    path.size == 0
+}
+
+// After a body in a log of its own: kept as an extension for its reference, or dropped.
+pub fn settle_aside(
+    words: &[u32],
+    text: &[u8],
+    r: u32,
+    reference: u32,
+    kind: TargetKind,
+    keeps: bool,
+    out: &mut [u32],
+    bytes: &mut [u8],
+    body: LowerCtx,
+    outer: LowerCtx,
+) -> LowerCtx
+    ensures { λ d. ⌜ Settles body d outer keeps (now (out .entry)) (now (bytes .entry)) (now (out .exit)) (now (bytes .exit)) (targetMade kind (labelAt (now (words .entry)) (now (text .entry)) reference) (pathAt (now (words .entry)) (now (text .entry)) reference)) (spanAt (now (words .entry)) r) (spanAt (now (words .entry)) reference) ⌝ }
+{
+    if keeps {
+        let span = span_at(words, r);
+        let name_span = span_at(words, reference);
+        let label = phandle_label_at(words, text, reference);
+        let path = phandle_path_at(words, text, reference);
+        return body.leave_kept(out, bytes, outer, span, name_span, kind, label, path);
+    }
+    body.leave_dropped(out, bytes, outer)
+}
