@@ -1,0 +1,59 @@
+// The definition log for C, on numbers and slices; include/definition_log.h declares these functions.
+// Each calls one function of the crate below and hands its answer over.
+ghost use mathlib.Core.Path.{_≡_};
+ghost use lib.ListN.{length};
+ghost use Rattle.queries.specs.Query.{queryAnswer, queryOut, liveAnswers, historyAnswers, containsAnswer};
+ghost use Rattle.definition_log_c.specs.Told.{told};
+use queries::query::contains_node;
+use queries::query::history;
+use queries::query::iter_live_defs_under;
+
+// 01's number and what is returned with it.
+#[repr(C)]
+pub struct DlAnswer {
+    pub number: u32,
+    pub returned: u32,
+}
+
+// The live definitions under a base, latest first, by their record numbers.
+#[no_mangle]
+pub extern "C" fn dl_iter_live_defs_under(
+    words: &[u32],
+    bytes: &[u8],
+    base: &[u8],
+    list: &mut [u32],
+) -> DlAnswer
+    ensures { λ r. ⌜ told r ≡ queryAnswer (now (words .entry)) (now (bytes .entry)) (now (base .entry)) (length (now (list .entry))) (liveAnswers (now (words .entry)) (now (bytes .entry)) (now (base .entry))) ⌝ }
+    ensures { λ _. ⌜ now (list .exit) ≡ queryOut (now (words .entry)) (now (bytes .entry)) (now (base .entry)) (now (list .entry)) (liveAnswers (now (words .entry)) (now (bytes .entry)) (now (base .entry))) ⌝ }
+{
+    let live = iter_live_defs_under(words, bytes, base, list);
+    DlAnswer {
+        number: live.number,
+        returned: live.returned,
+    }
+}
+
+// The history of a path, earliest first, by record numbers.
+#[no_mangle]
+pub extern "C" fn dl_history(words: &[u32], bytes: &[u8], path: &[u8], list: &mut [u32]) -> DlAnswer
+    ensures { λ r. ⌜ told r ≡ queryAnswer (now (words .entry)) (now (bytes .entry)) (now (path .entry)) (length (now (list .entry))) (historyAnswers (now (words .entry)) (now (bytes .entry)) (now (path .entry))) ⌝ }
+    ensures { λ _. ⌜ now (list .exit) ≡ queryOut (now (words .entry)) (now (bytes .entry)) (now (path .entry)) (now (list .entry)) (historyAnswers (now (words .entry)) (now (bytes .entry)) (now (path .entry))) ⌝ }
+{
+    let listed = history(words, bytes, path, list);
+    DlAnswer {
+        number: listed.number,
+        returned: listed.returned,
+    }
+}
+
+// Whether a node is live at a path: returns 1 or 0.
+#[no_mangle]
+pub extern "C" fn dl_contains_node(words: &[u32], bytes: &[u8], path: &[u8]) -> DlAnswer
+    ensures { λ r. ⌜ told r ≡ containsAnswer (now (words .entry)) (now (bytes .entry)) (now (path .entry)) ⌝ }
+{
+    let found = contains_node(words, bytes, path);
+    DlAnswer {
+        number: found.number,
+        returned: found.returned,
+    }
+}

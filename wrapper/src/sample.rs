@@ -1,0 +1,50 @@
+//! A small log, to try things on: that of the description
+//!
+//! ```text
+//! /dts-v1/;
+//! / { a: b { }; };
+//! / { p; c { q; }; /delete-node/ c; };
+//! ```
+//!
+//! ```
+//! use definition_log::sample;
+//!
+//! let log = sample::log();
+//! assert!(log.contains_node("/b")?);
+//! assert!(!log.contains_node("/c")?);
+//! # Ok::<(), definition_log::QueryError>(())
+//! ```
+
+use crate::Log;
+
+/// Its texts, one behind the other.
+const BYTES: &[u8] = b"//baa/b//p/c/c/q/c";
+
+/// Its records: kind, next, text, second text, child, N, M, span, name span, zeros. Record 0 has the
+/// records used, the first definition, extension, binding, diagnostic, the bytes used, and the first
+/// post-check diagnostic.
+#[rustfmt::skip]
+static RECORDS: [[u32; 16]; 11] = [
+    [11, 1, 0, 5, 0, 18, 0, 0, 0, 0, 0, 0, 0, 0, 0, 0],
+    [5, 2, 0, 0, 0, 0, 0, 0, 0, 0, 9, 0, 9, 0, 0, 0],       // the version
+    [1, 3, 0, 1, 0, 0, 0, 0, 0, 10, 26, 10, 11, 0, 0, 0],   // node /
+    [1, 6, 1, 2, 0, 0, 4, 0, 0, 14, 23, 17, 18, 0, 0, 0],   // node /b
+    [7, 0, 3, 1, 0, 0, 0, 0, 0, 0, 0, 0, 0, 0, 0, 0],       // its label, a
+    [14, 0, 4, 1, 5, 2, 0, 0, 0, 14, 16, 0, 0, 0, 0, 0],    // a is /b
+    [1, 7, 7, 1, 0, 0, 0, 0, 0, 27, 63, 27, 28, 0, 0, 0],   // node /
+    [2, 8, 8, 2, 0, 0, 0, 0, 0, 31, 33, 31, 32, 0, 0, 0],   // property /p
+    [1, 9, 10, 2, 0, 0, 0, 0, 0, 34, 43, 34, 35, 0, 0, 0],  // node /c
+    [2, 10, 12, 4, 0, 0, 0, 0, 0, 38, 40, 38, 39, 0, 0, 0], // property /c/q
+    [3, 0, 16, 2, 0, 0, 0, 0, 0, 44, 60, 44, 60, 0, 0, 0],  // deleted node /c
+];
+
+/// The log.
+///
+/// ```
+/// let log = definition_log::sample::log();
+/// assert_eq!((log.words().len(), log.bytes().len()), (11 * 16, 18));
+/// ```
+#[must_use]
+pub fn log() -> Log<'static> {
+    Log::new(RECORDS.as_flattened(), BYTES)
+}
