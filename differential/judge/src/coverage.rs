@@ -62,6 +62,11 @@ impl Coverage {
         Self(wanted.into_iter().map(|feature| (feature, 0)).collect())
     }
 
+    /// These are to come up.
+    pub fn wanting(features: impl Iterator<Item = String>) -> Self {
+        Self(features.map(|feature| (feature, 0)).collect())
+    }
+
     /// Nothing is to come up.
     pub fn empty() -> Self {
         Self(BTreeMap::new())
@@ -82,7 +87,7 @@ impl Coverage {
         }
     }
 
-    fn add(&mut self, feature: String, times: u64) {
+    pub fn add(&mut self, feature: String, times: u64) {
         *self.0.entry(feature).or_default() += times;
     }
 

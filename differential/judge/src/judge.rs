@@ -51,7 +51,8 @@ pub fn judge(tree: &CrateTree, paths: impl FnOnce(&Answer) -> Vec<Text>) -> (Ans
         lowering: lowered.diagnostics(&db).iter().map(|diagnostic| diagnosis(tree, diagnostic)).collect(),
         post: post_checks(tree, check(&db, lowered)),
     };
-    let queries = paths(&answer).into_iter().map(|path| query(mir, path)).collect();
+    let text = |path: &Text| String::from_utf8(path.clone()).expect("the Rust's texts are UTF-8");
+    let queries = paths(&answer).into_iter().map(|path| query(mir, &text(&path), path)).collect();
     (answer, queries)
 }
 
@@ -138,8 +139,8 @@ fn span(from: &RustSpan<PreprocessedText>) -> Span {
     (from.text_range.start as u32, from.text_range.end as u32)
 }
 
-fn query(mir: &Mir, path: Text) -> Query {
-    let text = std::str::from_utf8(&path).expect("the Rust's texts are UTF-8");
+/// What the queries answer for a path that the Rust has as `text`.
+pub fn query(mir: &Mir, text: &str, path: Text) -> Query {
     Query {
         live: mir.iter_live_defs_under(text).map(|definition| place(mir, definition)).collect(),
         history: mir.history(text).map(|definition| place(mir, definition)).collect(),

@@ -12,6 +12,7 @@ pub mod inputs;
 pub mod judge;
 pub mod leaves;
 pub mod library;
+pub mod logs;
 pub mod notation;
 pub mod numbers;
 pub mod ours;

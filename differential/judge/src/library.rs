@@ -10,19 +10,28 @@ use crate::{
 /// A query that fills a list: log words, log bytes, path, list; number and what is returned.
 pub type List = fn(&[u32], &[u8], &[u8], &mut [u32]) -> (u32, u32);
 
+/// The query that fills none.
+pub type Contains = fn(&[u32], &[u8], &[u8]) -> (u32, u32);
+
+/// The queries of a side.
+#[derive(Clone, Copy)]
+pub struct Queries {
+    pub live: List,
+    pub history: List,
+    pub contains_node: Contains,
+}
+
 /// The entry points of a side.
 pub struct Library {
     /// Records, room for words and bytes; number and what is returned.
     pub lower: fn(&Records, &mut [u32], &mut [u8]) -> (u32, u32),
-    pub live: List,
-    pub history: List,
-    pub contains_node: fn(&[u32], &[u8], &[u8]) -> (u32, u32),
+    pub queries: Queries,
 }
 
 /// 01's sentences as a side: it shows that the comparison itself is sound.
 pub fn by_01() -> Library {
     use by_01::written::{contains_node, history, live, lower_records};
-    Library { lower: lower_records, live, history, contains_node }
+    Library { lower: lower_records, queries: Queries { live, history, contains_node } }
 }
 
 /// Compares a side with the Rust on `cases` descriptions; how many, and how many differ.
@@ -63,7 +72,7 @@ fn compare_case(side: &Library, judged: &Judged, by_01: &Lowered) -> Result<(), 
             return Err("lowered without room".to_owned());
         }
     }
-    compare_queries(side, judged, &words, &text, &output)
+    compare_queries(&side.queries, judged, &words, &text, &output)
 }
 
 enum Lowering {
@@ -87,7 +96,7 @@ fn lowered(side: &Library, judged: &Judged, words: usize, bytes: usize) -> Resul
 }
 
 fn compare_queries(
-    side: &Library,
+    side: &Queries,
     judged: &Judged,
     words: &[u32],
     bytes: &[u8],

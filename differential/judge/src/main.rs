@@ -4,7 +4,7 @@ use std::{env, fs, io::Write, process::ExitCode};
 
 use judge::{
     answer::{Answer, Query},
-    by_01, coverage, definitions, generate, library, notation, numbers, ours, panics, recorded,
+    by_01, coverage, definitions, generate, library, logs, notation, numbers, ours, panics, recorded,
     records::{self, RECORD, Records},
     small, text_form, trees, worked,
 };
@@ -15,15 +15,20 @@ const CASES: u64 = 60_000;
 /// Descriptions for which a whole side is compared, with room just enough and one short.
 const WHOLE_CASES: u64 = 4_000;
 
+/// Logs for which queries are compared when no number is given, as made and damaged.
+const LOGS: u64 = 120_000;
+
 /// Where the recorded sample is.
 const RECORDED: &str = concat!(env!("CARGO_MANIFEST_DIR"), "/../../crates/replay/data");
 
 /// Where the repository's crates are, unless OURS_CRATES names another folder.
 const CRATES: &str = concat!(env!("CARGO_MANIFEST_DIR"), "/../../crates");
 
+const NO_QUERIES: &str = "our library with the queries is not there (rt staticlib definition_log_c)";
+
 const USAGE: &str =
-    "usage: run [all [CASES]] | worked FILE | numbers | small | trees FROM CASES | ask DESCRIPTION
-       | show SEED | input SEED | judge FILE | listing FILE | record FOLDER | definitions FOLDER [COUNT] [SEED]";
+    "usage: run [all [CASES]] | worked FILE | numbers | small | trees FROM CASES | queries [FROM LOGS]
+       | planted | speed | ask DESCRIPTION | show SEED | input SEED | judge FILE | listing FILE | record FOLDER | definitions FOLDER [COUNT] [SEED]";
 
 fn main() -> ExitCode {
     panics::install_hook();
@@ -36,6 +41,14 @@ fn main() -> ExitCode {
         ["numbers"] => closing(numbers_part(), 0),
         ["small"] => small_part().and_then(|counts| closing(counts, 0)),
         ["trees", from, cases] => number(from).and_then(|from| closing(trees_part(from, number(cases)?)?, 0)),
+        ["queries"] => queries_part(0, LOGS).and_then(|counts| closing(counts, 0)),
+        ["queries", from, logs] => {
+            number(from).and_then(|from| closing(queries_part(from, number(logs)?)?, 0))
+        }
+        ["sample", from, logs] => number(from).and_then(|from| sample(from, number(logs)?)),
+        ["built"] => built(),
+        ["speed"] => ours::queries().ok_or(NO_QUERIES.to_owned()).and_then(|ours| logs::speed::run(&ours)),
+        ["planted"] => planted_part(),
         ["ask", description] => ask(description),
         ["show", seed] => show(seed),
         ["input", seed] => input(seed),
@@ -72,9 +85,12 @@ fn all(cases: u64) -> Result<(), String> {
     let (small, small_different) = small_part()?;
     let (trees, trees_different) = trees_part(0, cases)?;
     let (whole, whole_different) = library_part();
+    let (queries, queries_different) = queries_part(0, LOGS)?;
+    planted_part()?;
     println!("{}", recorded::check(RECORDED)?);
-    let different = numbers_different + small_different + trees_different + whole_different;
-    closing((numbers + small + trees + whole, different), 0)
+    let different =
+        numbers_different + small_different + trees_different + whole_different + queries_different;
+    closing((numbers + small + trees + whole + queries, different), 0)
 }
 
 fn closing((compared, different): (u64, u64), aside: u64) -> Result<(), String> {
@@ -133,8 +149,55 @@ fn library_part() -> (u64, u64) {
         "records in and out, the Rust against 01's sentences: {} compared, {} different",
         counts.0, counts.1
     );
-    println!("our library is not there: whole descriptions are not compared with it");
+    println!("our library does not lower yet: whole descriptions are not compared with it");
     counts
+}
+
+/// Queries of logs that are lent, with the coverage report; fails if something never came up.
+fn queries_part(from: u64, logs: u64) -> Result<(u64, u64), String> {
+    let Some(ours) = ours::queries() else {
+        println!("{NO_QUERIES}: queries are not compared with it");
+        return Ok((0, 0));
+    };
+    println!("queries of lent logs, the Rust and rows 8 to 10 against our library:");
+    let mut coverage = logs::wanted();
+    let counts = logs::compare(&ours, from, logs, &mut coverage);
+    let (report, missing) = coverage.report();
+    print!("{report}");
+    println!("{}", counts.line());
+    if missing.is_empty() {
+        Ok((counts.calls, counts.different))
+    } else {
+        Err(format!("never came up in {logs} logs: {}", missing.join(", ")))
+    }
+}
+
+/// A sample of the same without the report, for `memory`.
+fn sample(from: u64, logs: u64) -> Result<(), String> {
+    let ours = ours::queries().ok_or(NO_QUERIES)?;
+    let counts = logs::compare(&ours, from, logs, &mut logs::wanted());
+    println!("{}", counts.line());
+    closing((counts.calls, counts.different), 0)
+}
+
+/// Whether the program was built with our queries.
+fn built() -> Result<(), String> {
+    ours::queries().map(|_| ()).ok_or(NO_QUERIES.to_owned())
+}
+
+/// Faults planted into our answers; fails if the comparison does not find one.
+fn planted_part() -> Result<(), String> {
+    if ours::queries().is_none() {
+        println!("{NO_QUERIES}: no fault is planted into its answers");
+        return Ok(());
+    }
+    let found = logs::faults::found();
+    for (name, difference) in &found {
+        println!("{name}: {}", difference.as_deref().unwrap_or("not found"));
+    }
+    let missed = found.iter().filter(|(_, difference)| difference.is_none()).count();
+    println!("{} planted faults found, {missed} not found", found.len() - missed);
+    if missed == 0 { Ok(()) } else { Err("the comparison misses a fault".to_owned()) }
 }
 
 /// Theorems on small descriptions, for the checker.

@@ -2,9 +2,9 @@
 //!
 //! `leaves` puts the exported functions of the lowest crate into a table, if there was a static
 //! library with them when the judge was built (see build.rs). A function that is missing in the
-//! table is not compared.
+//! table is not compared. `queries` does the same for the queries, which have a library of their own.
 
-use crate::{answer::Target, leaves::Int};
+use crate::{answer::Target, leaves::Int, library::Queries};
 
 /// The leaves on one side of a comparison. Codes are 01's. A name has a unit address, empty where
 /// there is none.
@@ -62,6 +62,63 @@ pub fn leaves() -> Option<Leaves> {
     return Some(c::leaves());
     #[cfg(not(ours))]
     None
+}
+
+/// Our queries, or none if their library was not there when the judge was built.
+pub fn queries() -> Option<Queries> {
+    #[cfg(ours_queries)]
+    return Some(c_queries::QUERIES);
+    #[cfg(not(ours_queries))]
+    None
+}
+
+/// The functions of include/definition_log.h.
+#[cfg(ours_queries)]
+mod c_queries {
+    use crate::library::Queries;
+
+    #[repr(C)]
+    struct Answer {
+        number: u32,
+        returned: u32,
+    }
+
+    // A slice is passed as its pointer and its length.
+    #[rustfmt::skip]
+    unsafe extern "C" {
+        fn dl_iter_live_defs_under(w: *const u32, wl: usize, b: *const u8, bl: usize, p: *const u8, pl: usize, l: *mut u32, ll: usize) -> Answer;
+        fn dl_history(w: *const u32, wl: usize, b: *const u8, bl: usize, p: *const u8, pl: usize, l: *mut u32, ll: usize) -> Answer;
+        fn dl_contains_node(w: *const u32, wl: usize, b: *const u8, bl: usize, p: *const u8, pl: usize) -> Answer;
+    }
+
+    /// Where a slice starts; an empty one may be null.
+    fn start<T>(slice: &[T]) -> *const T {
+        if slice.is_empty() { std::ptr::null() } else { slice.as_ptr() }
+    }
+
+    fn start_mut<T>(slice: &mut [T]) -> *mut T {
+        if slice.is_empty() { std::ptr::null_mut() } else { slice.as_mut_ptr() }
+    }
+
+    impl Answer {
+        fn read(self) -> (u32, u32) {
+            (self.number, self.returned)
+        }
+    }
+
+    /// SAFETY of the calls: each slice is passed with its own length, and `list` is a buffer apart.
+    #[rustfmt::skip]
+    pub const QUERIES: Queries = Queries {
+        live: |words, bytes, base, list| unsafe {
+            dl_iter_live_defs_under(start(words), words.len(), start(bytes), bytes.len(), start(base), base.len(), start_mut(list), list.len()).read()
+        },
+        history: |words, bytes, path, list| unsafe {
+            dl_history(start(words), words.len(), start(bytes), bytes.len(), start(path), path.len(), start_mut(list), list.len()).read()
+        },
+        contains_node: |words, bytes, path| unsafe {
+            dl_contains_node(start(words), words.len(), start(bytes), bytes.len(), start(path), path.len()).read()
+        },
+    };
 }
 
 /// The functions of include/paths_numbers.h.

@@ -28,7 +28,7 @@ const SPAN: [usize; 2] = [9, 10];
 const NAME_SPAN: [usize; 2] = [11, 12];
 
 /// The words, other than kind and next, that 01 names for an output kind.
-fn named(kind: u32) -> Vec<usize> {
+pub fn named(kind: u32) -> Vec<usize> {
     let words: &[&[usize]] = match kind {
         1 => &[&TEXT, &[CHILD, N], &SPAN, &NAME_SPAN],
         2 => &[&TEXT, &[CHILD], &SPAN, &NAME_SPAN],

@@ -239,7 +239,7 @@ const COMPUTED: &str =
 use Prim.Native.Nat.{ℕ}
 use mathlib.Core.List.{List}
 use Rattle.log.specs.Meaning.{Span, DefValue, Def, Ext, Binding, Diag}
-use Rattle.lowering.specs.State.{State}
+use Rattle.log.specs.State.{State}
 use Rattle.lowering.specs.Lowered.{meaning}
 use Rattle.paths_numbers.specs.Reference.{Target}
 
