@@ -138,3 +138,10 @@ item-grows t p = record { records = λ s. item-above t p s .records; bytes = λ 
 
 pub items-grow : (ts : Trees) (p : List ℕ) → Grows (lowerItems ts p)
 items-grow ts p = record { records = λ s. items-above ts p s .records; bytes = λ s. items-above ts p s .bytes }
+
+pub node-grows : (parts second : Trees) (span : Span) (p : List ℕ) → Grows (λ (s : State). lowerNode p parts span (λ (q : List ℕ) (u : State). lowerItems second q u) s)
+node-grows parts second span p =
+    record {
+      records = λ s. node-above parts span (λ q u. lowerItems second q u) (λ q u. items-above second q u) p s .records;
+      bytes = λ s. node-above parts span (λ q u. lowerItems second q u) (λ q u. items-above second q u) p s .bytes;
+    }

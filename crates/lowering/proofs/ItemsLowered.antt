@@ -2,19 +2,21 @@
 use Prim.Native.Nat.{ℕ, _≤_, _<_}
 use mathlib.Core.Path.{_≡_, refl, sym, ap, subst, _∙_}
 use mathlib.Core.Bool.{Bool, true, false, cond}
-use mathlib.Core.List.{List, []}
+use mathlib.Core.List.{List, [], _∷_}
 use borrow.Author.Tests.{eq-eqb, ne-eqb}
 use Rattle.paths_numbers.proofs.Texts.{both}
 use Rattle.log.specs.declared.ctx.LowerCtx.{LowerCtx}
 use Rattle.log.specs.declared.place.PathAt.{PathAt}
-use Rattle.log.specs.State.{State}
+use Rattle.log.specs.State.{State, emit}
 use Rattle.log.specs.Represents.{Context, withPlace, Represents}
-use Rattle.lowering.specs.Tree.{Tree, Trees, tree, empty, more}
-use Rattle.lowering.specs.Lower.{lowerItem, lowerItems}
-use Rattle.lowering.specs.Input.{recordCount, nextAt, chainAt, recordAt}
+use Rattle.lowering.specs.Tree.{Tree, Trees, tree, empty, more, nodeKind, propertyKind, directiveKind, preprocessorKind}
+use Rattle.lowering.specs.Report.{report}
+use Rattle.lowering.specs.Lower.{lowerNode, lowerProperty, lowerDirective, lowerItem, lowerItems}
+use Rattle.lowering.specs.Input.{recordCount, kindAt, nextAt, childAt, secondAt, numberAt, spanAt, chainAt, recordAt}
 use Rattle.lowering.specs.TwoRuns.{goodNames, goodNamesIn}
 use Rattle.lowering.specs.Linked.{Linked, RecordIn, ChainIn}
-use Rattle.lowering.specs.Lowers.{LowersAt}
+use Rattle.lowering.specs.Lowers.{Lowers, LowersAt}
+use Rattle.lowering.proofs.GoodNames.{good-parts, good-second}
 use Rattle.lowering.proofs.Input.{chain-none, chain-more}
 use Rattle.lowering.proofs.Read.{chain-first, chain-next}
 
@@ -65,3 +67,55 @@ module _ {parent : PathAt} {c d : LowerCtx} {words bytes w b input text : List �
           lowers = record { lowers = λ k p s x. m .lowers k p (h .done p s) (h .lowers .lowers k p s x) };
           whole = λ p s. ap (λ (ts : Trees). lowerItems ts p (h .done p s)) (sym (chain-more input l text r n (h .chain .at n))) ∙ h .whole p s;
         }
+
+-- an item by its kind
+module _ {parent : PathAt} {c d : LowerCtx} {words bytes w b : List ℕ} (input text : List ℕ) (r : ℕ) where
+  pub is-node : kindAt input r ≡ nodeKind
+      → LowersAt parent c d words bytes w b (λ p s. lowerNode p (chainAt input text (childAt input r)) (spanAt input r) (λ (q : List ℕ) (u : State). lowerItems (chainAt input text (secondAt input r)) q u) s)
+      → LowersAt parent c d words bytes w b (λ p s. lowerItem (recordAt input text r) p s)
+  unfolding lowerItem recordAt
+  is-node e h = record { lowers = λ k p s m. simp (eq-eqb (kindAt input r) nodeKind e) (h .lowers k p s m) }
+
+  module _ (n : kindAt input r ≡ nodeKind → ⊥) where
+    pub is-property : kindAt input r ≡ propertyKind
+        → LowersAt parent c d words bytes w b (λ p s. lowerProperty p (chainAt input text (childAt input r)) (chainAt input text (secondAt input r)) (spanAt input r) s)
+        → LowersAt parent c d words bytes w b (λ p s. lowerItem (recordAt input text r) p s)
+    unfolding lowerItem recordAt
+    is-property e h = record { lowers = λ k p s m. simp (ne-eqb (kindAt input r) nodeKind n, eq-eqb (kindAt input r) propertyKind e) (h .lowers k p s m) }
+
+    module _ (o : kindAt input r ≡ propertyKind → ⊥) where
+      pub is-directive : kindAt input r ≡ directiveKind
+          → LowersAt parent c d words bytes w b (λ p s. lowerDirective (numberAt input r) p (chainAt input text (childAt input r)) (spanAt input r) s)
+          → LowersAt parent c d words bytes w b (λ p s. lowerItem (recordAt input text r) p s)
+      unfolding lowerItem recordAt
+      is-directive e h =
+          record { lowers = λ k p s m. simp (ne-eqb (kindAt input r) nodeKind n, ne-eqb (kindAt input r) propertyKind o, eq-eqb (kindAt input r) directiveKind e) (h .lowers k p s m) }
+
+      module _ (q : kindAt input r ≡ directiveKind → ⊥) where
+        pub is-preprocessor : kindAt input r ≡ preprocessorKind → Lowers c d words bytes w b (emit (report 1 [] (spanAt input r) ∷ []))
+            → LowersAt parent c d words bytes w b (λ p s. lowerItem (recordAt input text r) p s)
+        unfolding lowerItem recordAt
+        is-preprocessor e h =
+            record {
+              lowers = λ k p s m.
+                  simp (ne-eqb (kindAt input r) nodeKind n, ne-eqb (kindAt input r) propertyKind o, ne-eqb (kindAt input r) directiveKind q, eq-eqb (kindAt input r) preprocessorKind e)
+                  (h .lowers (withPlace (record { at = parent; path = p }) k) s m);
+            }
+
+pub is-other : {parent : PathAt} {c : LowerCtx} {words bytes : List ℕ} (input text : List ℕ) (r : ℕ) → (kindAt input r ≡ nodeKind → ⊥) → (kindAt input r ≡ propertyKind → ⊥)
+    → (kindAt input r ≡ directiveKind → ⊥) → (kindAt input r ≡ preprocessorKind → ⊥) → LowersAt parent c c words bytes words bytes (λ p s. lowerItem (recordAt input text r) p s)
+unfolding lowerItem recordAt
+is-other input text r n o q y =
+    record {
+      lowers = λ k p s m.
+          simp (ne-eqb (kindAt input r) nodeKind n, ne-eqb (kindAt input r) propertyKind o, ne-eqb (kindAt input r) directiveKind q, ne-eqb (kindAt input r) preprocessorKind y) m;
+    }
+
+-- the names of a record's parts and of its body
+pub parts-good : (input text : List ℕ) (r : ℕ) → goodNames (recordAt input text r) ≡ true → goodNamesIn (chainAt input text (childAt input r)) ≡ true
+unfolding recordAt
+parts-good input text r g = good-parts _ _ _ _ _ _ g
+
+pub body-good : (input text : List ℕ) (r : ℕ) → goodNames (recordAt input text r) ≡ true → goodNamesIn (chainAt input text (secondAt input r)) ≡ true
+unfolding recordAt
+body-good input text r g = good-second _ _ _ _ _ _ g

@@ -40,6 +40,7 @@ pub mod Labels
 pub mod Short
 pub mod Opened
 pub mod NodePlaced
+pub mod NodeReferenced
 pub mod NodeLowered
 pub mod ItemsLowered
 pub mod Reported

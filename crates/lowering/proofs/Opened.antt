@@ -72,7 +72,7 @@ node-opens {c} {bytes = bytes} {parts = parts} {place} n l =
     }
 
 -- a definition that a node's parts give
-bare-node : (kind : DefKind) (span nameSpan : SpanRead) (q p : List ℕ) (parts : Trees) (at : Span) → q ≡ p → bareValue kind ≡ node [] (has omitKind parts) → meant span ≡ at
+pub bare-node : (kind : DefKind) (span nameSpan : SpanRead) (q p : List ℕ) (parts : Trees) (at : Span) → q ≡ p → bareValue kind ≡ node [] (has omitKind parts) → meant span ≡ at
     → meant nameSpan ≡ nodeNameSpan parts at → bareDef kind span nameSpan q ≡ bareNode p parts at
 bare-node kind span nameSpan q p parts at e v x y = rw (e, v, x, y) refl
 

@@ -8,14 +8,19 @@ use Rattle.log.specs.declared.ctx.LowerCtx.{LowerCtx}
 use Rattle.log.specs.declared.place.PathAt.{PathAt}
 use Rattle.log.specs.Meaning.{Span}
 use Rattle.log.specs.Recs.{targetMade}
-use Rattle.log.specs.State.{State, emit}
+use Rattle.log.specs.State.{State, define, emit}
 use Rattle.log.specs.Represents.{Context, withPlace, Represents}
 use Rattle.queries.specs.Kind.{setsOverlay}
 use Rattle.lowering.specs.Tree.{Trees}
+use Rattle.lowering.specs.Phandle.{reaches}
 use Rattle.lowering.specs.Lower.{at, aside, discarded, nowhere, Placed, opened}
 use Rattle.lowering.specs.Input.{spanAt}
 use Rattle.lowering.specs.PhandleRead.{labelAt, pathAt}
+use Rattle.lowering.specs.Leading.{resolution, BoundIn}
+use Rattle.lowering.specs.Opened.{bareNode}
 use Rattle.lowering.specs.PropertyMade.{isTop}
+use Rattle.lowering.specs.declared.resolve.Resolved.{Resolved}
+use Rattle.lowering.specs.declared.resolve.Resolved.the-variants as R
 use Rattle.lowering.specs.declared.dt_node.NodePlace.{NodePlace}
 use Rattle.lowering.specs.declared.dt_node.NodePlace.the-variants as N
 use Rattle.lowering.specs.declared.dt_node.PlacedNode.{PlacedNode}
@@ -38,3 +43,17 @@ pub record Places (parent : PathAt) (c : LowerCtx) (words bytes w b input text :
 pub record PlacesIn (parent : PathAt) (c : LowerCtx) (words bytes w b input text : List ℕ) (parts : Trees) (span : Span) (l : List ℕ → State → Placed) (v : PlacedNode) : Type 0 where
   pub places : (k : Context) (p : List ℕ) (s : State) → c .short ≡ false → Represents (withPlace (record { at = parent; path = p }) k) c words bytes s
       → PlacedTo (withPlace (record { at = parent; path = p }) k) w b input text parts span s (v .ctx) (l p s) (v .node)
+
+-- the definition of a node where its reference leads
+pub record DefinesLeading (v : Resolved) (l path : List ℕ) (c d : LowerCtx) (words bytes w b : List ℕ) (parts : Trees) (span : Span) : Type 0 where
+  pub defines : (k : Context) (s : State) (p : List ℕ) → Represents k c words bytes s → c .short ≡ false → BoundIn words (c .binds .first) v → resolution words bytes l path v ≡ reaches p
+      → Represents k d w b (define (bareNode p parts span) s)
+
+-- whether a reference leads somewhere
+abbrev pub leadsOn : Resolved → Bool
+leadsOn (R.Bound r) = true
+leadsOn (R.BoundPath r) = true
+leadsOn R.AtPath = true
+leadsOn R.NoLabel = false
+leadsOn R.NoNode = false
+leadsOn (R.NoNodeBelow r) = false

@@ -12,7 +12,8 @@ ghost use Rattle.log.specs.State.{emit};
 ghost use Rattle.lowering.specs.Tree.{has, omitKind};
 ghost use Rattle.lowering.specs.Report.{report};
 ghost use Rattle.lowering.specs.Name.{nameOrMacro, fullName, nodeNameSpan, labelled, labelsOf};
-ghost use Rattle.lowering.specs.Lower.{placedAs, byName};
+ghost use Rattle.lowering.specs.Phandle.{lowerPhandle, resolve};
+ghost use Rattle.lowering.specs.Lower.{byResolution, byTarget, placedAs, byName, placeOf};
 ghost use Rattle.lowering.specs.TwoRuns.{goodNamesIn};
 ghost use Rattle.lowering.specs.Input.{recordCount, childAt, spanAt, chainAt, recordAt};
 ghost use Rattle.lowering.specs.Linked.{Linked, At};
@@ -20,12 +21,13 @@ ghost use Rattle.lowering.specs.Lowers.{Lowers};
 ghost use Rattle.lowering.specs.NameRead.{nameText, FullNameRead};
 ghost use Rattle.lowering.specs.Labelled.{LabelsAt};
 ghost use Rattle.lowering.specs.Opened.{Opens, OpensAt};
-ghost use Rattle.lowering.specs.PropertyMade.{isTop};
-ghost use Rattle.lowering.specs.NodePlaced.{Places};
+ghost use Rattle.lowering.specs.NodePlaced.{Places, PlacesIn, DefinesLeading, leadsOn};
 ghost use Rattle.lowering.specs.NodeLowered.{Settles};
-ghost use Rattle.lowering.specs.PhandleRead.{labelAt, pathAt};
+ghost use Rattle.lowering.specs.PhandleRead.{labelAt, pathAt, phandleRead};
+use crate::dt_property::is_top;
 use crate::kinds::LABEL;
 use crate::kinds::OMIT;
+use crate::kinds::REFERENCE;
 use crate::kinds::SLASH;
 use crate::name::FullName;
 use crate::name::NameOrMacro;
@@ -34,21 +36,30 @@ use crate::name::is_named;
 use crate::name::name_or_macro;
 use crate::name::name_text;
 use crate::name::node_name_span;
+use crate::phandle::PhandleRead;
+use crate::phandle::lower_phandle;
 use crate::phandle::phandle_label_at;
 use crate::phandle::phandle_path_at;
 use crate::record::child_at;
+use crate::record::first_of;
 use crate::record::has_kind;
 use crate::record::kind_at;
 use crate::record::next_at;
+use crate::record::no_text;
 use crate::record::span_at;
 use crate::record::text_at;
 use crate::report::emit_name;
 use crate::report::undefined_macro;
+use crate::resolve::Resolved;
+use crate::resolve::binding_path;
+use crate::resolve::report_unresolved;
+use crate::resolve::resolve_phandle;
 use log::ctx::LowerCtx;
 use log::place::PathAt;
 use log::recs::DefKind;
 use log::recs::Span;
 use log::recs::TargetKind;
+use queries::mir::sets_overlay_in;
 
 // The codes of a subnode outside a node, and of a root inside one.
 const OUTSIDE_NODE: u32 = 5;
@@ -319,16 +330,6 @@ fn refuse_node(
     ctx.emit(out, bytes, code, &none, span, Span { from: 0, to: 0 })
 }
 
-// Whether a path is that of the top, the empty one.
-fn is_top(path: PathAt) -> bool
-    ensures { λ t. ⌜ t ≡ isTop path ⌝ }
-{
-    if path.root {
-        return false;
-    }
-    path.size == 0
-}
-
 // After a body in a log of its own: kept as an extension for its reference, or dropped.
 pub fn settle_aside(
     words: &[u32],
@@ -352,4 +353,161 @@ pub fn settle_aside(
         return body.leave_kept(out, bytes, outer, span, name_span, kind, label, path);
     }
     body.leave_dropped(out, bytes, outer)
+}
+
+// Opens or refuses the node of record r: by the reference among its parts, else by its name.
+pub fn place_node(
+    words: &[u32],
+    text: &[u8],
+    r: u32,
+    parent: PathAt,
+    out: &mut [u32],
+    bytes: &mut [u8],
+    ctx: LowerCtx,
+) -> PlacedNode
+    requires { ⌜ Linked (now words) ⌝ }
+    requires { ⌜ r < recordCount (now words) ⌝ }
+    requires { ⌜ goodNamesIn (chainAt (now words) (now text) (childAt (now words) r)) ≡ true ⌝ }
+    ensures { λ v. ⌜ PlacesIn parent ctx (now (out .entry)) (now (bytes .entry)) (now (out .exit)) (now (bytes .exit)) (now (words .entry)) (now (text .entry)) (chainAt (now (words .entry)) (now (text .entry)) (childAt (now (words .entry)) r)) (spanAt (now (words .entry)) r) (λ p s. placeOf p (chainAt (now (words .entry)) (now (text .entry)) (childAt (now (words .entry)) r)) (spanAt (now (words .entry)) r) s) v ⌝ }
+{
+    let reference = first_of(words, child_at(words, r), REFERENCE);
+    if reference == 0 {
+        return place_by_name(words, text, r, parent, out, bytes, ctx);
+    }
+    place_by_reference(words, text, r, reference, out, bytes, ctx)
+}
+
+// Opens the node of record r where its reference leads, or puts it aside.
+fn place_by_reference(
+    words: &[u32],
+    text: &[u8],
+    r: u32,
+    reference: u32,
+    out: &mut [u32],
+    bytes: &mut [u8],
+    ctx: LowerCtx,
+) -> PlacedNode
+    requires { ⌜ Linked (now words) ⌝ }
+    requires { ⌜ r < recordCount (now words) ⌝ }
+    requires { ⌜ reference < recordCount (now words) ⌝ }
+    ensures { λ v. ⌜ ((parent : PathAt) → PlacesIn parent ctx (now (out .entry)) (now (bytes .entry)) (now (out .exit)) (now (bytes .exit)) (now (words .entry)) (now (text .entry)) (chainAt (now (words .entry)) (now (text .entry)) (childAt (now (words .entry)) r)) (spanAt (now (words .entry)) r) (λ p s. byTarget (recordAt (now (words .entry)) (now (text .entry)) reference) (lowerPhandle (recordAt (now (words .entry)) (now (text .entry)) reference) .reports) (lowerPhandle (recordAt (now (words .entry)) (now (text .entry)) reference) .result) s) v) ⌝ }
+{
+    let read = lower_phandle(words, text, reference);
+    match read {
+        PhandleRead::Macro(m) => {
+            let told = undefined_macro(words, text, m, out, bytes, ctx);
+            PlacedNode {
+                node: NodePlace::Nowhere,
+                ctx: told,
+            }
+        }
+        PhandleRead::Unreadable => PlacedNode {
+            node: NodePlace::Nowhere,
+            ctx: ctx,
+        },
+        PhandleRead::Label => {
+            let kind = TargetKind::Label;
+            place_resolved(words, text, r, reference, read, kind, out, bytes, ctx)
+        }
+        PhandleRead::LabelPath => {
+            let kind = TargetKind::LabelPath;
+            place_resolved(words, text, r, reference, read, kind, out, bytes, ctx)
+        }
+        PhandleRead::Path => {
+            let kind = TargetKind::Path;
+            place_resolved(words, text, r, reference, read, kind, out, bytes, ctx)
+        }
+    }
+}
+
+// The same of a reference that names a target of this kind.
+fn place_resolved(
+    words: &[u32],
+    text: &[u8],
+    r: u32,
+    reference: u32,
+    read: PhandleRead,
+    kind: TargetKind,
+    out: &mut [u32],
+    bytes: &mut [u8],
+    ctx: LowerCtx,
+) -> PlacedNode
+    requires { ⌜ Linked (now words) ⌝ }
+    requires { ⌜ r < recordCount (now words) ⌝ }
+    requires { ⌜ phandleRead (now words) (now text) reference read .result ≡ some (targetMade kind (labelAt (now words) (now text) reference) (pathAt (now words) (now text) reference)) ⌝ }
+    ensures { λ v. ⌜ ((parent : PathAt) → PlacesIn parent ctx (now (out .entry)) (now (bytes .entry)) (now (out .exit)) (now (bytes .exit)) (now (words .entry)) (now (text .entry)) (chainAt (now (words .entry)) (now (text .entry)) (childAt (now (words .entry)) r)) (spanAt (now (words .entry)) r) (λ p s. byResolution (recordAt (now (words .entry)) (now (text .entry)) reference) (targetMade kind (labelAt (now (words .entry)) (now (text .entry)) reference) (pathAt (now (words .entry)) (now (text .entry)) reference)) (s .defs) (resolve (targetMade kind (labelAt (now (words .entry)) (now (text .entry)) reference) (pathAt (now (words .entry)) (now (text .entry)) reference)) (s .binds) (s .defs))) v) ⌝ }
+{
+    let binds = ctx.binds.first;
+    let defs = ctx.defs.first;
+    let leads = resolve_phandle(words, text, reference, read, out, bytes, binds, defs);
+    if leads_on(leads) {
+        let made = define_leading(words, text, r, reference, leads, out, bytes, ctx);
+        let node = open_node(words, text, child_at(words, r), out, bytes, made);
+        let place = node.place;
+        let labelled = node.ctx;
+        return PlacedNode {
+            node: NodePlace::At(place),
+            ctx: labelled,
+        };
+    }
+    let keeps = sets_overlay_in(out, defs);
+    let label = phandle_label_at(words, text, reference);
+    let path = phandle_path_at(words, text, reference);
+    let span = span_at(words, reference);
+    let told = report_unresolved(ctx, out, bytes, leads, label, path, span);
+    PlacedNode {
+        node: NodePlace::Aside(reference, kind, keeps),
+        ctx: told,
+    }
+}
+
+// Whether a reference leads somewhere.
+fn leads_on(v: Resolved) -> bool
+    ensures { λ t. ⌜ t ≡ leadsOn v ⌝ }
+{
+    match v {
+        Resolved::Bound(_) => true,
+        Resolved::BoundPath(_) => true,
+        Resolved::AtPath => true,
+        Resolved::NoLabel => false,
+        Resolved::NoNode => false,
+        Resolved::NoNodeBelow(_) => false,
+    }
+}
+
+// The definition of the node of record r where its reference leads.
+fn define_leading(
+    words: &[u32],
+    text: &[u8],
+    r: u32,
+    reference: u32,
+    leads: Resolved,
+    out: &mut [u32],
+    bytes: &mut [u8],
+    ctx: LowerCtx,
+) -> LowerCtx
+    requires { ⌜ Linked (now words) ⌝ }
+    requires { ⌜ r < recordCount (now words) ⌝ }
+    ensures { λ d. ⌜ DefinesLeading leads (labelAt (now (words .entry)) (now (text .entry)) reference) (pathAt (now (words .entry)) (now (text .entry)) reference) ctx d (now (out .entry)) (now (bytes .entry)) (now (out .exit)) (now (bytes .exit)) (chainAt (now (words .entry)) (now (text .entry)) (childAt (now (words .entry)) r)) (spanAt (now (words .entry)) r) ⌝ }
+{
+    let parts = child_at(words, r);
+    let kind = node_kind(words, parts);
+    let span = span_at(words, r);
+    let name_span = node_name_span(words, parts, span);
+    let path = phandle_path_at(words, text, reference);
+    match leads {
+        Resolved::Bound(b) => {
+            let place = binding_path(out, b);
+            ctx.define_at(out, bytes, kind, span, name_span, place)
+        }
+        Resolved::BoundPath(b) => {
+            let place = binding_path(out, b);
+            let unit = no_text(path);
+            ctx.define(out, bytes, kind, span, name_span, place, path, unit)
+        }
+        Resolved::AtPath => ctx.define_text(out, bytes, kind, span, name_span, path),
+        Resolved::NoLabel => ctx,
+        Resolved::NoNode => ctx,
+        Resolved::NoNodeBelow(_) => ctx,
+    }
 }

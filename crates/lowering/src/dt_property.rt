@@ -88,7 +88,7 @@ pub fn lower_dt_property(
 }
 
 // Whether a path is that of the file's top, the empty one.
-fn is_top(path: PathAt) -> bool
+pub(crate) fn is_top(path: PathAt) -> bool
     ensures { λ t. ⌜ t ≡ isTop path ⌝ }
 {
     if path.root {
