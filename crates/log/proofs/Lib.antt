@@ -10,37 +10,8 @@ pub mod WrittenTest
 pub mod WrittenExample
 pub mod Pinned
 -- Laws of the log in the making: a record more, its layout, and what is read back.
-pub mod Append
 pub mod Texts
-pub mod PathPlaces
-pub mod ReadEvents
-pub mod ReadLog
-pub mod Make
-pub mod Records
-pub mod Layouts
-pub mod Told
-pub mod MakeLayout
-pub mod Holding
-pub mod Paths
-pub mod Empty
-pub mod Unlinked
-pub mod Removing
-pub mod Dropping
 -- Laws of its records by number and by chain, and of a complete log: its links, row 8's rules and those for writing.
-pub mod FirstOf
-pub mod Standing
-pub mod Plain
-pub mod MakingMore
-pub mod MakingLess
-pub mod LogLinks
-pub mod LedOnce
-pub mod AllLed
-pub mod WholeRules
-pub mod WholeKept
-pub mod WholeClear
-pub mod GoodLog
-pub mod Finished
-pub mod FinishedExample
 -- Laws of row 8's test: its links, its marks, its loops and its answer.
 pub mod Tests
 pub mod Follow
@@ -48,19 +19,3 @@ pub mod Marks
 pub mod Walked
 pub mod Search
 pub mod Checked
-pub mod Members
-pub mod Growing
-pub mod Represented
-pub mod Below
-pub mod PartSteps
-pub mod Rebound
-pub mod Cuts
-pub mod InHand
-pub mod Keeping
-pub mod Unlinking
-pub mod Entered
-pub mod Leaving
-pub mod Left
-pub mod Extended
-pub mod Typed
-pub mod Ending

@@ -1,6 +1,5 @@
--- What a log says, how it lies in words and bytes, row 8's rules and the rules for writing; then the machine below the code: records made.
+-- What a log says, how it lies in words and bytes, row 8's rules and the rules for writing.
 pub mod Meaning
-pub mod State
 pub mod Record
 pub mod ReadBack
 pub mod Sound
@@ -8,17 +7,5 @@ pub mod Written
 pub mod Good
 pub mod Alike
 pub mod RecordExample
-pub mod Events
-pub mod Buffers
-pub mod PathPlaces
-pub mod Made
-pub mod Holding
-pub mod Removed
-pub mod Dropped
-pub mod Represents
-pub mod Kept
-pub mod Recs
-pub mod Whole
-pub mod Finished
 pub mod SoundAnswer
 pub mod Walk

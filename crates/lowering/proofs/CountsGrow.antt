@@ -9,16 +9,17 @@ use Rattle.paths_numbers.specs.Text.{isEmpty}
 use Rattle.paths_numbers.specs.Path.{root, join}
 use Rattle.paths_numbers.specs.Reference.{Target}
 use Rattle.log.specs.Meaning.{Span, deletedProperty, version, plugin, Ext, Diag}
-use Rattle.log.specs.State.{State, define, bind, emit, apart, dropped, extended}
+use Rattle.making.specs.State.{State, define, bind, emit, apart, dropped, extended}
 use Rattle.queries.specs.Kind.{setsOverlay}
-use Rattle.lowering.specs.Tree.{Tree, Trees, tree, empty, more, firstOf, nodeKind, propertyKind, directiveKind, preprocessorKind, nameKind, referenceKind}
-use Rattle.lowering.specs.Report.{Got, report}
-use Rattle.lowering.specs.Name.{fullName, labelsOf}
-use Rattle.lowering.specs.Phandle.{lowerPhandle, Resolution, reaches, missing, resolve, unresolved}
-use Rattle.lowering.specs.Property.{lowerValues}
+use Rattle.input.specs.Tree.{Tree, Trees, tree, empty, more, firstOf, nodeKind, propertyKind, directiveKind, preprocessorKind, nameKind, referenceKind}
+use Rattle.input.specs.Report.{Got, report}
+use Rattle.input.specs.Name.{fullName, labelsOf}
+use Rattle.input.specs.Phandle.{lowerPhandle}
+use Rattle.post_checks.specs.Resolve.{Resolution, reaches, missing, resolve, unresolved}
+use Rattle.input.specs.Property.{lowerValues}
 use Rattle.lowering.specs.Unbind.{unbind}
 use Rattle.lowering.specs.Lower.{Place, at, aside, discarded, nowhere, placeOf, nodeDef, opened, settled, lowerPlaced, lowerNode, namedProperty, lowerProperty, bare, deleteNode, deleteResolved, deleteTarget, deleteReferenced, deleteNamed, lowerDeleteNode, deletePropertyNamed, lowerDirective, lowerAs, lowerItem, lowerItems}
-use Rattle.lowering.proofs.Lowers.{Grows, define-grows, bind-grows, emit-grows}
+use Rattle.post_checks.proofs.Lowers.{Grows, define-grows, bind-grows, emit-grows}
 
 -- from one state to another neither count falls
 pub record Above (s t : State) : Type 0 where

@@ -10,29 +10,29 @@ use lib.Seq.{append-snoc}
 use Rattle.paths_numbers.specs.Text.{same}
 use Rattle.paths_numbers.specs.Path.{joined}
 use Rattle.paths_numbers.proofs.Texts.{by-test, not-both, both}
-use Rattle.log.specs.declared.ctx.LowerCtx.{LowerCtx}
-use Rattle.log.specs.declared.place.PathAt.{PathAt}
-use Rattle.log.specs.declared.recs.Span.{Span as LogSpan}
-use Rattle.log.specs.declared.recs.DefKind.the-variants as D
-use Rattle.log.specs.Recs.{meant, bareDef}
+use Rattle.making.specs.declared.ctx.LowerCtx.{LowerCtx}
+use Rattle.making.specs.declared.place.PathAt.{PathAt}
+use Rattle.making.specs.declared.recs.Span.{Span as LogSpan}
+use Rattle.making.specs.declared.recs.DefKind.the-variants as D
+use Rattle.making.specs.Recs.{meant, bareDef}
 use Rattle.log.specs.Meaning.{Span, Def, deletedNode, Binding}
 use Rattle.log.specs.Record.{firstText, secondText}
 use Rattle.log.specs.ReadBack.{chainOf, defAt, readDefs}
-use Rattle.log.specs.PathPlaces.{pathIn}
-use Rattle.log.specs.State.{State, define}
-use Rattle.log.specs.Represents.{Context, withPlace, Represents, Steps}
-use Rattle.log.proofs.InHand.{represents-defs, place-reads, def-path}
+use Rattle.making.specs.PathPlaces.{pathIn}
+use Rattle.making.specs.State.{State, define}
+use Rattle.making.specs.Represents.{Context, withPlace, Represents, Steps}
+use Rattle.making.proofs.InHand.{represents-defs, place-reads, def-path}
 use Rattle.queries.specs.Kind.{any, isNode}
 use Rattle.queries.specs.Live.{isLive, live, nodeAt, containsNode}
 use Rattle.lowering.specs.Unbind.{unbind}
 use Rattle.lowering.specs.Lower.{bare, deleteNode}
-use Rattle.lowering.specs.Lowers.{Lowers, LowersAt}
-use Rattle.lowering.specs.Leading.{hasText, FirstAt, FirstWith, placedIn}
+use Rattle.post_checks.specs.Lowers.{Lowers, LowersAt}
+use Rattle.post_checks.specs.Leading.{hasText, FirstAt, FirstWith, placedIn}
 use Rattle.lowering.specs.Unbinding.{at-named, at-given, UnbindsAll}
 use Rattle.lowering.specs.Deleting.{DeletesAt}
-use Rattle.lowering.specs.declared.resolve.Found.{Found}
+use Rattle.post_checks.specs.declared.resolve.Found.{Found}
 use Rattle.lowering.specs.declared.unbind.Base.the-variants.{Named, Given}
-use Rattle.lowering.proofs.Lowers.{Grows, define-grows, stays-over}
+use Rattle.post_checks.proofs.Lowers.{Grows, define-grows, stays-over}
 
 -- counts never fall
 pub delete-grows : (p : List ℕ) (span : Span) → Grows (deleteNode p span)

@@ -12,32 +12,32 @@ use lib.Seq.{append-snoc}
 use Rattle.paths_numbers.specs.Text.{same}
 use Rattle.paths_numbers.specs.Path.{joined}
 use Rattle.paths_numbers.proofs.Texts.{by-test, not-both, same-refl, same-true}
-use Rattle.log.specs.declared.ctx.LowerCtx.{LowerCtx}
-use Rattle.log.specs.declared.recs.Span.{Span as LogSpan}
-use Rattle.log.specs.declared.recs.DefKind.the-variants as D
-use Rattle.log.specs.Recs.{meant, bareDef}
+use Rattle.making.specs.declared.ctx.LowerCtx.{LowerCtx}
+use Rattle.making.specs.declared.recs.Span.{Span as LogSpan}
+use Rattle.making.specs.declared.recs.DefKind.the-variants as D
+use Rattle.making.specs.Recs.{meant, bareDef}
 use Rattle.log.specs.Meaning.{Span, Def, deletedNode, Binding}
 use Rattle.log.specs.Record.{oneOf, nextOf, firstText, secondText, logCount}
 use Rattle.log.specs.ReadBack.{chainFrom, chainOf, bindingAt, readBindings}
-use Rattle.log.specs.PathPlaces.{pathIn}
-use Rattle.log.specs.State.{State, define, removeAt, unbindAt}
-use Rattle.log.specs.Represents.{Context, Represents, Steps, Unlinks, lastNumber}
-use Rattle.log.proofs.InHand.{represents-defs, represents-bindings, binding-path}
+use Rattle.making.specs.PathPlaces.{pathIn}
+use Rattle.making.specs.State.{State, define, removeAt, unbindAt}
+use Rattle.making.specs.Represents.{Context, Represents, Steps, Unlinks, lastNumber}
+use Rattle.making.proofs.InHand.{represents-defs, represents-bindings, binding-path}
 use Rattle.queries.specs.Kind.{any}
 use Rattle.queries.specs.Live.{live}
 use Rattle.queries.specs.Pass.{goesOn}
 use Rattle.queries.proofs.Chain.{goes, stops, goes-left}
-use Rattle.lowering.specs.Phandle.{firstBinding}
+use Rattle.post_checks.specs.Resolve.{firstBinding}
 use Rattle.lowering.specs.Unbind.{bindsLabelOf, without, unbind}
 use Rattle.lowering.specs.Lower.{bare, deleteNode}
-use Rattle.lowering.specs.Leading.{hasText, FirstAt, FirstWith, placedIn}
+use Rattle.post_checks.specs.Leading.{hasText, FirstAt, FirstWith, placedIn}
 use Rattle.lowering.specs.Unbinding.{baseOf, goesWith, passesAt, withBinds, passed, ahead, BaseAt, at-bound, at-below, Stays, Walk, Unbinds, boundBase, boundPath, FirstOfLabel, UnbindsOthers, UnlinksFirst}
 use Rattle.lowering.specs.Deleting.{DeletesBound, DefinesBound}
-use Rattle.lowering.specs.declared.resolve.Found.{Found}
+use Rattle.post_checks.specs.declared.resolve.Found.{Found}
 use Rattle.lowering.specs.declared.unbind.Base.{Base}
 use Rattle.lowering.specs.declared.unbind.Unbound.{Unbound}
-use Rattle.lowering.proofs.Lowers.{stays-over}
-use Rattle.lowering.proofs.Leading.{last-snoc, label-missing, label-there}
+use Rattle.post_checks.proofs.Lowers.{stays-over}
+use Rattle.post_checks.proofs.Leading.{last-snoc, label-missing, label-there}
 use Rattle.lowering.proofs.Unbinding.{member-behind, removed-at, walk-start, walk-ended, todo-is, without-append}
 
 -- whether a binding has a label

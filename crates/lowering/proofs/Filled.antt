@@ -6,16 +6,16 @@ use mathlib.Core.List.{List, [], _∷_, _++_, append-assoc, append-nil}
 use lib.ListN.{length-append}
 use native.Mathlib.Omega.{arith}
 use Rattle.paths_numbers.proofs.Texts.{by-test, not-both}
-use Rattle.log.specs.declared.ctx.LowerCtx.{LowerCtx}
+use Rattle.making.specs.declared.ctx.LowerCtx.{LowerCtx}
 use Rattle.log.specs.Meaning.{Span, Cell, Value, string, cellList, bytestring, phandle, DefValue, node, property, deletedNode, deletedProperty, version, plugin, Def, Diag}
-use Rattle.log.specs.State.{State, define, emit, onLast, changed, onValues, withCell, lastIs, isPropertyWith, isCellList, newestIs, valueRecords, valuesRecords, valuesBytes, cellsBytes, addPart, addValue, addCell, inProperty, inCellList}
-use Rattle.log.specs.Represents.{StepsIn}
-use Rattle.log.specs.Recs.{StepsBytes}
+use Rattle.making.specs.State.{State, define, emit, onLast, changed, onValues, withCell, lastIs, isPropertyWith, isCellList, newestIs, valueRecords, valuesRecords, valuesBytes, cellsBytes, addPart, addValue, addCell, inProperty, inCellList}
+use Rattle.making.specs.Represents.{StepsIn}
+use Rattle.making.specs.Recs.{StepsBytes}
 use Rattle.paths_numbers.specs.Bytestring.{isOdd, bytesOf}
-use Rattle.lowering.specs.Report.{Made, one, nothing, andThen}
-use Rattle.lowering.specs.Lowers.{Lowers}
+use Rattle.input.specs.Report.{Made, one, nothing, andThen}
+use Rattle.post_checks.specs.Lowers.{Lowers}
 use Rattle.lowering.specs.Filled.{withCells, addParts, addValues, addCells, filled, Fills}
-use Rattle.lowering.proofs.Lowers.{Grows, part-grows, stays-over}
+use Rattle.post_checks.proofs.Lowers.{Grows, part-grows, stays-over}
 use Rattle.lowering.proofs.Reported.{same-states, emit-none, emit-then}
 
 -- the last of a list changed by what changes it alike, by nothing, and twice

@@ -14,11 +14,11 @@ use Rattle.paths_numbers.specs.declared.operators.Evaluated.the-variants.{Value
 use Rattle.paths_numbers.proofs.Texts.{cond-in}
 use Rattle.log.specs.Meaning.{Span}
 use Rattle.log.specs.Good.{all, inOrder, goodDiag}
-use Rattle.lowering.specs.Tree.{Tree, Trees, tree, empty, more, macroKind, numberKind, characterKind, prefixKind, parenthesisKind, infixKind}
-use Rattle.lowering.specs.Expr.{Outcome, value, fails, evaluated, literal, withValue, firstOperand, applied, infixOf, prefixOf, combined, eval, evals}
+use Rattle.input.specs.Tree.{Tree, Trees, tree, empty, more, macroKind, numberKind, characterKind, prefixKind, parenthesisKind, infixKind}
+use Rattle.input.specs.Expr.{Outcome, value, fails, evaluated, literal, withValue, firstOperand, applied, infixOf, prefixOf, combined, eval, evals}
 use Rattle.lowering.proofs.GoodLists.{all-first, all-rest}
 use Rattle.lowering.proofs.GoodReports.{no-reports, good-report}
-use Rattle.lowering.proofs.Spans.{spans, spansIn, own-span, child-spans, chain-spans}
+use Rattle.input.proofs.Spans.{spans, spansIn, own-span, child-spans, chain-spans}
 
 -- a value, or a failure whose diagnostics are good
 abbrev pub goodOutcome : Outcome → Bool

@@ -11,22 +11,23 @@ use Rattle.paths_numbers.specs.Reference.{Target}
 use Rattle.paths_numbers.proofs.Texts.{both, cond-in}
 use Rattle.log.specs.Meaning.{Span, DefValue, deletedNode, deletedProperty, version, plugin, Diag}
 use Rattle.log.specs.Sound.{nonemptyPath}
-use Rattle.log.specs.State.{State}
+use Rattle.making.specs.State.{State}
 use Rattle.log.specs.Good.{inOrder, pathFits, goodDef, goodDiag, goodLog}
-use Rattle.lowering.specs.Tree.{Tree, Trees, tree, empty, more, textOf, spanOf, firstOf, nodeKind, propertyKind, directiveKind, preprocessorKind, nameKind, referenceKind}
-use Rattle.lowering.specs.Report.{report}
-use Rattle.lowering.specs.Name.{fullName}
-use Rattle.lowering.specs.Phandle.{lowerPhandle, Resolution, reaches, missing, resolve, unresolved}
-use Rattle.lowering.specs.Property.{lowerValues}
-use Rattle.lowering.specs.TwoRuns.{goodNames, goodNamesIn}
+use Rattle.input.specs.Tree.{Tree, Trees, tree, empty, more, textOf, spanOf, firstOf, nodeKind, propertyKind, directiveKind, preprocessorKind, nameKind, referenceKind}
+use Rattle.input.specs.Report.{report}
+use Rattle.input.specs.Name.{fullName}
+use Rattle.input.specs.Phandle.{lowerPhandle}
+use Rattle.post_checks.specs.Resolve.{Resolution, reaches, missing, resolve, unresolved}
+use Rattle.input.specs.Property.{lowerValues}
+use Rattle.input.specs.GoodName.{goodNames, goodNamesIn}
 use Rattle.lowering.specs.Lower.{namedProperty, lowerProperty, bare, deleteNode, deleteResolved, deleteTarget, deleteReferenced, deleteNamed, lowerDeleteNode, deletePropertyNamed, lowerDirective, lowerAs, lowerItem, lowerItems, lowered}
-use Rattle.lowering.specs.Input.{description}
-use Rattle.lowering.specs.Place.{items}
-use Rattle.lowering.specs.Rows.{accepted, verdict}
+use Rattle.input.specs.Input.{description}
+use Rattle.input.specs.Place.{items}
+use Rattle.input.specs.Rows.{accepted, verdict}
 use Rattle.lowering.specs.Lowered.{logOf, meaning}
-use Rattle.lowering.proofs.GoodNames.{full-plain, first-plain, good-parts, good-second}
-use Rattle.lowering.proofs.Rows.{accepted-names, accepted-places}
-use Rattle.lowering.proofs.Spans.{spans, spansIn, fits-spans, own-span, child-spans, second-spans, chain-spans, first-spans, property-span}
+use Rattle.input.proofs.GoodNames.{full-plain, first-plain, good-parts, good-second}
+use Rattle.input.proofs.Rows.{accepted-names, accepted-places}
+use Rattle.input.proofs.Spans.{spans, spansIn, fits-spans, own-span, child-spans, second-spans, chain-spans, first-spans, property-span}
 use Rattle.lowering.proofs.GoodLists.{all-append}
 use Rattle.lowering.proofs.GoodReports.{GoodDiags, good-report, full-reports, phandle-reports}
 use Rattle.lowering.proofs.GoodValues.{value-reports}

@@ -11,17 +11,18 @@ use Rattle.paths_numbers.specs.Reference.{Target}
 use Rattle.paths_numbers.proofs.Texts.{cond-in}
 use Rattle.log.specs.Meaning.{Span, Def, Binding, Diag}
 use Rattle.log.specs.Sound.{nonemptyPath}
-use Rattle.log.specs.State.{State}
+use Rattle.making.specs.State.{State}
 use Rattle.log.specs.Good.{all, inOrder, goodBinding, goodDiag}
 use Rattle.queries.specs.Kind.{setsOverlay}
-use Rattle.lowering.specs.Tree.{Tree, Trees, empty, more, kindOf, spanOf, childrenOf, firstOf, has, labelKind, referenceKind, slashKind}
-use Rattle.lowering.specs.Report.{Got, Made, andThen, report}
-use Rattle.lowering.specs.Name.{nameOrMacro, fullName, nodeNameSpan, labelled, labelsOf}
-use Rattle.lowering.specs.Phandle.{lowerPhandle, Resolution, reaches, missing, resolve, unresolved}
-use Rattle.lowering.specs.TwoRuns.{goodNamesIn}
+use Rattle.input.specs.Tree.{Tree, Trees, empty, more, kindOf, spanOf, childrenOf, firstOf, has, labelKind, referenceKind, slashKind}
+use Rattle.input.specs.Report.{Got, Made, andThen, report}
+use Rattle.input.specs.Name.{nameOrMacro, fullName, nodeNameSpan, labelled, labelsOf}
+use Rattle.input.specs.Phandle.{lowerPhandle}
+use Rattle.post_checks.specs.Resolve.{Resolution, reaches, missing, resolve, unresolved}
+use Rattle.input.specs.GoodName.{goodNamesIn}
 use Rattle.lowering.specs.Lower.{Place, at, aside, discarded, nowhere, Placed, byResolution, byTarget, placedAs, byName, byParts, placeOf, nodeDef, opened, settled, lowerPlaced, lowerNode}
-use Rattle.lowering.proofs.GoodNames.{full-plain}
-use Rattle.lowering.proofs.Spans.{spansIn, own-span, child-spans, chain-spans, first-spans, node-span}
+use Rattle.input.proofs.GoodNames.{full-plain}
+use Rattle.input.proofs.Spans.{spansIn, own-span, child-spans, chain-spans, first-spans, node-span}
 use Rattle.lowering.proofs.GoodLists.{all-append}
 use Rattle.lowering.proofs.GoodReports.{GoodDiags, no-reports, good-report, name-reports, full-reports, phandle-reports}
 use Rattle.lowering.proofs.GoodState.{GoodState, good-def, good-define, good-bind, good-emit, good-apart, good-dropped, good-extended}

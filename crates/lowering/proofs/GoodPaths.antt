@@ -11,12 +11,12 @@ use Rattle.paths_numbers.proofs.Texts.{by-test, not-both, both, same-true}
 use Rattle.paths_numbers.proofs.Good.{good-join}
 use Rattle.log.specs.Meaning.{DefValue, node, property, deletedNode, deletedProperty, version, plugin, Def, Binding}
 use Rattle.log.specs.Sound.{nonemptyPath}
-use Rattle.log.specs.State.{State}
+use Rattle.making.specs.State.{State}
 use Rattle.log.specs.Good.{all, pathFits, goodDef, goodBinding}
 use Rattle.queries.specs.Kind.{isNode}
 use Rattle.queries.specs.Live.{live, nodeAt, containsNode}
-use Rattle.lowering.specs.Phandle.{firstBinding, Resolution, reaches, missing, liveAt, byLabel, belowLabel, resolve}
-use Rattle.lowering.proofs.GoodNames.{never, Plain, join-filled}
+use Rattle.post_checks.specs.Resolve.{firstBinding, Resolution, reaches, missing, liveAt, byLabel, belowLabel, resolve}
+use Rattle.input.proofs.GoodNames.{never, Plain, join-filled}
 use Rattle.lowering.proofs.GoodLists.{all-found}
 use Rattle.lowering.proofs.GoodState.{GoodState, def-parts, binding-parts, live-good}
 

@@ -7,12 +7,12 @@ use Rattle.paths_numbers.specs.Text.{same}
 use Rattle.paths_numbers.specs.Reference.{Target}
 use Rattle.paths_numbers.proofs.Texts.{cond-in}
 use Rattle.log.specs.Meaning.{Span, Cell, number, reference, Value, string, cellList, bytestring, phandle, DefValue, node, property, deletedNode, deletedProperty, version, plugin, Def, Binding}
-use Rattle.log.specs.State.{State}
+use Rattle.making.specs.State.{State}
 use Rattle.log.specs.Good.{all, inOrder, goodDef, goodBinding, goodDiag}
 use Rattle.queries.specs.Kind.{any, setsOverlay}
 use Rattle.queries.specs.Live.{live}
-use Rattle.lowering.specs.Phandle.{Resolution, reaches, missing, resolve}
-use Rattle.lowering.specs.Post.{duplicatesOf, duplicateLabels, referenceReport, checkTarget, checkCell, checkCells, checkValue, checkValues, checkDef, checkDefs, checkReferences, Headers, atFirst, nextHeaders, headerReport, directivesFrom, checkDirectives, postChecks}
+use Rattle.post_checks.specs.Resolve.{Resolution, reaches, missing, resolve}
+use Rattle.post_checks.specs.Post.{duplicatesOf, duplicateLabels, referenceReport, checkTarget, checkCell, checkCells, checkValue, checkValues, checkDef, checkDefs, checkReferences, Headers, atFirst, nextHeaders, headerReport, directivesFrom, checkDirectives, postChecks}
 use Rattle.lowering.proofs.GoodLists.{all-first, all-rest, all-append}
 use Rattle.lowering.proofs.GoodReports.{GoodDiags, no-reports, good-report}
 use Rattle.lowering.proofs.GoodState.{GoodState, def-parts, binding-parts, live-good}

@@ -10,12 +10,12 @@ use Rattle.paths_numbers.specs.Reference.{Target, label, labelPath, path, unrea
 use Rattle.paths_numbers.proofs.Texts.{cond-in}
 use Rattle.log.specs.Meaning.{Span, Diag}
 use Rattle.log.specs.Good.{all, inOrder, goodDiag}
-use Rattle.lowering.specs.Tree.{Tree, Trees, textOf, wOf, spanOf, childrenOf, firstOf, nameKind, unitAddressKind, macroKind}
-use Rattle.lowering.specs.Report.{Got, report, undefinedMacro}
-use Rattle.lowering.specs.Name.{nameOr, nameOrMacro, addressed, fullName}
-use Rattle.lowering.specs.Phandle.{readable, macroFirst, lowerPhandle}
+use Rattle.input.specs.Tree.{Tree, Trees, textOf, wOf, spanOf, childrenOf, firstOf, nameKind, unitAddressKind, macroKind}
+use Rattle.input.specs.Report.{Got, report, undefinedMacro}
+use Rattle.input.specs.Name.{nameOr, nameOrMacro, addressed, fullName}
+use Rattle.input.specs.Phandle.{readable, macroFirst, lowerPhandle}
 use Rattle.lowering.proofs.GoodLists.{all-one, all-append}
-use Rattle.lowering.proofs.Spans.{spans, spansIn, child-spans, first-spans, first-span}
+use Rattle.input.proofs.Spans.{spans, spansIn, child-spans, first-spans, first-span}
 
 -- diagnostics whose spans are in order
 abbrev pub GoodDiags : List Diag → Type 0

@@ -6,7 +6,7 @@ use mathlib.Core.List.{List, [], _∷_, _++_}
 use Rattle.paths_numbers.proofs.Texts.{both, cond-in}
 use Rattle.log.specs.Meaning.{Def, Ext, Binding, Diag}
 use Rattle.log.specs.Sound.{nonemptyPath}
-use Rattle.log.specs.State.{State, start, define, bind, emit, apart, dropped, extended}
+use Rattle.making.specs.State.{State, start, define, bind, emit, apart, dropped, extended}
 use Rattle.log.specs.Good.{all, inOrder, pathFits, goodDef, goodExt, goodBinding, goodDiag}
 use Rattle.queries.specs.Kind.{any}
 use Rattle.queries.specs.Live.{isLive, live}

@@ -21,15 +21,15 @@ use Rattle.paths_numbers.specs.declared.dt_property.ByteCount.the-variants as B
 use Rattle.paths_numbers.proofs.Texts.{cond-in}
 use Rattle.log.specs.Meaning.{Span}
 use Rattle.log.specs.Good.{inOrder, goodDiag}
-use Rattle.lowering.specs.Tree.{Tree, Trees, empty, more, kindOf, textOf, wOf, spanOf, childrenOf, referenceKind, macroKind, directiveKind, preprocessorKind, stringKind, cellListKind, bytestringKind, numberKind, characterKind, expressionKind}
-use Rattle.lowering.specs.Report.{Got, Made}
-use Rattle.lowering.specs.Phandle.{lowerPhandle}
-use Rattle.lowering.specs.Expr.{Outcome, value, fails, evals, firstOperand}
-use Rattle.lowering.specs.Property.{numberCell, fittedCell, outcomeCell, referenceCell, lowerCell, lowerCells, sizedList, countedBytes, referenceValue, lowerValue, lowerValues}
+use Rattle.input.specs.Tree.{Tree, Trees, empty, more, kindOf, textOf, wOf, spanOf, childrenOf, referenceKind, macroKind, directiveKind, preprocessorKind, stringKind, cellListKind, bytestringKind, numberKind, characterKind, expressionKind}
+use Rattle.input.specs.Report.{Got, Made}
+use Rattle.input.specs.Phandle.{lowerPhandle}
+use Rattle.input.specs.Expr.{Outcome, value, fails, evals, firstOperand}
+use Rattle.input.specs.Property.{numberCell, fittedCell, outcomeCell, referenceCell, lowerCell, lowerCells, sizedList, countedBytes, referenceValue, lowerValue, lowerValues}
 use Rattle.lowering.proofs.GoodLists.{all-append}
 use Rattle.lowering.proofs.GoodReports.{GoodDiags, no-reports, good-report, phandle-reports}
 use Rattle.lowering.proofs.GoodExpr.{GoodOutcome, first-good, evals-good}
-use Rattle.lowering.proofs.Spans.{spans, spansIn, own-span, child-spans, chain-spans}
+use Rattle.input.proofs.Spans.{spans, spansIn, own-span, child-spans, chain-spans}
 
 -- what is made, with diagnostics that are good
 abbrev GoodMade : {A : Type 0} → Made A → Type 0

@@ -5,20 +5,20 @@ use mathlib.Core.Bool.{Bool, true, false, cond}
 use mathlib.Core.List.{List, [], _∷_}
 use borrow.Author.Tests.{eq-eqb, ne-eqb}
 use Rattle.paths_numbers.proofs.Texts.{both}
-use Rattle.log.specs.declared.ctx.LowerCtx.{LowerCtx}
-use Rattle.log.specs.declared.place.PathAt.{PathAt}
-use Rattle.log.specs.State.{State, emit}
-use Rattle.log.specs.Represents.{Context, withPlace, Represents}
-use Rattle.lowering.specs.Tree.{Tree, Trees, tree, empty, more, nodeKind, propertyKind, directiveKind, preprocessorKind}
-use Rattle.lowering.specs.Report.{report}
+use Rattle.making.specs.declared.ctx.LowerCtx.{LowerCtx}
+use Rattle.making.specs.declared.place.PathAt.{PathAt}
+use Rattle.making.specs.State.{State, emit}
+use Rattle.making.specs.Represents.{Context, withPlace, Represents}
+use Rattle.input.specs.Tree.{Tree, Trees, tree, empty, more, nodeKind, propertyKind, directiveKind, preprocessorKind}
+use Rattle.input.specs.Report.{report}
 use Rattle.lowering.specs.Lower.{lowerNode, lowerProperty, lowerDirective, lowerItem, lowerItems}
-use Rattle.lowering.specs.Input.{recordCount, kindAt, nextAt, childAt, secondAt, numberAt, spanAt, chainAt, recordAt}
-use Rattle.lowering.specs.TwoRuns.{goodNames, goodNamesIn}
-use Rattle.lowering.specs.Linked.{Linked, RecordIn, ChainIn}
-use Rattle.lowering.specs.Lowers.{Lowers, LowersAt}
-use Rattle.lowering.proofs.GoodNames.{good-parts, good-second}
-use Rattle.lowering.proofs.Input.{chain-none, chain-more}
-use Rattle.lowering.proofs.Read.{chain-first, chain-next}
+use Rattle.input.specs.Input.{recordCount, kindAt, nextAt, childAt, secondAt, numberAt, spanAt, chainAt, recordAt}
+use Rattle.input.specs.GoodName.{goodNames, goodNamesIn}
+use Rattle.input.specs.Linked.{Linked, RecordIn, ChainIn}
+use Rattle.post_checks.specs.Lowers.{Lowers, LowersAt}
+use Rattle.input.proofs.GoodNames.{good-parts, good-second}
+use Rattle.input.proofs.Input.{chain-none, chain-more}
+use Rattle.input.proofs.Read.{chain-first, chain-next}
 
 -- the items before record r are lowered: with the rest's it is what the whole chain does
 pub record ItemsTo (parent : PathAt) (c d : LowerCtx) (words bytes w b input text : List ℕ) (first level r : ℕ) : Type 0 where

@@ -7,9 +7,9 @@ use native.Mathlib.Omega.{arith}
 use lib.ListN.{length, length-append}
 use Rattle.paths_numbers.proofs.Texts.{not-both}
 use Rattle.log.specs.Meaning.{Span, DefValue, node, property, deletedNode, deletedProperty, version, plugin, Def, Ext, Binding, Diag}
-use Rattle.log.specs.State.{State, onLast, changed, withLabel, lastIs, isNode, inNode, textsBytes, bindingsBytes, diagsBytes, define, bind, emit, addPart, addLabel}
-use Rattle.lowering.specs.Tree.{Trees}
-use Rattle.lowering.specs.Report.{Made, nothing, andThen}
+use Rattle.making.specs.State.{State, onLast, changed, withLabel, lastIs, isNode, inNode, textsBytes, bindingsBytes, diagsBytes, define, bind, emit, addPart, addLabel}
+use Rattle.input.specs.Tree.{Trees}
+use Rattle.input.specs.Report.{Made, nothing, andThen}
 use Rattle.lowering.specs.Lower.{labelTexts}
 use Rattle.lowering.specs.Labelled.{withLabels, labelledBy}
 

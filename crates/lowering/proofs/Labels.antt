@@ -6,27 +6,27 @@ use mathlib.Core.List.{List, [], _∷_, _++_, append-assoc, append-nil}
 use native.Mathlib.Omega.{arith}
 use borrow.Author.Tests.{eq-eqb, ne-eqb}
 use Rattle.paths_numbers.proofs.Texts.{by-test, not-both}
-use Rattle.log.specs.declared.ctx.LowerCtx.{LowerCtx}
-use Rattle.log.specs.declared.place.PathAt.{PathAt}
-use Rattle.log.specs.declared.recs.Span.{Span}
+use Rattle.making.specs.declared.ctx.LowerCtx.{LowerCtx}
+use Rattle.making.specs.declared.place.PathAt.{PathAt}
+use Rattle.making.specs.declared.recs.Span.{Span}
 use Rattle.log.specs.Meaning.{Binding, Diag}
-use Rattle.log.specs.PathPlaces.{pathIn}
-use Rattle.log.specs.State.{State, bind, emit, addPart, addLabel, inNode}
-use Rattle.log.specs.Recs.{meant, bindingMade}
-use Rattle.log.specs.Represents.{Context, withPlace, Represents, Steps, StepsIn}
-use Rattle.lowering.specs.Tree.{labelKind}
-use Rattle.lowering.specs.Report.{Got, Made, nothing, andThen}
-use Rattle.lowering.specs.Name.{nameOrMacro, labelled, labelsOf}
-use Rattle.lowering.specs.Input.{recordCount, kindAt, nextAt, childAt, chainAt, recordAt}
-use Rattle.lowering.specs.Linked.{Linked, At}
-use Rattle.lowering.specs.NameRead.{nameRead}
-use Rattle.lowering.specs.declared.name.NameOrMacro.{NameOrMacro}
-use Rattle.lowering.specs.Lowers.{Lowers}
+use Rattle.making.specs.PathPlaces.{pathIn}
+use Rattle.making.specs.State.{State, bind, emit, addPart, addLabel, inNode}
+use Rattle.making.specs.Recs.{meant, bindingMade}
+use Rattle.making.specs.Represents.{Context, withPlace, Represents, Steps, StepsIn}
+use Rattle.input.specs.Tree.{labelKind}
+use Rattle.input.specs.Report.{Got, Made, nothing, andThen}
+use Rattle.input.specs.Name.{nameOrMacro, labelled, labelsOf}
+use Rattle.input.specs.Input.{recordCount, kindAt, nextAt, childAt, chainAt, recordAt}
+use Rattle.input.specs.Linked.{Linked, At}
+use Rattle.input.specs.NameRead.{nameRead}
+use Rattle.input.specs.declared.name.NameOrMacro.{NameOrMacro}
+use Rattle.post_checks.specs.Lowers.{Lowers}
 use Rattle.lowering.specs.Labelled.{labelledBy, LabelsAt}
-use Rattle.lowering.proofs.Input.{chain-none, chain-more}
-use Rattle.lowering.proofs.Lowers.{Grows, bind-grows, part-grows, stays-over}
+use Rattle.input.proofs.Input.{chain-none, chain-more}
+use Rattle.post_checks.proofs.Lowers.{Grows, bind-grows, part-grows, stays-over}
 use Rattle.lowering.proofs.Labelled.{labelled-none, labelled-then, labelled-one, labelled-report, labelled-node}
-use Rattle.log.proofs.InHand.{place-reads}
+use Rattle.making.proofs.InHand.{place-reads}
 
 -- a label added and bound
 module _ {place : PathAt} {c c₁ d : LowerCtx} {words bytes w₁ b₁ w b : List ℕ} (l : List ℕ) (span : Span) (added : StepsIn inNode c c₁ words bytes w₁ b₁ (addLabel l))

@@ -12,12 +12,12 @@ use Rattle.log.proofs.WrittenExample.{listing-written}
 use Rattle.queries.specs.Kind.{any, setsOverlay}
 use Rattle.queries.specs.Live.{live, isLive, gone}
 use Rattle.queries.specs.Query.{Answered}
-use Rattle.lowering.specs.Tree.{Trees, firstOf, has}
-use Rattle.lowering.specs.Name.{nameOrMacro, fullName, nodeNameSpan, labelsOf}
-use Rattle.log.specs.State.{State, define, bind, emit, bindingsBytes, diagsBytes, textsBytes}
+use Rattle.input.specs.Tree.{Trees, firstOf, has}
+use Rattle.input.specs.Name.{nameOrMacro, fullName, nodeNameSpan, labelsOf}
+use Rattle.making.specs.State.{State, define, bind, emit, bindingsBytes, diagsBytes, textsBytes}
 use Rattle.lowering.specs.Lower.{lowered, lowerItem, lowerItems, lowerNode, lowerDirective, placeOf, opened, labelTexts}
-use Rattle.lowering.specs.Post.{postChecks, checkDirectives, directivesFrom, checkReferences, checkDefs, duplicateLabels, duplicatesOf}
-use Rattle.lowering.specs.Input.{description}
+use Rattle.post_checks.specs.Post.{postChecks, checkDirectives, directivesFrom, checkReferences, checkDefs, duplicateLabels, duplicatesOf}
+use Rattle.input.specs.Input.{description}
 use Rattle.lowering.specs.Lowered.{logOf, recordsMade, bytesMade, fitsIn, meaning, Lowered, done}
 use Rattle.lowering.specs.Example.{items}
 use Rattle.lowering.specs.InputExample.{listingWords, listingText, listing-accepted, listing-read}

@@ -7,20 +7,20 @@ use Rattle.paths_numbers.specs.Text.{isEmpty}
 use Rattle.paths_numbers.specs.Path.{root}
 use Rattle.paths_numbers.specs.Reference.{Target}
 use Rattle.paths_numbers.proofs.Texts.{not-both}
-use Rattle.log.specs.declared.ctx.LowerCtx.{LowerCtx}
-use Rattle.log.specs.declared.place.PathAt.{PathAt}
-use Rattle.log.specs.declared.recs.TargetKind.{TargetKind}
+use Rattle.making.specs.declared.ctx.LowerCtx.{LowerCtx}
+use Rattle.making.specs.declared.place.PathAt.{PathAt}
+use Rattle.making.specs.declared.recs.TargetKind.{TargetKind}
 use Rattle.log.specs.Meaning.{Span, Def}
-use Rattle.log.specs.Recs.{targetMade}
-use Rattle.log.specs.State.{State, emit, apart, dropped}
-use Rattle.log.specs.Represents.{Context, withPlace, inBody, Represents, Enters, LeavesDropped, LeavesKept}
-use Rattle.log.proofs.InHand.{forget-place, root-place}
+use Rattle.making.specs.Recs.{targetMade}
+use Rattle.making.specs.State.{State, emit, apart, dropped}
+use Rattle.making.specs.Represents.{Context, withPlace, inBody, Represents, Enters, LeavesDropped, LeavesKept}
+use Rattle.making.proofs.InHand.{forget-place, root-place}
 use Rattle.queries.specs.Kind.{any, setsOverlay}
-use Rattle.lowering.specs.Tree.{Trees}
+use Rattle.input.specs.Tree.{Trees}
 use Rattle.lowering.specs.Lower.{at, aside, discarded, nowhere, Placed, placeOf, settled, lowerPlaced, lowerNode}
-use Rattle.lowering.specs.Input.{spanAt}
-use Rattle.lowering.specs.PhandleRead.{labelAt, pathAt}
-use Rattle.lowering.specs.Lowers.{LowersAt}
+use Rattle.input.specs.Input.{spanAt}
+use Rattle.input.specs.PhandleRead.{labelAt, pathAt}
+use Rattle.post_checks.specs.Lowers.{LowersAt}
 use Rattle.lowering.specs.NodePlaced.{PlacedTo, PlacesIn}
 use Rattle.lowering.specs.NodeLowered.{LowersApart, Settles}
 use Rattle.lowering.specs.declared.dt_node.NodePlace.{NodePlace}

@@ -12,20 +12,20 @@ use Rattle.paths_numbers.specs.Text.{same, isEmpty}
 use Rattle.paths_numbers.specs.Path.{root, join}
 use Rattle.paths_numbers.proofs.Texts.{by-test, not-both, same-refl}
 use Rattle.paths_numbers.proofs.Good.{plain-not-root}
-use Rattle.log.specs.declared.ctx.LowerCtx.{LowerCtx}
-use Rattle.log.specs.declared.place.PathAt.{PathAt}
+use Rattle.making.specs.declared.ctx.LowerCtx.{LowerCtx}
+use Rattle.making.specs.declared.place.PathAt.{PathAt}
 use Rattle.log.specs.Meaning.{Span, Diag}
-use Rattle.log.specs.State.{State, emit}
-use Rattle.log.specs.Represents.{Context, withPlace, Represents}
-use Rattle.log.proofs.InHand.{place-length}
-use Rattle.lowering.specs.Tree.{Tree, Trees, firstOf, has, referenceKind, slashKind}
-use Rattle.lowering.specs.Report.{Got, report}
-use Rattle.lowering.specs.Name.{fullName, nodeNameSpan}
-use Rattle.lowering.specs.Phandle.{lowerPhandle}
+use Rattle.making.specs.State.{State, emit}
+use Rattle.making.specs.Represents.{Context, withPlace, Represents}
+use Rattle.making.proofs.InHand.{place-length}
+use Rattle.input.specs.Tree.{Tree, Trees, firstOf, has, referenceKind, slashKind}
+use Rattle.input.specs.Report.{Got, report}
+use Rattle.input.specs.Name.{fullName, nodeNameSpan}
+use Rattle.input.specs.Phandle.{lowerPhandle}
 use Rattle.lowering.specs.Lower.{Place, at, aside, discarded, nowhere, Placed, byTarget, placedAs, byName, placeOf, opened}
-use Rattle.lowering.specs.TwoRuns.{goodNamesIn}
-use Rattle.lowering.specs.Lowers.{Lowers}
-use Rattle.lowering.specs.NameRead.{isThere}
+use Rattle.input.specs.GoodName.{goodNamesIn}
+use Rattle.post_checks.specs.Lowers.{Lowers}
+use Rattle.input.specs.NameRead.{isThere}
 use Rattle.lowering.specs.Opened.{OpensAt}
 use Rattle.lowering.specs.PropertyMade.{isTop}
 use Rattle.lowering.specs.NodePlaced.{PlacedTo, Places, PlacesIn}
@@ -33,7 +33,7 @@ use Rattle.lowering.specs.declared.dt_node.Opened.{Opened}
 use Rattle.lowering.specs.declared.dt_node.NodePlace.{NodePlace}
 use Rattle.lowering.specs.declared.dt_node.NodePlace.the-variants as N
 use Rattle.lowering.specs.declared.dt_node.PlacedNode.{PlacedNode}
-use Rattle.lowering.proofs.GoodNames.{never, full-plain}
+use Rattle.input.proofs.GoodNames.{never, full-plain}
 use Rattle.lowering.proofs.Reported.{emit-none, emit-then}
 
 -- the same place, with what was reported before

@@ -8,33 +8,34 @@ use native.Mathlib.Omega.{arith}
 use Rattle.paths_numbers.specs.Path.{joined}
 use Rattle.paths_numbers.specs.Reference.{Target}
 use Rattle.paths_numbers.proofs.Texts.{not-both}
-use Rattle.log.specs.declared.ctx.LowerCtx.{LowerCtx}
-use Rattle.log.specs.declared.place.PathAt.{PathAt}
-use Rattle.log.specs.declared.recs.Span.{Span as SpanRead}
-use Rattle.log.specs.declared.recs.DefKind.{DefKind}
-use Rattle.log.specs.declared.recs.TargetKind.{TargetKind}
+use Rattle.making.specs.declared.ctx.LowerCtx.{LowerCtx}
+use Rattle.making.specs.declared.place.PathAt.{PathAt}
+use Rattle.making.specs.declared.recs.Span.{Span as SpanRead}
+use Rattle.making.specs.declared.recs.DefKind.{DefKind}
+use Rattle.making.specs.declared.recs.TargetKind.{TargetKind}
 use Rattle.log.specs.Meaning.{Span, node, Def, Binding}
-use Rattle.log.specs.PathPlaces.{pathIn}
+use Rattle.making.specs.PathPlaces.{pathIn}
 use Rattle.log.specs.Record.{secondText}
 use Rattle.log.specs.ReadBack.{readBindings, readDefs}
-use Rattle.log.specs.Recs.{meant, bareValue, bareDef, targetMade}
-use Rattle.log.specs.State.{State, define, emit}
-use Rattle.log.specs.Represents.{Context, withPlace, Represents, Steps}
-use Rattle.log.proofs.InHand.{represents-defs, represents-bindings, binding-path}
+use Rattle.making.specs.Recs.{meant, bareValue, bareDef, targetMade}
+use Rattle.making.specs.State.{State, define, emit}
+use Rattle.making.specs.Represents.{Context, withPlace, Represents, Steps}
+use Rattle.making.proofs.InHand.{represents-defs, represents-bindings, binding-path}
 use Rattle.queries.specs.Kind.{setsOverlay}
-use Rattle.lowering.specs.Tree.{Tree, Trees, spanOf, has, omitKind}
-use Rattle.lowering.specs.Report.{Got}
-use Rattle.lowering.specs.Name.{nodeNameSpan}
-use Rattle.lowering.specs.Phandle.{lowerPhandle, Resolution, reaches, missing, resolve}
+use Rattle.input.specs.Tree.{Tree, Trees, spanOf, has, omitKind}
+use Rattle.input.specs.Report.{Got}
+use Rattle.input.specs.Name.{nodeNameSpan}
+use Rattle.input.specs.Phandle.{lowerPhandle}
+use Rattle.post_checks.specs.Resolve.{Resolution, reaches, missing, resolve}
 use Rattle.lowering.specs.Lower.{Place, at, aside, nowhere, Placed, byResolution, byTarget, opened}
-use Rattle.lowering.specs.Input.{spanAt, recordAt}
-use Rattle.lowering.specs.Lowers.{Lowers}
-use Rattle.lowering.specs.PhandleRead.{labelAt, pathAt, phandleRead}
-use Rattle.lowering.specs.Leading.{resolution, placedIn, BoundIn, ReportsMissing}
+use Rattle.input.specs.Input.{spanAt, recordAt}
+use Rattle.post_checks.specs.Lowers.{Lowers}
+use Rattle.input.specs.PhandleRead.{labelAt, pathAt, phandleRead}
+use Rattle.post_checks.specs.Leading.{resolution, placedIn, Leads, ReportsMissing}
 use Rattle.lowering.specs.Opened.{bareNode, Opens}
 use Rattle.lowering.specs.NodePlaced.{PlacesIn, DefinesLeading, leadsOn}
-use Rattle.lowering.specs.declared.resolve.Resolved.{Resolved}
-use Rattle.lowering.specs.declared.resolve.Resolved.the-variants as R
+use Rattle.post_checks.specs.declared.resolve.Resolved.{Resolved}
+use Rattle.post_checks.specs.declared.resolve.Resolved.the-variants as R
 use Rattle.lowering.specs.declared.dt_node.Opened.{Opened}
 use Rattle.lowering.specs.declared.dt_node.NodePlace.the-variants as N
 use Rattle.lowering.specs.declared.dt_node.PlacedNode.{PlacedNode}
@@ -76,7 +77,7 @@ module _ (words bytes l path : List ℕ) where
 -- the definition there
 module _ {c d : LowerCtx} {words bytes w b : List ℕ} {parts : Trees} (v : Resolved) (l path : List ℕ) (kind : DefKind) (span nameSpan : SpanRead) (found : Span) (q : List ℕ) (made : Steps c d words bytes w b (define (bareDef kind span nameSpan q)))
     (valueIs : bareValue kind ≡ node [] (has omitKind parts)) (spanIs : meant span ≡ found) (nameSpanIs : meant nameSpan ≡ nodeNameSpan parts found) where
-  defines-at : ((k : Context) (s : State) (p : List ℕ) → Represents k c words bytes s → c .short ≡ false → BoundIn words (c .binds .first) v → resolution words bytes l path v ≡ reaches p → q ≡ p)
+  defines-at : ((k : Context) (s : State) (p : List ℕ) → Represents k c words bytes s → c .short ≡ false → Leads words bytes (c .binds .first) (c .defs .first) l path v → resolution words bytes l path v ≡ reaches p → q ≡ p)
       → DefinesLeading v l path c d words bytes w b parts found
   defines-at e =
       record {
@@ -108,7 +109,7 @@ defines-none {words = words} {bytes} v l path e =
     let x = leads-nowhere words bytes l path v e in record { defines = λ k s p r z i h. never-reached (sym (x .2) ∙ h) }
 
 -- the node placed
-module _ (c : LowerCtx) (words bytes : List ℕ) (target : Target) (l path : List ℕ) (v : Resolved) (bound : BoundIn words (c .binds .first) v)
+module _ (c : LowerCtx) (words bytes : List ℕ) (target : Target) (l path : List ℕ) (v : Resolved) (bound : Leads words bytes (c .binds .first) (c .defs .first) l path v)
     (resolved : resolution words bytes l path v ≡ resolve target (readBindings words bytes (c .binds .first)) (readDefs words bytes (c .defs .first))) where
   -- in the log in hand
   in-hand : (k : Context) (s : State) → Represents k c words bytes s → c .short ≡ false → resolve target (s .binds) (s .defs) ≡ resolution words bytes l path v
@@ -134,7 +135,7 @@ module _ (c : LowerCtx) (words bytes : List ℕ) (target : Target) (l path : Lis
 
 -- or put aside
 pub place-missing : (c : LowerCtx) (words bytes : List ℕ) (v : Resolved) {parent : PathAt} {d : LowerCtx} {w b : List ℕ} {parts : Trees} {span : Span} {keeps : Bool} (input text : List ℕ) (reference : ℕ)
-    (kind : TargetKind) → BoundIn words (c .binds .first) v
+    (kind : TargetKind) → Leads words bytes (c .binds .first) (c .defs .first) (labelAt input text reference) (pathAt input text reference) v
     → resolution words bytes (labelAt input text reference) (pathAt input text reference) v ≡ resolve (targetMade kind (labelAt input text reference) (pathAt input text reference)) (readBindings words bytes (c .binds .first)) (readDefs words bytes (c .defs .first))
     → leadsOn v ≡ false → keeps ≡ setsOverlay (readDefs words bytes (c .defs .first))
     → ReportsMissing v (labelAt input text reference) (pathAt input text reference) (spanAt input reference) c d words bytes w b

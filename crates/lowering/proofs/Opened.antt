@@ -7,25 +7,25 @@ use native.Mathlib.Omega.{arith}
 use lib.ListN.{length}
 use Rattle.paths_numbers.specs.Path.{joined}
 use Rattle.paths_numbers.proofs.Texts.{by-test}
-use Rattle.log.specs.declared.ctx.LowerCtx.{LowerCtx}
-use Rattle.log.specs.declared.place.PathAt.{PathAt}
-use Rattle.log.specs.declared.recs.Span.{Span as SpanRead}
-use Rattle.log.specs.declared.recs.DefKind.{DefKind}
+use Rattle.making.specs.declared.ctx.LowerCtx.{LowerCtx}
+use Rattle.making.specs.declared.place.PathAt.{PathAt}
+use Rattle.making.specs.declared.recs.Span.{Span as SpanRead}
+use Rattle.making.specs.declared.recs.DefKind.{DefKind}
 use Rattle.log.specs.Meaning.{Span, node, Def, Binding}
-use Rattle.log.specs.State.{State, define, bind, emit, onLast, changed, lastIs, isNode, inNode, textsBytes}
-use Rattle.log.specs.PathPlaces.{pathIn}
-use Rattle.log.specs.Recs.{meant, bareValue, bareDef}
-use Rattle.log.specs.Represents.{Context, withPlace, Represents, Steps, Newest}
-use Rattle.log.proofs.InHand.{place-reads}
-use Rattle.lowering.specs.Tree.{Trees, has, omitKind}
-use Rattle.lowering.specs.Report.{Made}
-use Rattle.lowering.specs.Name.{nodeNameSpan, labelsOf}
+use Rattle.making.specs.State.{State, define, bind, emit, onLast, changed, lastIs, isNode, inNode, textsBytes}
+use Rattle.making.specs.PathPlaces.{pathIn}
+use Rattle.making.specs.Recs.{meant, bareValue, bareDef}
+use Rattle.making.specs.Represents.{Context, withPlace, Represents, Steps, Newest}
+use Rattle.making.proofs.InHand.{place-reads}
+use Rattle.input.specs.Tree.{Trees, has, omitKind}
+use Rattle.input.specs.Report.{Made}
+use Rattle.input.specs.Name.{nodeNameSpan, labelsOf}
 use Rattle.lowering.specs.Lower.{labelTexts, nodeDef, opened}
 use Rattle.lowering.specs.Labelled.{withLabels, labelledBy, LabelsAt}
 use Rattle.lowering.specs.Opened.{bareNode, Opens, OpensAt}
 use Rattle.lowering.specs.declared.dt_node.Opened.{Opened}
 use Rattle.lowering.proofs.Labelled.{same-state}
-use Rattle.lowering.proofs.Lowers.{Grows, define-grows, stays-over}
+use Rattle.post_checks.proofs.Lowers.{Grows, define-grows, stays-over}
 use Rattle.lowering.proofs.Short.{short-anywhere}
 
 -- the last of a list that ends so

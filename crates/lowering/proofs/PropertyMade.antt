@@ -11,30 +11,30 @@ use lib.ListN.{length}
 use Rattle.paths_numbers.specs.Text.{isEmpty}
 use Rattle.paths_numbers.specs.Path.{joined}
 use Rattle.paths_numbers.proofs.Texts.{by-test, not-both}
-use Rattle.log.specs.declared.ctx.LowerCtx.{LowerCtx}
-use Rattle.log.specs.declared.place.PathAt.{PathAt}
-use Rattle.log.specs.declared.recs.Span.{Span as SpanRead}
-use Rattle.log.specs.declared.recs.DefKind.the-variants as D
+use Rattle.making.specs.declared.ctx.LowerCtx.{LowerCtx}
+use Rattle.making.specs.declared.place.PathAt.{PathAt}
+use Rattle.making.specs.declared.recs.Span.{Span as SpanRead}
+use Rattle.making.specs.declared.recs.DefKind.the-variants as D
 use Rattle.log.specs.Meaning.{Span, Value, property, Def, Diag}
-use Rattle.log.specs.PathPlaces.{pathIn, placeLen}
-use Rattle.log.specs.Recs.{meant, bareDef}
-use Rattle.log.specs.State.{State, define, emit, inProperty}
-use Rattle.log.specs.Represents.{Context, withPlace, Represents, Steps}
-use Rattle.log.proofs.InHand.{place-reads, place-length}
-use Rattle.lowering.specs.Tree.{Trees}
-use Rattle.lowering.specs.Report.{Made, report}
-use Rattle.lowering.specs.Name.{fullName, propertyNameSpan}
-use Rattle.lowering.specs.Property.{lowerValues}
+use Rattle.making.specs.PathPlaces.{pathIn, placeLen}
+use Rattle.making.specs.Recs.{meant, bareDef}
+use Rattle.making.specs.State.{State, define, emit, inProperty}
+use Rattle.making.specs.Represents.{Context, withPlace, Represents, Steps}
+use Rattle.making.proofs.InHand.{place-reads, place-length}
+use Rattle.input.specs.Tree.{Trees}
+use Rattle.input.specs.Report.{Made, report}
+use Rattle.input.specs.Name.{fullName, propertyNameSpan}
+use Rattle.input.specs.Property.{lowerValues}
 use Rattle.lowering.specs.Lower.{namedProperty, lowerProperty}
-use Rattle.lowering.specs.Input.{childAt, secondAt, spanAt, chainAt}
-use Rattle.lowering.specs.TwoRuns.{goodNamesIn}
-use Rattle.lowering.specs.NameRead.{nameText, isThere, fullRead, FullNameRead}
-use Rattle.lowering.specs.Lowers.{Lowers, LowersAt}
+use Rattle.input.specs.Input.{childAt, secondAt, spanAt, chainAt}
+use Rattle.input.specs.GoodName.{goodNamesIn}
+use Rattle.input.specs.NameRead.{nameText, isThere, fullRead, FullNameRead}
+use Rattle.post_checks.specs.Lowers.{Lowers, LowersAt}
 use Rattle.lowering.specs.Filled.{addValues, filled, Fills}
 use Rattle.lowering.specs.PropertyMade.{isTop, propertyAt}
-use Rattle.lowering.specs.declared.name.FullName.{FullName}
-use Rattle.lowering.proofs.NameRead.{full-joined}
-use Rattle.lowering.proofs.Lowers.{Grows, define-grows, emit-grows, stays-over}
+use Rattle.input.specs.declared.name.FullName.{FullName}
+use Rattle.input.proofs.NameRead.{full-joined}
+use Rattle.post_checks.proofs.Lowers.{Grows, define-grows, emit-grows, stays-over}
 use Rattle.lowering.proofs.Reported.{emit-then}
 use Rattle.lowering.proofs.Filled.{propertyDef, property-filled, property-newest}
 

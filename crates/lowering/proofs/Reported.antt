@@ -5,17 +5,17 @@ use mathlib.Core.Bool.{true, false}
 use mathlib.Core.List.{List, [], _∷_, _++_, append-assoc, append-nil}
 use lib.ListN.{length-append}
 use native.Mathlib.Omega.{arith}
-use Rattle.log.specs.declared.ctx.LowerCtx.{LowerCtx}
-use Rattle.log.specs.declared.recs.Span.{Span as SpanRead}
+use Rattle.making.specs.declared.ctx.LowerCtx.{LowerCtx}
+use Rattle.making.specs.declared.recs.Span.{Span as SpanRead}
 use Rattle.log.specs.Meaning.{Span, Def, Ext, Binding, Diag}
-use Rattle.log.specs.Recs.{meant, diagMade, noSpan}
-use Rattle.log.specs.State.{State, emit, diagsBytes}
-use Rattle.log.specs.Represents.{Steps}
-use Rattle.lowering.specs.Report.{report}
-use Rattle.lowering.specs.Lowers.{Lowers}
-use Rattle.lowering.specs.NameRead.{nameRead, fullRead}
-use Rattle.lowering.specs.declared.name.FullName.{FullName}
-use Rattle.lowering.proofs.Lowers.{emit-grows, steps-lower}
+use Rattle.making.specs.Recs.{meant, diagMade, noSpan}
+use Rattle.making.specs.State.{State, emit, diagsBytes}
+use Rattle.making.specs.Represents.{Steps}
+use Rattle.input.specs.Report.{report}
+use Rattle.post_checks.specs.Lowers.{Lowers}
+use Rattle.input.specs.NameRead.{nameRead, fullRead}
+use Rattle.input.specs.declared.name.FullName.{FullName}
+use Rattle.post_checks.proofs.Lowers.{emit-grows, steps-lower}
 
 -- states are equal by their parts
 pub same-states : {a a' : List Def} (e : List Ext) (n : List Binding) {g g' : List Diag} {r r' b b' : ℕ} → a ≡ a' → g ≡ g' → r ≡ r' → b ≡ b'

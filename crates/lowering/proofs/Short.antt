@@ -3,12 +3,12 @@ use Prim.Native.Nat.{ℕ}
 use mathlib.Core.Path.{_≡_, refl}
 use mathlib.Core.Bool.{true}
 use mathlib.Core.List.{List}
-use Rattle.log.specs.declared.ctx.LowerCtx.{LowerCtx}
-use Rattle.log.specs.declared.place.PathAt.{PathAt}
-use Rattle.log.specs.State.{State}
-use Rattle.log.specs.Represents.{Context, Represents, over}
-use Rattle.lowering.specs.Lowers.{LowersAt}
-use Rattle.lowering.proofs.Lowers.{Grows, need-of, stays-over}
+use Rattle.making.specs.declared.ctx.LowerCtx.{LowerCtx}
+use Rattle.making.specs.declared.place.PathAt.{PathAt}
+use Rattle.making.specs.State.{State}
+use Rattle.making.specs.Represents.{Context, Represents, over}
+use Rattle.post_checks.specs.Lowers.{LowersAt}
+use Rattle.post_checks.proofs.Lowers.{Grows, need-of, stays-over}
 
 pub short-anywhere : {k l : Context} {c : LowerCtx} {words bytes : List ℕ} {s : State} → c .short ≡ true → Represents k c words bytes s → Represents l c words bytes s
 short-anywhere z m = over z (need-of m z)

@@ -11,16 +11,16 @@ use lib.Seq.{append-snoc, take-all}
 use Rattle.paths_numbers.specs.Text.{same}
 use Rattle.paths_numbers.specs.Path.{joined}
 use Rattle.paths_numbers.proofs.Texts.{by-test, not-both, both}
-use Rattle.log.specs.declared.ctx.LowerCtx.{LowerCtx}
+use Rattle.making.specs.declared.ctx.LowerCtx.{LowerCtx}
 use Rattle.log.specs.Meaning.{Def, Binding}
 use Rattle.log.specs.Record.{oneOf, nextOf, firstText, secondText, leads, logCount}
 use Rattle.log.specs.ReadBack.{chainFrom, chainOf, bindingAt, readBindings, readDefs}
-use Rattle.log.specs.declared.place.PathAt.{PathAt}
+use Rattle.making.specs.declared.place.PathAt.{PathAt}
 use Rattle.paths_numbers.specs.Path.{root}
-use Rattle.log.specs.PathPlaces.{pathOf, stands, settled, pathIn}
-use Rattle.log.specs.State.{State, removeAt, unbindAt}
-use Rattle.log.specs.Represents.{Context, withPlace, Represents, lastNumber, Unlinks}
-use Rattle.log.proofs.InHand.{represents-defs, represents-bindings, place-reads}
+use Rattle.making.specs.PathPlaces.{pathOf, stands, settled, pathIn}
+use Rattle.making.specs.State.{State, removeAt, unbindAt}
+use Rattle.making.specs.Represents.{Context, withPlace, Represents, lastNumber, Unlinks}
+use Rattle.making.proofs.InHand.{represents-defs, represents-bindings, place-reads}
 use Rattle.queries.specs.Kind.{any}
 use Rattle.queries.specs.Live.{live}
 use Rattle.queries.specs.Labels.{hasLabelAt}
@@ -30,7 +30,7 @@ use Rattle.lowering.specs.Unbind.{bindsLabelOf, without, unbind}
 use Rattle.lowering.specs.Unbinding.{baseOf, goesWith, passesAt, withBinds, Passes, takes, leaves, Stays, passed, ahead, BaseAt, at-named, at-given, at-bound, at-below, Walk, Unbinds}
 use Rattle.lowering.specs.declared.unbind.Base.{Base}
 use Rattle.lowering.specs.declared.unbind.Base.the-variants.{Named, Given, Bound, BoundPath}
-use Rattle.lowering.proofs.Leading.{last-snoc, any-append}
+use Rattle.post_checks.proofs.Leading.{last-snoc, any-append}
 
 -- lists: two that are equal in two parts, the first of which are as long
 same-rest : {A : Type 0} (xs ys us vs : List A) → xs ++ ys ≡ us ++ vs → length xs ≡ length us → ys ≡ vs

@@ -4,12 +4,12 @@ use mathlib.Core.Path.{_≡_}
 use mathlib.Core.Bool.{Bool, true, false, cond}
 use mathlib.Core.List.{List, []}
 use mathlib.Core.Option.{some}
-use Rattle.log.specs.declared.ctx.LowerCtx.{LowerCtx}
+use Rattle.making.specs.declared.ctx.LowerCtx.{LowerCtx}
 use Rattle.log.specs.Meaning.{Span, deletedNode}
-use Rattle.log.specs.State.{State, define}
-use Rattle.log.specs.Represents.{Context, Represents}
+use Rattle.making.specs.State.{State, define}
+use Rattle.making.specs.Represents.{Context, Represents}
 use Rattle.queries.specs.Live.{containsNode}
-use Rattle.lowering.specs.Phandle.{firstBinding}
+use Rattle.post_checks.specs.Resolve.{firstBinding}
 use Rattle.lowering.specs.Lower.{bare, deleteNode}
 use Rattle.lowering.specs.Unbinding.{boundPath}
 

@@ -8,12 +8,12 @@ use Rattle.paths_numbers.specs.Path.{join, atOrUnder, strip}
 use Rattle.log.specs.Meaning.{Span, Def, node, version, Binding}
 use Rattle.queries.specs.Kind.{any, setsOverlay}
 use Rattle.queries.specs.Live.{live, isLive, gone}
-use Rattle.lowering.specs.Tree.{Tree, Trees, tree, empty, more, firstOf, has}
-use Rattle.lowering.specs.Name.{nameOrMacro, fullName, nodeNameSpan, labelsOf}
-use Rattle.log.specs.State.{State, define, bind, emit, bindingsBytes, diagsBytes, textsBytes}
+use Rattle.input.specs.Tree.{Tree, Trees, tree, empty, more, firstOf, has}
+use Rattle.input.specs.Name.{nameOrMacro, fullName, nodeNameSpan, labelsOf}
+use Rattle.making.specs.State.{State, define, bind, emit, bindingsBytes, diagsBytes, textsBytes}
 use Rattle.lowering.specs.Unbind.{without, unbind}
 use Rattle.lowering.specs.Lower.{lowered, lowerItem, lowerItems, lowerNode, lowerDirective, placeOf, opened, labelTexts}
-use Rattle.lowering.specs.Post.{postChecks, checkDirectives, directivesFrom, checkReferences, checkDefs, duplicateLabels, duplicatesOf}
+use Rattle.post_checks.specs.Post.{postChecks, checkDirectives, directivesFrom, checkReferences, checkDefs, duplicateLabels, duplicatesOf}
 
 abbrev pub span : ℕ → ℕ → Span
 span a b = record { from = a; to = b }

@@ -4,11 +4,11 @@ use mathlib.Core.Path.{_≡_}
 use mathlib.Core.Bool.{Bool, true, cond}
 use mathlib.Core.List.{List, _++_}
 use lib.ListN.{length}
-use Rattle.log.specs.declared.ctx.LowerCtx.{LowerCtx}
+use Rattle.making.specs.declared.ctx.LowerCtx.{LowerCtx}
 use Rattle.log.specs.Meaning.{Cell, Value, string, cellList, bytestring, phandle, DefValue}
-use Rattle.log.specs.State.{State, emit, onLast, changed, onValues, valuesRecords, valuesBytes, cellsBytes, inProperty, inCellList}
-use Rattle.log.specs.Represents.{Context, Represents}
-use Rattle.lowering.specs.Report.{Made}
+use Rattle.making.specs.State.{State, emit, onLast, changed, onValues, valuesRecords, valuesBytes, cellsBytes, inProperty, inCellList}
+use Rattle.making.specs.Represents.{Context, Represents}
+use Rattle.input.specs.Report.{Made}
 
 -- a cell list with more cells
 abbrev pub withCells : List Cell → Value → Value

@@ -7,9 +7,9 @@ use mathlib.Core.List.{List, [], _∷_, _++_}
 use lib.ListN.{replicate}
 use Rattle.paths_numbers.specs.Text.{isEmpty}
 use Rattle.queries.specs.Kind.{any}
-use Rattle.lowering.specs.Input.{textAt, secondAt, numberAt, treesAt, chainAt, description}
-use Rattle.lowering.specs.Place.{fits, childPlace, secondPlace, hasChildren, wFits, fitsAlone}
-use Rattle.lowering.specs.Rows.{Verdict, accepted, refused, verdict, lowest, wrongSize, linkedBelow, badLink, badLinks, rowTwo, badText, rowThree, visits, visitsFrom, reached, lowestOf, unfit, badHead, rowFour, badName, rowFive, tooDeep, rowSix}
+use Rattle.input.specs.Input.{textAt, secondAt, numberAt, treesAt, chainAt, description}
+use Rattle.input.specs.Place.{fits, childPlace, secondPlace, hasChildren, wFits, fitsAlone}
+use Rattle.input.specs.Rows.{Verdict, accepted, refused, verdict, lowest, wrongSize, linkedBelow, badLink, badLinks, rowTwo, badText, rowThree, visits, visitsFrom, reached, lowestOf, unfit, badHead, rowFour, badName, rowFive, tooDeep, rowSix}
 use Rattle.lowering.specs.Example.{items}
 
 -- a record's eight words

@@ -4,12 +4,12 @@ use mathlib.Core.Path.{_≡_}
 use mathlib.Core.Bool.{true}
 use mathlib.Core.List.{List, [], _∷_, _++_}
 use lib.ListN.{length}
-use Rattle.log.specs.declared.ctx.LowerCtx.{LowerCtx}
-use Rattle.log.specs.declared.place.PathAt.{PathAt}
+use Rattle.making.specs.declared.ctx.LowerCtx.{LowerCtx}
+use Rattle.making.specs.declared.place.PathAt.{PathAt}
 use Rattle.log.specs.Meaning.{DefValue, node, property, deletedNode, deletedProperty, version, plugin, Binding}
-use Rattle.log.specs.State.{State, onLast, changed, textsBytes, bindingsBytes, diagsBytes, inNode}
-use Rattle.log.specs.Represents.{Context, withPlace, Represents}
-use Rattle.lowering.specs.Report.{Made}
+use Rattle.making.specs.State.{State, onLast, changed, textsBytes, bindingsBytes, diagsBytes, inNode}
+use Rattle.making.specs.Represents.{Context, withPlace, Represents}
+use Rattle.input.specs.Report.{Made}
 use Rattle.lowering.specs.Lower.{labelTexts}
 
 -- labels more of a node

@@ -9,12 +9,13 @@ use Rattle.paths_numbers.specs.Path.{root, join}
 use Rattle.paths_numbers.specs.Reference.{Target}
 use Rattle.log.specs.Meaning.{Span, Def, DefValue, node, property, deletedNode, deletedProperty, version, plugin, Ext, Binding, Diag}
 use Rattle.queries.specs.Kind.{setsOverlay}
-use Rattle.lowering.specs.Tree.{Tree, Trees, tree, empty, more, textOf, spanOf, firstOf, has, nodeKind, propertyKind, directiveKind, preprocessorKind, nameKind, referenceKind, slashKind, omitKind}
-use Rattle.lowering.specs.Report.{Got, Made, report}
-use Rattle.lowering.specs.Name.{fullName, nodeNameSpan, propertyNameSpan, labelsOf}
-use Rattle.lowering.specs.Phandle.{lowerPhandle, Resolution, reaches, missing, resolve, unresolved}
-use Rattle.lowering.specs.Property.{lowerValues}
-use Rattle.log.specs.State.{State, start, define, bind, emit, apart, dropped, extended}
+use Rattle.input.specs.Tree.{Tree, Trees, tree, empty, more, textOf, spanOf, firstOf, has, nodeKind, propertyKind, directiveKind, preprocessorKind, nameKind, referenceKind, slashKind, omitKind}
+use Rattle.input.specs.Report.{Got, Made, report}
+use Rattle.input.specs.Name.{fullName, nodeNameSpan, propertyNameSpan, labelsOf}
+use Rattle.input.specs.Phandle.{lowerPhandle}
+use Rattle.post_checks.specs.Resolve.{Resolution, reaches, missing, resolve, unresolved}
+use Rattle.input.specs.Property.{lowerValues}
+use Rattle.making.specs.State.{State, start, define, bind, emit, apart, dropped, extended}
 use Rattle.lowering.specs.Unbind.{unbind}
 
 -- where a node goes: to a path of the log in hand, to a log of its own as what its reference names, to a log of its own that is dropped, or

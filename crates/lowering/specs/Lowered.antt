@@ -10,12 +10,12 @@ use Rattle.log.specs.ReadBack.{Log}
 use Rattle.log.specs.Record.{outCount}
 use Rattle.log.specs.Written.{Written}
 use Rattle.queries.specs.Query.{Answered}
-use Rattle.lowering.specs.Tree.{Trees}
-use Rattle.log.specs.State.{State, diagsBytes}
+use Rattle.input.specs.Tree.{Trees}
+use Rattle.making.specs.State.{State, diagsBytes}
 use Rattle.lowering.specs.Lower.{lowered}
-use Rattle.lowering.specs.Post.{postChecks}
-use Rattle.lowering.specs.Input.{description}
-use Rattle.lowering.specs.Rows.{Verdict, accepted, refused, verdict}
+use Rattle.post_checks.specs.Post.{postChecks}
+use Rattle.input.specs.Input.{description}
+use Rattle.input.specs.Rows.{Verdict, accepted, refused, verdict}
 
 -- the log of a state after the post checks
 unfoldable pub logOf : State → Log

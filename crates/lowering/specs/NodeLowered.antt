@@ -5,10 +5,10 @@ use mathlib.Core.Bool.{Bool, true, cond}
 use mathlib.Core.List.{List, []}
 use Rattle.paths_numbers.specs.Path.{root}
 use Rattle.paths_numbers.specs.Reference.{Target}
-use Rattle.log.specs.declared.ctx.LowerCtx.{LowerCtx}
+use Rattle.making.specs.declared.ctx.LowerCtx.{LowerCtx}
 use Rattle.log.specs.Meaning.{Span}
-use Rattle.log.specs.State.{State, apart, dropped, extended}
-use Rattle.log.specs.Represents.{Context, inBody, Represents}
+use Rattle.making.specs.State.{State, apart, dropped, extended}
+use Rattle.making.specs.Represents.{Context, inBody, Represents}
 
 -- a body lowered at "/" into a log of its own; one that is kept is in a log that says something
 pub record LowersApart (c d : LowerCtx) (keeps : Bool) (words bytes w b : List ℕ) (f : List ℕ → State → State) : Type 0 where

@@ -4,23 +4,23 @@ use mathlib.Core.Path.{_≡_}
 use mathlib.Core.Bool.{Bool, true, false}
 use mathlib.Core.List.{List, []}
 use Rattle.paths_numbers.specs.Text.{isEmpty}
-use Rattle.log.specs.declared.ctx.LowerCtx.{LowerCtx}
-use Rattle.log.specs.declared.place.PathAt.{PathAt}
+use Rattle.making.specs.declared.ctx.LowerCtx.{LowerCtx}
+use Rattle.making.specs.declared.place.PathAt.{PathAt}
 use Rattle.log.specs.Meaning.{Span}
-use Rattle.log.specs.Recs.{targetMade}
-use Rattle.log.specs.State.{State, define, emit}
-use Rattle.log.specs.Represents.{Context, withPlace, Represents}
+use Rattle.making.specs.Recs.{targetMade}
+use Rattle.making.specs.State.{State, define, emit}
+use Rattle.making.specs.Represents.{Context, withPlace, Represents}
 use Rattle.queries.specs.Kind.{setsOverlay}
-use Rattle.lowering.specs.Tree.{Trees}
-use Rattle.lowering.specs.Phandle.{reaches}
+use Rattle.input.specs.Tree.{Trees}
+use Rattle.post_checks.specs.Resolve.{reaches}
 use Rattle.lowering.specs.Lower.{at, aside, discarded, nowhere, Placed, opened}
-use Rattle.lowering.specs.Input.{spanAt}
-use Rattle.lowering.specs.PhandleRead.{labelAt, pathAt}
-use Rattle.lowering.specs.Leading.{resolution, BoundIn}
+use Rattle.input.specs.Input.{spanAt}
+use Rattle.input.specs.PhandleRead.{labelAt, pathAt}
+use Rattle.post_checks.specs.Leading.{resolution, Leads}
 use Rattle.lowering.specs.Opened.{bareNode}
 use Rattle.lowering.specs.PropertyMade.{isTop}
-use Rattle.lowering.specs.declared.resolve.Resolved.{Resolved}
-use Rattle.lowering.specs.declared.resolve.Resolved.the-variants as R
+use Rattle.post_checks.specs.declared.resolve.Resolved.{Resolved}
+use Rattle.post_checks.specs.declared.resolve.Resolved.the-variants as R
 use Rattle.lowering.specs.declared.dt_node.NodePlace.{NodePlace}
 use Rattle.lowering.specs.declared.dt_node.NodePlace.the-variants as N
 use Rattle.lowering.specs.declared.dt_node.PlacedNode.{PlacedNode}
@@ -46,7 +46,7 @@ pub record PlacesIn (parent : PathAt) (c : LowerCtx) (words bytes w b input text
 
 -- the definition of a node where its reference leads
 pub record DefinesLeading (v : Resolved) (l path : List ℕ) (c d : LowerCtx) (words bytes w b : List ℕ) (parts : Trees) (span : Span) : Type 0 where
-  pub defines : (k : Context) (s : State) (p : List ℕ) → Represents k c words bytes s → c .short ≡ false → BoundIn words (c .binds .first) v → resolution words bytes l path v ≡ reaches p
+  pub defines : (k : Context) (s : State) (p : List ℕ) → Represents k c words bytes s → c .short ≡ false → Leads words bytes (c .binds .first) (c .defs .first) l path v → resolution words bytes l path v ≡ reaches p
       → Represents k d w b (define (bareNode p parts span) s)
 
 -- whether a reference leads somewhere

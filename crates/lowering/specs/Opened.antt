@@ -1,13 +1,13 @@
 -- A node's definition is made first, then its labels: what the log says then, and where the node's path stands.
 use Prim.Native.Nat.{ℕ}
 use mathlib.Core.List.{List, []}
-use Rattle.log.specs.declared.ctx.LowerCtx.{LowerCtx}
-use Rattle.log.specs.declared.place.PathAt.{PathAt}
+use Rattle.making.specs.declared.ctx.LowerCtx.{LowerCtx}
+use Rattle.making.specs.declared.place.PathAt.{PathAt}
 use Rattle.log.specs.Meaning.{Span, node, Def}
-use Rattle.log.specs.State.{State, define}
-use Rattle.log.specs.Represents.{Context, withPlace, Represents}
-use Rattle.lowering.specs.Tree.{Trees, has, omitKind}
-use Rattle.lowering.specs.Name.{nodeNameSpan}
+use Rattle.making.specs.State.{State, define}
+use Rattle.making.specs.Represents.{Context, withPlace, Represents}
+use Rattle.input.specs.Tree.{Trees, has, omitKind}
+use Rattle.input.specs.Name.{nodeNameSpan}
 use Rattle.lowering.specs.Lower.{opened}
 use Rattle.lowering.specs.declared.dt_node.Opened.{Opened}
 

@@ -4,12 +4,12 @@ use mathlib.Core.Bool.{Bool, false, cond}
 use mathlib.Core.List.{List, []}
 use lib.Dec.{eqb}
 use Rattle.paths_numbers.specs.Path.{joined}
-use Rattle.log.specs.declared.place.PathAt.{PathAt}
+use Rattle.making.specs.declared.place.PathAt.{PathAt}
 use Rattle.log.specs.Meaning.{property, Def}
-use Rattle.lowering.specs.Name.{propertyNameSpan}
-use Rattle.lowering.specs.Input.{childAt, spanAt, chainAt}
-use Rattle.lowering.specs.NameRead.{nameText}
-use Rattle.lowering.specs.declared.name.FullName.{FullName}
+use Rattle.input.specs.Name.{propertyNameSpan}
+use Rattle.input.specs.Input.{childAt, spanAt, chainAt}
+use Rattle.input.specs.NameRead.{nameText}
+use Rattle.input.specs.declared.name.FullName.{FullName}
 
 -- whether a place is that of the empty path
 abbrev pub isTop : PathAt → Bool

@@ -1,25 +1,22 @@
 -- One example for each slip that 01 names and that the crates below have not: computed by the checker.
 use Prim.Native.Nat.{ℕ}
-use mathlib.Core.Bool.{true, false}
+use mathlib.Core.Bool.{false}
 use mathlib.Core.Path.{_≡_, refl}
 use mathlib.Core.List.{List, [], _∷_}
-use Rattle.paths_numbers.specs.Byte.{digitOf}
 use Rattle.paths_numbers.specs.Text.{same, isEmpty, begins, startsWith}
 use Rattle.paths_numbers.specs.Path.{join, atOrUnder, strip}
-use Rattle.paths_numbers.specs.Number.{unsignedNumber, unsigned, digits, behindSign, behindPrefix, baseOf, trimmed, isSuffix}
-use Rattle.paths_numbers.specs.Cell.{sizeOf}
-use Rattle.log.specs.Meaning.{Span, Def, node, deletedNode, property, Cell, number, Value, cellList, Binding, Diag}
+use Rattle.log.specs.Meaning.{Def, node, deletedNode}
 use Rattle.queries.specs.Kind.{any, setsOverlay}
-use Rattle.queries.specs.Live.{live, isLive, gone, containsNode}
+use Rattle.queries.specs.Live.{live, isLive, gone}
 use Rattle.queries.specs.History.{history, historyFrom}
-use Rattle.lowering.specs.Tree.{Tree, Trees, tree, empty, more, firstOf, has}
-use Rattle.lowering.specs.Report.{report, Made}
-use Rattle.lowering.specs.Name.{nameOrMacro, fullName, nodeNameSpan, propertyNameSpan, labelsOf}
-use Rattle.lowering.specs.Phandle.{lowerPhandle, resolve, firstBinding}
-use Rattle.lowering.specs.Property.{lowerValues, lowerValue, lowerCells, lowerCell}
-use Rattle.log.specs.State.{State, define, bind, emit, apart, dropped, extended, bindingsBytes, diagsBytes, textsBytes}
+use Rattle.input.specs.Tree.{Tree, Trees, tree, empty, more, firstOf, has}
+use Rattle.input.specs.Report.{report}
+use Rattle.input.specs.Name.{nameOrMacro, fullName, nodeNameSpan, labelsOf}
+use Rattle.input.specs.Phandle.{lowerPhandle}
+use Rattle.post_checks.specs.Resolve.{resolve, firstBinding}
+use Rattle.making.specs.State.{define, bind, emit, apart, dropped, extended}
 use Rattle.lowering.specs.Unbind.{unbind, without}
-use Rattle.lowering.specs.Lower.{lowered, lowerItem, lowerItems, lowerNode, lowerProperty, lowerDirective, lowerDeleteNode, deleteNode, placeOf, opened, labelTexts}
+use Rattle.lowering.specs.Lower.{lowered, lowerItem, lowerItems, lowerNode, lowerDirective, lowerDeleteNode, deleteNode, placeOf, opened, labelTexts}
 use Rattle.lowering.specs.Example.{span, part}
 
 -- a node of this name with the label l and these items
@@ -51,15 +48,6 @@ nested =
 pub body-is-no-overlay : lowered nested .diags ≡ report 3 (121 ∷ []) (span 4 5) ∷ []
 unfolding lowered lowerItem lowerItems lowerNode lowerDirective placeOf opened labelTexts define bind emit apart dropped extended labelsOf nameOrMacro fullName nodeNameSpan firstOf has join same isEmpty lowerPhandle resolve firstBinding any setsOverlay
 body-is-no-overlay = refl
-
--- "losing a cell list for one bad cell": <1 z 2> keeps 1 and 2, with code 17 for z
-abbrev threeCells : Trees
-threeCells =
-    more (tree 13 [] 0 (span 0 9) (more (tree 15 (49 ∷ []) 0 (span 1 2) empty empty) (more (tree 15 (122 ∷ []) 0 (span 3 4) empty empty) (more (tree 15 (50 ∷ []) 0 (span 5 6) empty empty) empty))) empty) empty
-
-pub neighbours-stay : lowerValues threeCells ≡ record { made = cellList 32 (number 1 ∷ number 2 ∷ []) ∷ []; reports = report 17 [] (span 3 4) ∷ [] }
-unfolding lowerValues lowerValue lowerCells lowerCell sizeOf isEmpty unsignedNumber unsigned digits behindSign behindPrefix baseOf trimmed isSuffix digitOf
-neighbours-stay = refl
 
 -- a history lists the deletion above that ends it, and not the next
 abbrev nodeAt : List ℕ → Def

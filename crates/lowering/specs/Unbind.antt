@@ -3,7 +3,7 @@ use Prim.Native.Nat.{ℕ}
 use mathlib.Core.Bool.{Bool, cond}
 use mathlib.Core.List.{List, [], _∷_}
 use Rattle.log.specs.Meaning.{Def, Binding}
-use Rattle.log.specs.State.{State}
+use Rattle.making.specs.State.{State}
 use Rattle.queries.specs.Kind.{any}
 use Rattle.queries.specs.Live.{live}
 use Rattle.queries.specs.Labels.{hasLabelAt}

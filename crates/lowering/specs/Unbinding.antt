@@ -6,14 +6,14 @@ use mathlib.Core.List.{List, [], _∷_, _++_}
 use lib.ListN.{length}
 use Rattle.paths_numbers.specs.Text.{same}
 use Rattle.paths_numbers.specs.Path.{joined}
-use Rattle.log.specs.declared.ctx.LowerCtx.{LowerCtx}
-use Rattle.log.specs.declared.place.PathAt.{PathAt}
+use Rattle.making.specs.declared.ctx.LowerCtx.{LowerCtx}
+use Rattle.making.specs.declared.place.PathAt.{PathAt}
 use Rattle.log.specs.Meaning.{Binding}
 use Rattle.log.specs.Record.{oneOf, firstText, secondText, logCount}
 use Rattle.log.specs.ReadBack.{chainFrom, chainOf, bindingAt, readDefs}
-use Rattle.log.specs.PathPlaces.{pathIn}
-use Rattle.log.specs.State.{State}
-use Rattle.log.specs.Represents.{Context, withPlace, Represents, lastNumber, Unlinks}
+use Rattle.making.specs.PathPlaces.{pathIn}
+use Rattle.making.specs.State.{State}
+use Rattle.making.specs.Represents.{Context, withPlace, Represents, lastNumber, Unlinks}
 use Rattle.queries.specs.Kind.{any}
 use Rattle.queries.specs.Live.{live}
 use Rattle.queries.specs.Pass.{goesOn}

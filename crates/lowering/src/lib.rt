@@ -1,16 +1,9 @@
-// Lowering: the input tested by rows 1 to 6, its records read, what they make added to the log, and
-// the post checks.
-pub mod check_mir_post;
+// Lowering: what items, nodes, properties and directives add to the log, and the whole with rows 1
+// to 7 (lower).
 pub mod dt_node;
 pub mod dt_property;
-pub mod expr_eval;
-mod kinds;
-pub mod name;
-pub mod phandle;
-mod place;
-pub mod record;
-pub mod refusal;
+pub mod item;
+pub mod lower;
+pub mod lower_item;
 pub mod report;
-pub mod resolve;
 pub mod unbind;
-pub mod value_read;

@@ -3,30 +3,22 @@
 ghost use mathlib.Core.Path.{_≡_};
 ghost use mathlib.Core.List.{List, [], _∷_};
 ghost use Prim.Native.Nat.{ℕ};
-ghost use Rattle.log.specs.State.{emit};
-ghost use Rattle.lowering.specs.Report.{report, undefinedMacro};
-ghost use Rattle.lowering.specs.Input.{spanAt, recordAt};
-ghost use Rattle.lowering.specs.Lowers.{Lowers};
-ghost use Rattle.lowering.specs.NameRead.{nameRead, fullRead};
-ghost use Rattle.lowering.specs.Reported.{reportsOf};
-use crate::name::FullName;
-use crate::name::NameOrMacro;
-use crate::record::span_at;
-use crate::record::text_at;
-use log::ctx::LowerCtx;
-use log::recs::Span;
+ghost use Rattle.making.specs.State.{emit};
+ghost use Rattle.input.specs.Report.{report, undefinedMacro};
+ghost use Rattle.input.specs.Input.{spanAt, recordAt};
+ghost use Rattle.post_checks.specs.Lowers.{Lowers};
+ghost use Rattle.input.specs.NameRead.{nameRead, fullRead};
+ghost use Rattle.input.specs.Reported.{reportsOf};
+use input::name::FullName;
+use input::name::NameOrMacro;
+use input::record::span_at;
+use input::record::text_at;
+use input::report::Report;
+use making::ctx::LowerCtx;
+use making::recs::Span;
 
 // The code of a macro that is not defined.
 const UNDEFINED_MACRO: u32 = 10;
-
-// What is reported of a part of the input.
-pub enum Report {
-    Nothing,
-    // the record of a macro that is not defined
-    Macro(u32),
-    // another code, and the record whose span it has
-    Code(u32, u32),
-}
 
 // Reports it.
 pub fn emit_report(

@@ -1,6 +1,6 @@
 // The bindings that a deletion takes out of the log: those of live nodes' labels to their paths.
 ghost use mathlib.Core.Path.{_≡_};
-ghost use Rattle.log.specs.PathPlaces.{pathIn};
+ghost use Rattle.making.specs.PathPlaces.{pathIn};
 ghost use Rattle.queries.specs.Kind.{any};
 ghost use Rattle.queries.specs.Labels.{hasLabelAt};
 ghost use Rattle.queries.specs.Live.{live};
@@ -8,14 +8,14 @@ ghost use Rattle.paths_numbers.specs.Path.{joined};
 ghost use Rattle.log.specs.ReadBack.{readDefs};
 ghost use Rattle.lowering.specs.Unbinding.{baseOf, goesWith, passesAt, Passes, Unbinds, UnbindsAll, boundBase, UnbindsOthers, UnlinksFirst};
 ghost use mathlib.Core.Bool.{false};
-use crate::resolve::first_with;
-use log::ctx::LowerCtx;
-use log::place::PathAt;
 use log::record::first_text;
 use log::record::log_count;
 use log::record::next_of;
 use log::record::second_text;
+use making::ctx::LowerCtx;
+use making::place::PathAt;
 use paths_numbers::text::equals;
+use post_checks::resolve::first_with;
 use queries::definition::goes_on;
 use queries::mir::unbinds;
 use queries::mir::unbinds_path;

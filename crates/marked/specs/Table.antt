@@ -14,10 +14,10 @@ use Rattle.paths_numbers.specs.Bytestring.{countOf, countCode, nibbles, pairs}
 use Rattle.paths_numbers.specs.Reference.{target, isBraced, innerText, inBraces, hasSlash, beforeSlash, behindSlash, labelPath}
 use Rattle.log.specs.Meaning.{Span, Def, Binding}
 use Rattle.queries.specs.Live.{containsNode}
-use Rattle.lowering.specs.Tree.{tree, empty, more}
-use Rattle.lowering.specs.Report.{noSpan}
-use Rattle.lowering.specs.Expr.{eval, evals, value}
-use Rattle.lowering.specs.Phandle.{resolve, reaches, firstBinding}
+use Rattle.input.specs.Tree.{tree, empty, more}
+use Rattle.input.specs.Report.{noSpan}
+use Rattle.input.specs.Expr.{eval, evals, value}
+use Rattle.post_checks.specs.Resolve.{resolve, reaches, firstBinding}
 use Rattle.paths_numbers.specs.declared.expr_eval.IntErrorKind.the-variants.{Empty, PosOverflow}
 use Rattle.paths_numbers.specs.declared.expr_eval.ParsedInt.the-variants as Parsed
 use Rattle.paths_numbers.specs.declared.operators.Evaluated.the-variants as Evaluated

@@ -29,13 +29,7 @@ use paths_numbers::mir::lies_under;
 // How many definitions of a chain are live under a base. Their record numbers are written to the
 // start of a list, latest first, if it has room for them. Each call sets up four arrays: 1 MB, or
 // 128 KB for a log of at most 8,192 records.
-pub(crate) fn live_list(
-    words: &[u32],
-    bytes: &[u8],
-    first: u32,
-    base: &[u8],
-    list: &mut [u32],
-) -> u32
+pub fn live_list(words: &[u32], bytes: &[u8], first: u32, base: &[u8], list: &mut [u32]) -> u32
     ensures { λ n. ⌜ n ≡ length (liveNumbers (defAt (now (words .entry)) (now (bytes .entry))) (now (base .entry)) (chainOf (now (words .entry)) first)) ⌝ }
     ensures { λ _. ⌜ now (list .exit) ≡ fitted (now (list .entry)) (liveNumbers (defAt (now (words .entry)) (now (bytes .entry))) (now (base .entry)) (chainOf (now (words .entry)) first)) ⌝ }
 {

@@ -4,7 +4,7 @@ use mathlib.Core.Path.{_≡_, refl, sym, ap, _∙_}
 use borrow.Author.Needs.{needs}
 use mathlib.Core.Logic.{⊎-elim}
 use lib.ListN.{length}
-use Rattle.lowering.proofs.Read.{rank, rank-less}
+use Rattle.input.proofs.Read.{rank, rank-less}
 use Rattle.lowering.proofs.Labels.{LabelsTo, labels-start, labels-whole, labels-other, labels-more}
 use Rattle.lowering.proofs.dt_node.collect_labels.Statement.{statement}
 use Rattle.lowering.proofs.dt_node.collect_labels.Tie as tie

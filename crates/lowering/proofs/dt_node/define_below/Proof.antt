@@ -1,10 +1,10 @@
 -- The definition, then the labels (Opened).
 use mathlib.Core.Path.{_≡_, refl, sym, ap, _∙_}
 use Rattle.paths_numbers.specs.Path.{joined}
-use Rattle.log.specs.PathPlaces.{pathIn}
-use Rattle.lowering.specs.Input.{spanAt}
-use Rattle.lowering.specs.NameRead.{nameText}
-use Rattle.lowering.proofs.Read.{child-there}
+use Rattle.making.specs.PathPlaces.{pathIn}
+use Rattle.input.specs.Input.{spanAt}
+use Rattle.input.specs.NameRead.{nameText}
+use Rattle.input.proofs.Read.{child-there}
 use Rattle.lowering.proofs.Opened.{defined-opens, below-parent}
 use borrow.Author.Needs.{needs}
 use Rattle.lowering.proofs.dt_node.define_below.Statement.{statement}

@@ -1,10 +1,10 @@
 -- By where the reference leads (NodeReferenced).
 use mathlib.Core.Path.{_≡_, refl, sym, ap, _∙_}
-use Rattle.log.specs.PathPlaces.{pathIn}
-use Rattle.lowering.specs.Input.{spanAt}
-use Rattle.lowering.specs.PhandleRead.{labelAt, pathAt}
+use Rattle.making.specs.PathPlaces.{pathIn}
+use Rattle.input.specs.Input.{spanAt}
+use Rattle.input.specs.PhandleRead.{labelAt, pathAt}
 use Rattle.lowering.specs.NodePlaced.{leadsOn}
-use Rattle.lowering.proofs.Read.{child-there}
+use Rattle.input.proofs.Read.{child-there}
 use Rattle.lowering.proofs.NodeReferenced.{defines-bound, defines-below, defines-path, defines-none}
 use borrow.Author.Needs.{needs}
 use Rattle.lowering.proofs.dt_node.define_leading.Statement.{statement}

@@ -1,7 +1,7 @@
 -- The definition, then the labels (Opened).
 use mathlib.Core.Path.{_≡_, refl, sym, ap, _∙_}
-use Rattle.lowering.specs.Input.{spanAt}
-use Rattle.lowering.proofs.Read.{child-there}
+use Rattle.input.specs.Input.{spanAt}
+use Rattle.input.proofs.Read.{child-there}
 use Rattle.lowering.proofs.Opened.{defined-opens}
 use borrow.Author.Needs.{needs}
 use Rattle.lowering.proofs.dt_node.define_there.Statement.{statement}

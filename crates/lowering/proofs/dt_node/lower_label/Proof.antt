@@ -1,7 +1,7 @@
 -- By what the reading of its name answers (Labels).
 use mathlib.Core.Path.{_≡_}
 use borrow.Author.Needs.{needs}
-use Rattle.lowering.specs.Input.{recordAt}
+use Rattle.input.specs.Input.{recordAt}
 use Rattle.lowering.proofs.Labels.{label-bound, label-reported, label-nothing, label-read}
 use Rattle.lowering.proofs.dt_node.lower_label.Statement.{statement}
 use Rattle.lowering.proofs.dt_node.lower_label.Tie as tie

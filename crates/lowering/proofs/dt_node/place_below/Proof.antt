@@ -5,12 +5,12 @@ use mathlib.Core.List.{List, [], _∷_}
 use Prim.Native.Nat.{ℕ}
 use Rattle.paths_numbers.specs.Path.{root, join, joined}
 use Rattle.paths_numbers.proofs.Good.{plain-not-root}
-use Rattle.lowering.specs.Report.{report}
-use Rattle.lowering.specs.Name.{nodeNameSpan}
+use Rattle.input.specs.Report.{report}
+use Rattle.input.specs.Name.{nodeNameSpan}
 use Rattle.lowering.specs.Lower.{at, Placed, placedAs}
-use Rattle.lowering.specs.Input.{childAt, spanAt, chainAt}
-use Rattle.lowering.proofs.GoodNames.{full-plain}
-use Rattle.lowering.proofs.NameRead.{full-joined}
+use Rattle.input.specs.Input.{childAt, spanAt, chainAt}
+use Rattle.input.proofs.GoodNames.{full-plain}
+use Rattle.input.proofs.NameRead.{full-joined}
 use Rattle.lowering.proofs.NodePlaced.{places-at, places-nowhere, named-outside, named-below, root-inside, root-on-top}
 use borrow.Author.Needs.{needs}
 use Rattle.lowering.proofs.dt_node.place_below.Statement.{statement}

@@ -2,11 +2,11 @@
 use mathlib.Core.Path.{_≡_, refl, sym, ap, _∙_}
 use Prim.Native.Nat.{ℕ}
 use mathlib.Core.List.{List}
-use Rattle.lowering.specs.Report.{Got}
-use Rattle.lowering.specs.Name.{fullName, nodeNameSpan}
-use Rattle.lowering.specs.Input.{childAt, spanAt, chainAt}
-use Rattle.lowering.specs.NameRead.{isThere}
-use Rattle.lowering.proofs.Read.{child-there}
+use Rattle.input.specs.Report.{Got}
+use Rattle.input.specs.Name.{fullName, nodeNameSpan}
+use Rattle.input.specs.Input.{childAt, spanAt, chainAt}
+use Rattle.input.specs.NameRead.{isThere}
+use Rattle.input.proofs.Read.{child-there}
 use Rattle.lowering.proofs.Reported.{same-reports}
 use Rattle.lowering.proofs.NodePlaced.{name-decides, slash-decides, nothing-decides, there-some, not-there}
 use borrow.Author.Needs.{needs}

@@ -1,6 +1,6 @@
 -- By what the reference is read as (NodeReferenced).
 use mathlib.Core.Path.{_≡_, refl, sym, ap, _∙_}
-use Rattle.lowering.specs.PhandleRead.{phandleRead}
+use Rattle.input.specs.PhandleRead.{phandleRead}
 use Rattle.lowering.proofs.Reported.{reports-none}
 use Rattle.lowering.proofs.NodeReferenced.{read-named, read-nowhere}
 use borrow.Author.Needs.{needs}

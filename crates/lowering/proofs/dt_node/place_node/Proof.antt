@@ -1,6 +1,6 @@
 -- By the reference among the parts, else by the name (NodePlaced).
 use mathlib.Core.Path.{_≡_, refl, sym, ap, _∙_}
-use Rattle.lowering.proofs.Read.{child-there, first-missing, first-there}
+use Rattle.input.proofs.Read.{child-there, first-missing, first-there}
 use Rattle.lowering.proofs.NodePlaced.{without-reference, by-reference}
 use borrow.Author.Needs.{needs}
 use Rattle.lowering.proofs.dt_node.place_node.Statement.{statement}

@@ -1,6 +1,6 @@
 -- By where the reference leads (NodeReferenced).
 use mathlib.Core.Path.{_≡_, refl, sym, ap, _∙_}
-use Rattle.lowering.proofs.Read.{child-there}
+use Rattle.input.proofs.Read.{child-there}
 use Rattle.lowering.proofs.NodeReferenced.{place-found, place-missing}
 use borrow.Author.Needs.{needs}
 use Rattle.lowering.proofs.dt_node.place_resolved.Statement.{statement}

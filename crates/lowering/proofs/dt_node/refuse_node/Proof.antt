@@ -1,7 +1,7 @@
 -- One diagnostic (Reported).
 use mathlib.Core.Path.{_≡_, refl, sym, ap, _∙_}
 use mathlib.Core.List.{[]}
-use Rattle.lowering.proofs.Read.{child-there}
+use Rattle.input.proofs.Read.{child-there}
 use Rattle.lowering.proofs.Reported.{reported}
 use borrow.Author.Needs.{needs}
 use Rattle.lowering.proofs.dt_node.refuse_node.Statement.{statement}

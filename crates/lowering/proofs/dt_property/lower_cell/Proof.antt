@@ -1,6 +1,6 @@
 -- By the cases of what was read (Filled).
 use Rattle.lowering.proofs.Filled.{adding-cells, fills-reports, same-fills}
-use Rattle.lowering.specs.ValueRead.{cellMade}
+use Rattle.input.specs.ValueRead.{cellMade}
 use mathlib.Core.Path.{sym, ap, _∙_}
 use borrow.Author.Needs.{needs}
 use Rattle.lowering.proofs.dt_property.lower_cell.Statement.{statement}

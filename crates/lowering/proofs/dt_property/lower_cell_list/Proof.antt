@@ -1,6 +1,6 @@
 -- The list, and then its cells (Filled); the level suffices for them (Read).
 use Rattle.lowering.proofs.Filled.{list-then}
-use Rattle.lowering.proofs.Read.{some-level, children-in}
+use Rattle.input.proofs.Read.{some-level, children-in}
 use Rattle.paths_numbers.specs.Cell.{bitsOf}
 use native.Mathlib.Omega.{arith}
 use borrow.Author.Needs.{needs}

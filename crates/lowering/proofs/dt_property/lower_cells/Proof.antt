@@ -1,12 +1,12 @@
 -- Loop invariant: what the cells that are left do completes what the whole chain does (Filled, ValueRead).
-use Rattle.lowering.proofs.ValueRead.{cells-end, cells-more}
+use Rattle.input.proofs.ValueRead.{cells-end, cells-more}
 use Rattle.lowering.proofs.Filled.{adding-cells, fills-none, fills-then, same-fills}
-use Rattle.lowering.proofs.Read.{rank, rank-less, chain-first, chain-next}
+use Rattle.input.proofs.Read.{rank, rank-less, chain-first, chain-next}
 use Rattle.lowering.specs.Filled.{FillsCells}
-use Rattle.lowering.specs.Linked.{ChainIn}
-use Rattle.lowering.specs.Input.{chainAt}
-use Rattle.lowering.specs.Property.{lowerCells}
-use Rattle.log.specs.declared.ctx.LowerCtx.{LowerCtx}
+use Rattle.input.specs.Linked.{ChainIn}
+use Rattle.input.specs.Input.{chainAt}
+use Rattle.input.specs.Property.{lowerCells}
+use Rattle.making.specs.declared.ctx.LowerCtx.{LowerCtx}
 use lib.ListN.{length}
 use mathlib.Core.List.{List}
 use Prim.Native.Nat.{ℕ}

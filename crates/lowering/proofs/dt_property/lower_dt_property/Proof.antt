@@ -1,7 +1,7 @@
 -- By whether the state ran short and whether the path is empty; else the definition, its values and its name's reports (PropertyMade).
 use Rattle.lowering.proofs.PropertyMade.{property-short, property-top, property-lowers}
-use Rattle.lowering.proofs.Read.{some-level, second-in}
-use Rattle.lowering.specs.Input.{childAt, secondAt, spanAt, chainAt}
+use Rattle.input.proofs.Read.{some-level, second-in}
+use Rattle.input.specs.Input.{childAt, secondAt, spanAt, chainAt}
 use mathlib.Core.Path.{sym, _∙_}
 use native.Mathlib.Omega.{arith}
 use borrow.Author.Needs.{needs}

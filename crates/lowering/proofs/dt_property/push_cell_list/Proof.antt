@@ -1,8 +1,8 @@
 -- A value more, where it is kept (Filled).
 use borrow.Author.Tests.{not-true, not-false}
 use Rattle.lowering.proofs.Filled.{adding-values, value-one, fills-dropped, fills-one, same-fills}
-use Rattle.lowering.proofs.Lowers.{part-grows}
-use Rattle.lowering.specs.Report.{one}
+use Rattle.post_checks.proofs.Lowers.{part-grows}
+use Rattle.input.specs.Report.{one}
 use Rattle.log.specs.Meaning.{cellList}
 use Rattle.paths_numbers.specs.Cell.{bitsOf}
 use mathlib.Core.List.{[]}

@@ -1,9 +1,9 @@
 -- A cell more, where it is kept (Filled); a number is its two words (ValueRead).
 use borrow.Author.Tests.{not-true, not-false}
-use Rattle.lowering.proofs.ValueRead.{number-whole}
+use Rattle.input.proofs.ValueRead.{number-whole}
 use Rattle.lowering.proofs.Filled.{adding-cells, cell-added, fills-dropped, fills-one, same-fills}
-use Rattle.lowering.proofs.Lowers.{part-grows}
-use Rattle.lowering.specs.Report.{one}
+use Rattle.post_checks.proofs.Lowers.{part-grows}
+use Rattle.input.specs.Report.{one}
 use Rattle.log.specs.Meaning.{number}
 use Prim.Native.Nat.{ℕ}
 use mathlib.Core.Path.{refl, ap}

@@ -1,10 +1,10 @@
 -- A cell more, where it is kept (Filled).
 use Rattle.paths_numbers.specs.Reference.{Target}
-use Rattle.lowering.proofs.ValueRead.{same-target}
+use Rattle.input.proofs.ValueRead.{same-target}
 use borrow.Author.Tests.{not-true, not-false}
 use Rattle.lowering.proofs.Filled.{adding-cells, cell-added, fills-dropped, fills-one, same-fills}
-use Rattle.lowering.proofs.Lowers.{part-grows}
-use Rattle.lowering.specs.Report.{one}
+use Rattle.post_checks.proofs.Lowers.{part-grows}
+use Rattle.input.specs.Report.{one}
 use Rattle.log.specs.Meaning.{reference}
 use mathlib.Core.Path.{refl, ap}
 use borrow.Author.Needs.{needs}

@@ -1,11 +1,11 @@
 -- A value more, where it is kept (Filled).
 use Rattle.paths_numbers.specs.Reference.{Target}
 use borrow.Author.Tests.{not-true, not-false}
-use Rattle.lowering.proofs.ValueRead.{same-target, plain-reports}
+use Rattle.input.proofs.ValueRead.{same-target, plain-reports}
 use Rattle.lowering.proofs.Filled.{adding-values, value-one, fills-dropped, fills-one, same-fills, bytes-fill}
-use Rattle.lowering.proofs.Lowers.{part-grows}
-use Rattle.lowering.specs.ValueRead.{plainMade}
-use Rattle.lowering.specs.Report.{one}
+use Rattle.post_checks.proofs.Lowers.{part-grows}
+use Rattle.input.specs.ValueRead.{plainMade}
+use Rattle.input.specs.Report.{one}
 use Rattle.log.specs.Meaning.{string, phandle}
 use mathlib.Core.List.{List}
 use Prim.Native.Nat.{ℕ}

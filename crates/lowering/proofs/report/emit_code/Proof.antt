@@ -1,5 +1,5 @@
 -- A diagnostic of the log, at a record (Reported).
-use Rattle.lowering.specs.Input.{spanAt}
+use Rattle.input.specs.Input.{spanAt}
 use mathlib.Core.List.{[]}
 use Rattle.lowering.proofs.Reported.{reported}
 use borrow.Author.Needs.{needs}

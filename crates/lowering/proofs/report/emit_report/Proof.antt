@@ -1,5 +1,5 @@
 -- By the cases of a report (Reported).
-use Rattle.lowering.specs.Reported.{reportsOf}
+use Rattle.input.specs.Reported.{reportsOf}
 use mathlib.Core.Path.{sym, ap}
 use Rattle.lowering.proofs.Reported.{same-reports, reports-none}
 use borrow.Author.Needs.{needs}

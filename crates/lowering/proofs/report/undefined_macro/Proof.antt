@@ -1,6 +1,6 @@
 -- A diagnostic of the log, with the macro's text (Reported).
-use Rattle.lowering.specs.Input.{spanAt, recordAt}
-use Rattle.lowering.specs.Report.{report}
+use Rattle.input.specs.Input.{spanAt, recordAt}
+use Rattle.input.specs.Report.{report}
 use mathlib.Core.List.{List, [], _∷_}
 use Prim.Native.Nat.{ℕ}
 use mathlib.Core.Path.{ap}

@@ -3,14 +3,10 @@ use borrow.Author.Needs.{needs}
 use mathlib.Core.Path.{refl}
 use Rattle.lowering.proofs.unbind.bound_base.Statement.{statement}
 use Rattle.lowering.proofs.unbind.bound_base.Tie as tie
-use Rattle.lowering.proofs.unbind.bound_base.Reads as reads
-use Rattle.lowering.proofs.unbind.bound_base.Lts as lts
 
--- src/unbind.rt:229:9
 returns : tie.Need-returns
 returns c = rw (c .if1 .taken) refl
 
--- src/unbind.rt:225:1
 returns-2 : tie.Need-returns-2
 returns-2 c = rw (c .if1 .left) refl
 

@@ -1,86 +1,63 @@
-use Rattle.lowering.proofs.Unbinding.{goes-by, base-named, base-given, base-binding, base-below}
 -- By where the base is read.
+use Rattle.lowering.proofs.Unbinding.{goes-by, base-named, base-given, base-binding, base-below}
 use mathlib.Core.Path.{refl, sym, ap, _∙_}
 use Rattle.lowering.specs.Unbinding.{goesWith, baseOf}
 use Rattle.log.specs.ReadBack.{bindingAt}
 use borrow.Author.Needs.{needs}
 use Rattle.lowering.proofs.unbind.goes_with.Statement.{statement}
 use Rattle.lowering.proofs.unbind.goes_with.Tie as tie
-use Rattle.lowering.proofs.unbind.goes_with.Reads as reads
-use Rattle.lowering.proofs.unbind.goes_with.Lts as lts
-use Rattle.log.proofs.record.first_text.Reads as first-text-reads
-use Rattle.log.proofs.record.second_text.Reads as second-text-reads
-use Rattle.lowering.proofs.unbind.unbinds_named.Reads as unbinds-named-reads
-use Rattle.queries.proofs.mir.unbinds.Reads as unbinds-reads
-use Rattle.queries.proofs.mir.unbinds_path.Reads as unbinds-path-reads
 
--- src/unbind.rt:133:9
 first-text-requires : tie.Need-first-text-requires
 first-text-requires c κs = search needs
 
--- src/unbind.rt:134:9
 second-text-requires : tie.Need-second-text-requires
 second-text-requires c κs = search needs
 
--- src/unbind.rt:137:21
 enum-known-base : tie.Need-enum-known-base
 enum-known-base c = search needs
 
--- src/unbind.rt:137:31
 unbinds-named-requires : tie.Need-unbinds-named-requires
 unbinds-named-requires c κs = search needs
 
--- src/unbind.rt:138:24
 enum-told : tie.Need-enum-told
 enum-told c = search needs
 
--- src/unbind.rt:138:24
 unbinds-requires : tie.Need-unbinds-requires
 unbinds-requires c κs = search needs
 
--- src/unbind.rt:139:21
 enum-known-base-2 : tie.Need-enum-known-base-2
 enum-known-base-2 c = search needs
 
--- src/unbind.rt:143:13
 second-text-requires-2 : tie.Need-second-text-requires-2
 second-text-requires-2 c κs = search needs
 
--- src/unbind.rt:139:27
 unbinds-requires-2 : tie.Need-unbinds-requires-2
 unbinds-requires-2 c κs = search needs
 
--- src/unbind.rt:147:25
 enum-known-base-3 : tie.Need-enum-known-base-3
 enum-known-base-3 c = search needs
 
--- src/unbind.rt:151:13
 second-text-requires-3 : tie.Need-second-text-requires-3
 second-text-requires-3 c κs = search needs
 
--- src/unbind.rt:147:31
 unbinds-path-requires : tie.Need-unbinds-path-requires
 unbinds-path-requires c κs = search needs
 
--- src/unbind.rt:122:1
 returns : tie.Need-returns
 returns c =
     let a = c .before .before .before .before .before .before .before .before .before .before .args in
     goes-by (a .ctx .bytes) (a .out .now) (a .bytes .now) (a .name .now) (a .unit .now) (a .ctx .defs .first) (a .base) (a .r) (c .unbinds-named .ensures) (c .before .before .before .before .before .first-text .ensures) (c .before .before .before .before .second-text .ensures) (base-named (a .ctx .bytes) (a .out .now) (a .bytes .now) (a .name .now) (a .unit .now) (a .base) _ (c .before .before .base .given .1))
 
--- src/unbind.rt:122:1
 returns-2 : tie.Need-returns-2
 returns-2 c =
     let a = c .before .before .before .before .before .before .before .before .before .args in
     goes-by (a .ctx .bytes) (a .out .now) (a .bytes .now) (a .name .now) (a .unit .now) (a .ctx .defs .first) (a .base) (a .r) (c .unbinds .ensures) (c .before .before .before .before .first-text .ensures) (c .before .before .before .second-text .ensures) (base-given (a .ctx .bytes) (a .out .now) (a .bytes .now) (a .name .now) (a .unit .now) (a .base) (c .before .enum-told .given .1))
 
--- src/unbind.rt:122:1
 returns-3 : tie.Need-returns-3
 returns-3 c =
     let a = c .before .before .before .before .before .before .before .before .before .before .before .args in
     goes-by (a .ctx .bytes) (a .out .now) (a .bytes .now) (a .name .now) (a .unit .now) (a .ctx .defs .first) (a .base) (a .r) (c .unbinds2 .ensures) (c .before .before .before .before .before .before .first-text .ensures) (c .before .before .before .before .before .second-text .ensures) (base-binding (a .ctx .bytes) (a .out .now) (a .bytes .now) (a .name .now) (a .unit .now) (a .base) _ _ (c .before .second-text2 .ensures) (c .before .before .before .base2 .given .1))
 
--- src/unbind.rt:122:1
 returns-4 : tie.Need-returns-4
 returns-4 c =
     let a = c .before .before .before .before .before .before .before .before .before .before .before .args in

@@ -1,76 +1,59 @@
 -- By where the place ends (PathPlaces).
 use mathlib.Core.Path.{ap, _∙_}
 use native.Mathlib.Omega.{arith}
-use Rattle.log.specs.PathPlaces.{pathOf}
+use Rattle.making.specs.PathPlaces.{pathOf}
 use Rattle.log.proofs.Texts.{text-within}
-use Rattle.log.proofs.PathPlaces.{path-bytes, settled-behind, settled-outside, settled-there}
+use Rattle.making.proofs.PathPlaces.{path-bytes, settled-behind, settled-outside, settled-there}
 use borrow.Author.Needs.{needs}
 use Rattle.lowering.proofs.unbind.place_text.Statement.{statement}
 use Rattle.lowering.proofs.unbind.place_text.Tie as tie
-use Rattle.lowering.proofs.unbind.place_text.Reads as reads
-use Rattle.lowering.proofs.unbind.place_text.Lts as lts
 
--- src/unbind.rt:194:16
 cast-from : tie.Need-cast-from
 cast-from c = search needs
 
--- src/unbind.rt:195:23
 cast-end : tie.Need-cast-end
 cast-end c = search needs
 
--- src/unbind.rt:195:15
 add-end : tie.Need-add-end
 add-end c = search needs
 
--- src/unbind.rt:197:16
 sub-result : tie.Need-sub-result
 sub-result c = search needs
 
--- src/unbind.rt:197:16
 part-result-start : tie.Need-part-result-start
 part-result-start c = search needs
 
--- src/unbind.rt:197:16
 part-result-end : tie.Need-part-result-end
 part-result-end c = search needs
 
--- src/unbind.rt:197:9
 returns : tie.Need-returns
 returns c =
     let a = c .before .before .before .before .args in
     λ e. path-bytes (a .bytes .now) (record { root = a .place .root; start = 0; size = 0 }) e ∙ ap (pathOf (a .bytes .now)) (settled-behind (a .used) (a .bytes .now) (a .place) (c .before .if1 .taken))
 
--- src/unbind.rt:200:16
 sub-result-2 : tie.Need-sub-result-2
 sub-result-2 c = search needs
 
--- src/unbind.rt:200:16
 part-result-start-2 : tie.Need-part-result-start-2
 part-result-start-2 c = search needs
 
--- src/unbind.rt:200:16
 part-result-end-2 : tie.Need-part-result-end-2
 part-result-end-2 c = search needs
 
--- src/unbind.rt:200:9
 returns-2 : tie.Need-returns-2
 returns-2 c =
     let a = c .before .before .before .before .before .args in
     λ e. path-bytes (a .bytes .now) (record { root = a .place .root; start = 0; size = 0 }) e ∙ ap (pathOf (a .bytes .now)) (settled-outside (a .used) (a .bytes .now) (a .place) (omega arith) (c .before .if2 .taken))
 
--- src/unbind.rt:202:5
 sub-result-3 : tie.Need-sub-result-3
 sub-result-3 c = search needs
 
--- src/unbind.rt:202:5
 part-result-start-3 : tie.Need-part-result-start-3
 part-result-start-3 c = search needs
 
--- src/unbind.rt:202:5
 part-result-end-3 : tie.Need-part-result-end-3
 part-result-end-3 c = search needs
 
--- src/unbind.rt:191:1
 returns-3 : tie.Need-returns-3
 returns-3 c =
     let a = c .before .before .before .before .before .args in

@@ -6,17 +6,12 @@ use mathlib.Core.List.{List}
 use lib.ListN.{length}
 use native.Mathlib.Omega.{arith}
 use Rattle.log.specs.Meaning.{Binding}
-use Rattle.log.specs.State.{State}
-use Rattle.log.specs.Represents.{Context}
+use Rattle.making.specs.State.{State}
+use Rattle.making.specs.Represents.{Context}
 use Rattle.lowering.specs.Unbinding.{Walk}
 use Rattle.lowering.proofs.Unbinding.{walk-on, count-same, passes-left}
 use Rattle.lowering.proofs.unbind.unbind.Statement.{statement}
 use Rattle.lowering.proofs.unbind.unbind.Tie as tie
-use Rattle.lowering.proofs.unbind.unbind.Reads as reads
-use Rattle.lowering.proofs.unbind.unbind.Lts as lts
-use Rattle.log.proofs.record.next_of.Reads as next-of-reads
-use Rattle.lowering.proofs.unbind.passes.Reads as passes-reads
-use Rattle.lowering.proofs.unbind.unbind_one.Reads as unbind-one-reads
 
 abbrev Inv-loop : tie.InvT-loop
 Inv-loop out₀ bytes₀ base name unit stops label before first most d₀ previous₀ r₀ left₀ out bytes d previous r left = (length out ≡ length out₀) × (length bytes ≡ length bytes₀) × ((k : Context) (s : State) (front : List Binding) (p : List ℕ) → Walk base name unit stops label k s front p d₀ out₀ bytes₀ before first most → Walk base name unit stops label k s front p d out bytes previous r left)
@@ -24,45 +19,35 @@ Inv-loop out₀ bytes₀ base name unit stops label before first most d₀ previ
 abbrev μ-loop : tie.MeasureT-loop
 μ-loop out₀ bytes₀ base name unit stops label before first most d₀ previous₀ r₀ left₀ out bytes d previous r left = left
 
--- src/unbind.rt:67:5
 loop-holds : tie.Need-loop-holds Inv-loop μ-loop
 loop-holds c = (refl, refl, λ k s front p o. o)
 
--- src/unbind.rt:67:11
 passes-requires : tie.Need-passes-requires Inv-loop μ-loop
 passes-requires c κs = search needs
 
--- src/unbind.rt:68:13
 next-of-requires : tie.Need-next-of-requires Inv-loop μ-loop
 next-of-requires c κs = search needs
 
--- src/unbind.rt:69:13
 unbind-one-requires : tie.Need-unbind-one-requires Inv-loop μ-loop
 unbind-one-requires c κs = search needs
 
--- src/unbind.rt:73:9
 sub-left : tie.Need-sub-left Inv-loop μ-loop
 sub-left c = passes-left _ _ _ _ _ _ (sym (c .before .before .before .before .before .before .before .before .before .before .before .passes .ensures) ∙ c .before .before .before .before .before .before .before .before .before .before .if1 .taken)
 
--- src/unbind.rt:67:5
 loop-less : tie.Need-loop-less Inv-loop μ-loop
 loop-less c = omega (arith, passes-left _ _ _ _ _ _ (sym (c .before .before .before .before .before .before .before .before .before .before .before .passes .ensures) ∙ c .before .before .before .before .before .before .before .before .before .before .if1 .taken))
 
--- src/unbind.rt:67:5
 loop-again : tie.Need-loop-again Inv-loop μ-loop
 loop-again c =
     let l = c .before .before .before .before .before .before .before .before .before .before .before .before .before .before .loop in
     (search needs, search needs, λ k s front p o. walk-on (l .inv .2 k s front p o) (sym (c .before .before .before .before .before .before .before .before .before .before .before .passes .ensures) ∙ c .before .before .before .before .before .before .before .before .before .before .if1 .taken) (c .before .before .before .before .before .unbind-one .ensures) (count-same _ _ (search needs)) _ (c .before .before .before .before .before .before .before .before .next-of .ensures))
 
--- src/unbind.rt:48:1
 same-length : tie.Need-same-length Inv-loop μ-loop
 same-length c = search needs
 
--- src/unbind.rt:48:1
 same-length-2 : tie.Need-same-length-2 Inv-loop μ-loop
 same-length-2 c = search needs
 
--- src/unbind.rt:48:1
 returns : tie.Need-returns Inv-loop μ-loop
 returns c =
     let l = c .before .before .before .before .loop in

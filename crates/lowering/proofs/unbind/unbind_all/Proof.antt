@@ -4,28 +4,19 @@ use mathlib.Core.List.{[]}
 use borrow.Author.Needs.{needs}
 use Rattle.lowering.proofs.unbind.unbind_all.Statement.{statement}
 use Rattle.lowering.proofs.unbind.unbind_all.Tie as tie
-use Rattle.lowering.proofs.unbind.unbind_all.Reads as reads
-use Rattle.lowering.proofs.unbind.unbind_all.Lts as lts
-use Rattle.log.proofs.record.log_count.Reads as log-count-reads
-use Rattle.lowering.proofs.unbind.unbind.Reads as unbind-reads
 
--- src/unbind.rt:217:9
 log-count-requires : tie.Need-log-count-requires
 log-count-requires c κs = search needs
 
--- src/unbind.rt:218:9
 unbind-requires : tie.Need-unbind-requires
 unbind-requires c κs = search needs
 
--- src/unbind.rt:206:1
 same-length : tie.Need-same-length
 same-length c = search needs
 
--- src/unbind.rt:206:1
 same-length-2 : tie.Need-same-length-2
 same-length-2 c = search needs
 
--- src/unbind.rt:206:1
 returns : tie.Need-returns
 returns c =
     let u = c .before .before .before .before .before .unbind .ensures in

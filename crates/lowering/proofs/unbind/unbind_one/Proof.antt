@@ -4,40 +4,28 @@ use Rattle.lowering.specs.Unbinding.{takes, leaves}
 use borrow.Author.Needs.{needs}
 use Rattle.lowering.proofs.unbind.unbind_one.Statement.{statement}
 use Rattle.lowering.proofs.unbind.unbind_one.Tie as tie
-use Rattle.lowering.proofs.unbind.unbind_one.Reads as reads
-use Rattle.lowering.proofs.unbind.unbind_one.Lts as lts
-use Rattle.log.proofs.ctx.LowerCtx.unlink_binding.Reads as unlink-binding-reads
-use Rattle.lowering.proofs.unbind.goes_with.Reads as goes-with-reads
 
--- src/unbind.rt:109:8
 goes-with-requires : tie.Need-goes-with-requires
 goes-with-requires c κs = search needs
 
--- src/unbind.rt:111:18
 unlink-binding-requires : tie.Need-unlink-binding-requires
 unlink-binding-requires c κs = search needs
 
--- src/unbind.rt:110:9
 same-length : tie.Need-same-length
 same-length c = search needs
 
--- src/unbind.rt:110:9
 same-length-2 : tie.Need-same-length-2
 same-length-2 c = search needs
 
--- src/unbind.rt:110:9
 returns : tie.Need-returns
 returns c = takes (sym (c .before .before .before .before .before .before .before .before .goes-with .ensures) ∙ c .before .before .before .before .before .before .before .if1 .taken) (c .before .before .before .before .unlink-binding .ensures)
 
--- src/unbind.rt:97:1
 same-length-3 : tie.Need-same-length-3
 same-length-3 c = search needs
 
--- src/unbind.rt:97:1
 same-length-4 : tie.Need-same-length-4
 same-length-4 c = search needs
 
--- src/unbind.rt:97:1
 returns-2 : tie.Need-returns-2
 returns-2 c = leaves (sym (c .before .goes-with .ensures) ∙ c .if1 .left) refl refl refl
 

@@ -4,32 +4,22 @@ use Rattle.lowering.proofs.Unbinding.{root-read}
 use borrow.Author.Needs.{needs}
 use Rattle.lowering.proofs.unbind.unbinds_named.Statement.{statement}
 use Rattle.lowering.proofs.unbind.unbinds_named.Tie as tie
-use Rattle.lowering.proofs.unbind.unbinds_named.Reads as reads
-use Rattle.lowering.proofs.unbind.unbinds_named.Lts as lts
-use Rattle.lowering.proofs.unbind.place_text.Reads as place-text-reads
-use Rattle.queries.proofs.mir.unbinds_path.Reads as unbinds-path-reads
 
--- src/unbind.rt:176:47
 slice-aggregate-unbinds-path : tie.Need-slice-aggregate-unbinds-path
 slice-aggregate-unbinds-path c = search needs
 
--- src/unbind.rt:176:9
 unbinds-path-requires : tie.Need-unbinds-path-requires
 unbinds-path-requires c κs = search needs
 
--- src/unbind.rt:176:9
 returns : tie.Need-returns
 returns c = c .unbinds-path .ensures ∙ rw (root-read (c .before .before .before .before .before .before .before .before .before .args .ctx .bytes) (c .before .before .before .before .before .before .before .before .before .args .bytes .now) (c .before .before .before .before .before .before .before .before .before .args .place) (c .before .before .if1 .taken)) refl
 
--- src/unbind.rt:182:9
 place-text-requires : tie.Need-place-text-requires
 place-text-requires c κs = search needs
 
--- src/unbind.rt:178:5
 unbinds-path-requires-2 : tie.Need-unbinds-path-requires-2
 unbinds-path-requires-2 c κs = search needs
 
--- src/unbind.rt:161:1
 returns-2 : tie.Need-returns-2
 returns-2 c = c .unbinds-path2 .ensures ∙ rw (c .before .place-text .ensures (c .before .before .if1 .left)) refl
 

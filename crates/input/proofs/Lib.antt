@@ -1,0 +1,16 @@
+pub mod GoodNames
+pub mod Spans
+pub mod Search
+pub mod Input
+pub mod Read
+pub mod Evaluation
+pub mod NameRead
+pub mod PhandleRead
+pub mod Rows
+pub mod Rising
+pub mod RowsTests
+pub mod RowsMarks
+pub mod RowsStands
+pub mod RowsFound
+pub mod RowsLoops
+pub mod ValueRead

@@ -1,0 +1,124 @@
+-- Values and cells by the kinds of their records.
+use Prim.Native.Nat.{ℕ, _+_, _*_, _/_, _%_, _^_, _<_}
+use native.Mathlib.Nat.{div-add-mod'}
+use mathlib.Core.Path.{_≡_, refl, sym, _∙_}
+use mathlib.Core.Bool.{cond}
+use mathlib.Core.List.{List, []}
+use native.Mathlib.Omega.{arith}
+use borrow.Author.Tests.{ne-eqb}
+use Rattle.paths_numbers.specs.Bytestring.{isOdd, bytesOf, countOf}
+use Rattle.paths_numbers.specs.declared.dt_property.BitsSize.{BitsSize}
+use Rattle.paths_numbers.specs.declared.dt_property.ByteCount.{ByteCount}
+use Rattle.paths_numbers.specs.declared.dt_property.ByteCount.the-variants as B
+use Rattle.paths_numbers.proofs.Texts.{by-test}
+use Rattle.log.specs.Meaning.{Span, bytestring}
+use Rattle.making.specs.Recs.{targetMade}
+use Rattle.making.specs.declared.recs.TargetKind.{TargetKind}
+use Rattle.input.specs.Tree.{tree, numberKind, characterKind, expressionKind, referenceKind, macroKind, directiveKind, preprocessorKind, stringKind, cellListKind, bytestringKind}
+use Rattle.input.specs.Report.{one, nothing, andThen}
+use Rattle.input.specs.Phandle.{lowerPhandle}
+use Rattle.input.specs.Property.{referenceCell, lowerCell, lowerCells, countedBytes, referenceValue, lowerValue, lowerValues}
+use Rattle.input.specs.Input.{recordCount, kindAt, nextAt, childAt, secondAt, textAt, numberAt, spanAt, chainAt, recordAt}
+use Rattle.input.specs.Linked.{Linked}
+use Rattle.input.specs.ValueRead.{plainMade}
+use Rattle.input.specs.declared.value_read.PlainValue.{PlainValue}
+use Rattle.input.specs.declared.value_read.PlainValue.the-variants as P
+use Rattle.input.proofs.Input.{chain-none, chain-more}
+
+module _ (words text : List ℕ) (r : ℕ) where
+  -- a record of a kind
+  pub cell-kind : (size : BitsSize) (k : ℕ) → kindAt words r ≡ k
+      → lowerCell size (tree k (textAt words text r) (numberAt words r) (spanAt words r) (chainAt words text (childAt words r)) (chainAt words text (secondAt words r)))
+      ≡ lowerCell size (recordAt words text r)
+  unfolding recordAt
+  cell-kind size k e = rw (sym e) refl
+
+  pub value-kind : (k : ℕ) → kindAt words r ≡ k
+      → lowerValue (tree k (textAt words text r) (numberAt words r) (spanAt words r) (chainAt words text (childAt words r)) (chainAt words text (secondAt words r)))
+      ≡ lowerValue (recordAt words text r)
+  unfolding recordAt
+  value-kind k e = rw (sym e) refl
+
+  -- a reference
+  pub cell-reference : (size : BitsSize) → kindAt words r ≡ referenceKind
+      → referenceCell size (spanAt words r) (lowerPhandle (recordAt words text r)) ≡ lowerCell size (recordAt words text r)
+  unfolding lowerCell recordAt
+  cell-reference size e = rw e refl
+
+  pub value-reference : kindAt words r ≡ referenceKind → referenceValue (lowerPhandle (recordAt words text r)) ≡ lowerValue (recordAt words text r)
+  unfolding lowerValue recordAt
+  value-reference e = rw e refl
+
+  -- and of none of these kinds
+  pub cell-other : (size : BitsSize) → (kindAt words r ≡ numberKind → ⊥) → (kindAt words r ≡ characterKind → ⊥) → (kindAt words r ≡ expressionKind → ⊥)
+      → (kindAt words r ≡ referenceKind → ⊥) → (kindAt words r ≡ macroKind → ⊥) → (kindAt words r ≡ directiveKind → ⊥) → (kindAt words r ≡ preprocessorKind → ⊥)
+      → nothing [] ≡ lowerCell size (recordAt words text r)
+  unfolding lowerCell recordAt
+  cell-other size a b c d e f g =
+      simp (
+        ne-eqb (kindAt words r) numberKind a,
+        ne-eqb (kindAt words r) characterKind b,
+        ne-eqb (kindAt words r) expressionKind c,
+        ne-eqb (kindAt words r) referenceKind d,
+        ne-eqb (kindAt words r) macroKind e,
+        ne-eqb (kindAt words r) directiveKind f,
+        ne-eqb (kindAt words r) preprocessorKind g,
+      )
+
+  pub value-other : (kindAt words r ≡ stringKind → ⊥) → (kindAt words r ≡ cellListKind → ⊥) → (kindAt words r ≡ bytestringKind → ⊥)
+      → (kindAt words r ≡ referenceKind → ⊥) → (kindAt words r ≡ macroKind → ⊥) → (kindAt words r ≡ directiveKind → ⊥) → (kindAt words r ≡ preprocessorKind → ⊥)
+      → nothing [] ≡ lowerValue (recordAt words text r)
+  unfolding lowerValue recordAt
+  value-other a b c d e f g =
+      simp (
+        ne-eqb (kindAt words r) stringKind a,
+        ne-eqb (kindAt words r) cellListKind b,
+        ne-eqb (kindAt words r) bytestringKind c,
+        ne-eqb (kindAt words r) referenceKind d,
+        ne-eqb (kindAt words r) macroKind e,
+        ne-eqb (kindAt words r) directiveKind f,
+        ne-eqb (kindAt words r) preprocessorKind g,
+      )
+
+-- a bytestring that was counted has an even count of digits
+pub counted-some : (span : Span) (t : List ℕ) (n : ByteCount) (m : ℕ) → n ≡ B.Bytes m → n ≡ countOf t
+    → cond (isOdd t) (nothing []) (one (bytestring (bytesOf t))) ≡ countedBytes span t n
+unfolding countOf
+counted-some span t n m e h =
+    by-test (isOdd t)
+    (λ q. let k : n ≡ B.MissingDigit = h ∙ rw q refl in let z : _≡_ {A = ℕ} 0 1 = cc in absurd (omega arith))
+    (λ q. rw (q, e) refl)
+
+-- what a reference names, by its texts
+pub same-target : (k : TargetKind) {l m p q : List ℕ} → l ≡ m → p ≡ q → targetMade k l p ≡ targetMade k m q
+same-target k e f = rw (e, f) refl
+
+-- a value without cells reports nothing
+pub plain-reports : (words text : List ℕ) (r : ℕ) (v : PlainValue) → plainMade words text r v .reports ≡ []
+plain-reports words text r P.String = refl
+plain-reports words text r P.Bytestring = by-test (isOdd (textAt words text r)) (λ q. rw q refl) (λ q. rw q refl)
+plain-reports words text r (P.Phandle k) = refl
+
+-- the values and the cells of a chain: none from no record on, else those of its first record and those from its next
+module _ (words text : List ℕ) (r : ℕ) where
+  pub values-end : r ≡ 0 → nothing [] ≡ lowerValues (chainAt words text r)
+  unfolding lowerValues
+  values-end e = rw (e, chain-none words text) refl
+
+  pub cells-end : (size : BitsSize) → r ≡ 0 → nothing [] ≡ lowerCells size (chainAt words text r)
+  unfolding lowerCells
+  cells-end size e = rw (e, chain-none words text) refl
+
+  module _ (l : Linked words) (n : r ≡ 0 → ⊥) (a : r < recordCount words) where
+    pub values-more : andThen (lowerValue (recordAt words text r)) (lowerValues (chainAt words text (nextAt words r))) ≡ lowerValues (chainAt words text r)
+    unfolding lowerValues
+    values-more = rw (chain-more words l text r n a) refl
+
+    pub cells-more : (size : BitsSize)
+        → andThen (lowerCell size (recordAt words text r)) (lowerCells size (chainAt words text (nextAt words r))) ≡ lowerCells size (chainAt words text r)
+    unfolding lowerCells
+    cells-more size = rw (chain-more words l text r n a) refl
+
+-- a number by its two words
+pub number-whole : (n : ℕ) → n % 4294967296 + n / 4294967296 * 2 ^ 32 ≡ n
+number-whole n = omega (arith, div-add-mod' n 4294967296)

@@ -1,0 +1,164 @@
+// Items lowered (lower_item of item.rs and lower_dt_node of dt_node.rs): an item calls the node, a
+// node its body's items, and the level that is left falls with each body.
+ghost use mathlib.Core.Path.{_≡_};
+ghost use mathlib.Core.Bool.{true};
+ghost use mathlib.Core.List.{List};
+ghost use Prim.Native.Nat.{ℕ};
+ghost use Rattle.making.specs.State.{State};
+ghost use Rattle.lowering.specs.Lower.{lowerNode, lowerItem, lowerItems};
+ghost use Rattle.input.specs.Input.{childAt, secondAt, spanAt, chainAt, recordAt};
+ghost use Rattle.input.specs.GoodName.{goodNames, goodNamesIn};
+ghost use Rattle.input.specs.Linked.{Linked, RecordIn, ChainIn};
+ghost use Rattle.post_checks.specs.Lowers.{LowersAt};
+ghost use Rattle.lowering.specs.NodeLowered.{LowersApart};
+use crate::dt_node::NodePlace;
+use crate::dt_node::place_node;
+use crate::dt_node::settle_aside;
+use crate::dt_property::lower_dt_property;
+use crate::item::handle_dts_directive;
+use crate::report::emit_code;
+use input::kinds::DIRECTIVE;
+use input::kinds::NODE;
+use input::kinds::PREPROCESSOR;
+use input::kinds::PROPERTY;
+use input::record::kind_at;
+use input::record::next_at;
+use input::record::second_at;
+use making::ctx::LowerCtx;
+use making::place::PathAt;
+
+// The code of a preprocessor directive.
+const PREPROCESSOR_CODE: u32 = 1;
+
+// Lowers a chain of items under a path.
+pub fn lower_items(
+    words: &[u32],
+    text: &[u8],
+    first: u32,
+    parent: PathAt,
+    level: u32,
+    out: &mut [u32],
+    bytes: &mut [u8],
+    ctx: LowerCtx,
+) -> LowerCtx
+    requires { ⌜ Linked (now words) ⌝ }
+    requires { ⌜ ChainIn (now words) (now text) first level ⌝ }
+    requires { ⌜ goodNamesIn (chainAt (now words) (now text) first) ≡ true ⌝ }
+    ensures { λ d. ⌜ LowersAt parent ctx d (now (out .entry)) (now (bytes .entry)) (now (out .exit)) (now (bytes .exit)) (λ p s. lowerItems (chainAt (now (words .entry)) (now (text .entry)) first) p s) ⌝ }
+{
+    let mut state = ctx;
+    let mut r = first;
+    while r != 0 {
+        state = lower_item(words, text, r, parent, level, out, bytes, state);
+        r = next_at(words, r);
+    }
+    state
+}
+
+// Lowers an item under a path.
+fn lower_item(
+    words: &[u32],
+    text: &[u8],
+    r: u32,
+    parent: PathAt,
+    level: u32,
+    out: &mut [u32],
+    bytes: &mut [u8],
+    ctx: LowerCtx,
+) -> LowerCtx
+    requires { ⌜ Linked (now words) ⌝ }
+    requires { ⌜ RecordIn (now words) (now text) r level ⌝ }
+    requires { ⌜ goodNames (recordAt (now words) (now text) r) ≡ true ⌝ }
+    ensures { λ d. ⌜ LowersAt parent ctx d (now (out .entry)) (now (bytes .entry)) (now (out .exit)) (now (bytes .exit)) (λ p s. lowerItem (recordAt (now (words .entry)) (now (text .entry)) r) p s) ⌝ }
+{
+    let kind = kind_at(words, r);
+    if kind == NODE {
+        return lower_dt_node(words, text, r, parent, level, out, bytes, ctx);
+    }
+    if kind == PROPERTY {
+        return lower_dt_property(words, text, r, parent, level, out, bytes, ctx);
+    }
+    if kind == DIRECTIVE {
+        return handle_dts_directive(words, text, r, parent, out, bytes, ctx);
+    }
+    if kind == PREPROCESSOR {
+        return emit_code(words, PREPROCESSOR_CODE, r, out, bytes, ctx);
+    }
+    ctx
+}
+
+// Lowers a node: where it goes, and then its body. A state that ran short stays as it is.
+fn lower_dt_node(
+    words: &[u32],
+    text: &[u8],
+    r: u32,
+    parent: PathAt,
+    level: u32,
+    out: &mut [u32],
+    bytes: &mut [u8],
+    ctx: LowerCtx,
+) -> LowerCtx
+    requires { ⌜ Linked (now words) ⌝ }
+    requires { ⌜ RecordIn (now words) (now text) r level ⌝ }
+    requires { ⌜ goodNames (recordAt (now words) (now text) r) ≡ true ⌝ }
+    ensures { λ d. ⌜ LowersAt parent ctx d (now (out .entry)) (now (bytes .entry)) (now (out .exit)) (now (bytes .exit)) (λ p s. lowerNode p (chainAt (now (words .entry)) (now (text .entry)) (childAt (now (words .entry)) r)) (spanAt (now (words .entry)) r) (λ (q : List ℕ) (u : State). lowerItems (chainAt (now (words .entry)) (now (text .entry)) (secondAt (now (words .entry)) r)) q u) s) ⌝ }
+{
+    if ctx.short {
+        return ctx;
+    }
+    let placed = place_node(words, text, r, parent, out, bytes, ctx);
+    let node = placed.node;
+    let made = placed.ctx;
+    match node {
+        NodePlace::At(place) => {
+            let first = second_at(words, r);
+            lower_items(words, text, first, place, level - 1, out, bytes, made)
+        }
+        NodePlace::Aside(reference, kind, keeps) => {
+            let body = lower_apart(words, text, r, keeps, level - 1, out, bytes, made);
+            settle_aside(
+                words,
+                text,
+                r,
+                reference,
+                kind,
+                keeps,
+                out,
+                bytes,
+                body,
+                made,
+            )
+        }
+        NodePlace::Discarded => {
+            let body = lower_apart(words, text, r, false, level - 1, out, bytes, made);
+            body.leave_dropped(out, bytes, made)
+        }
+        NodePlace::Nowhere => made,
+    }
+}
+
+// Lowers the body of a node at "/" into a log of its own.
+fn lower_apart(
+    words: &[u32],
+    text: &[u8],
+    r: u32,
+    keeps: bool,
+    level: u32,
+    out: &mut [u32],
+    bytes: &mut [u8],
+    ctx: LowerCtx,
+) -> LowerCtx
+    requires { ⌜ Linked (now words) ⌝ }
+    requires { ⌜ ChainIn (now words) (now text) (secondAt (now words) r) level ⌝ }
+    requires { ⌜ goodNamesIn (chainAt (now words) (now text) (secondAt (now words) r)) ≡ true ⌝ }
+    ensures { λ d. ⌜ LowersApart ctx d keeps (now (out .entry)) (now (bytes .entry)) (now (out .exit)) (now (bytes .exit)) (λ (q : List ℕ) (u : State). lowerItems (chainAt (now (words .entry)) (now (text .entry)) (secondAt (now (words .entry)) r)) q u) ⌝ }
+{
+    let inner = ctx.enter(keeps);
+    let first = second_at(words, r);
+    let root = PathAt {
+        root: true,
+        start: 0,
+        size: 0,
+    };
+    lower_items(words, text, first, root, level, out, bytes, inner)
+}

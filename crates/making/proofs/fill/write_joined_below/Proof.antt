@@ -1,0 +1,97 @@
+-- As copy_bytes, with the bytes of the path in place of those copied.
+use borrow.Author.Needs.{needs}
+use Prim.Native.Nat.{ℕ, _+_, _-_, _≤_, _<_}
+use mathlib.Core.Path.{_≡_, refl, _∙_}
+use native.Mathlib.Nat.{add-zero}
+use native.Mathlib.Omega.{arith}
+use lib.ListN.{length, drop, getD, length-set}
+use lib.Seq.{getD-set-other}
+use Rattle.paths_numbers.specs.Text.{written}
+use Rattle.paths_numbers.specs.Path.{joined}
+use Rattle.paths_numbers.proofs.Written.{written-byte, written-all}
+use Rattle.log.proofs.Texts.{part}
+use Rattle.making.proofs.PathPlaces.{part-same, joined-byte}
+use Rattle.making.proofs.fill.write_joined_below.Statement.{statement}
+use Rattle.making.proofs.fill.write_joined_below.Tie as tie
+
+abbrev Inv-loop : tie.InvT-loop
+Inv-loop out₀ at from size name unit n i₀ out i =
+    (i ≤ n)
+    × (length out ≡ length out₀)
+    × (written out₀ at (joined (part out₀ from size) name unit) ≡ written out (at + i) (drop i (joined (part out₀ from size) name unit)))
+    × ((k : ℕ) → k < at → getD out k 0 ≡ getD out₀ k 0)
+
+abbrev μ-loop : tie.MeasureT-loop
+μ-loop out₀ at from size name unit n i₀ out i = n - i
+
+loop-holds : tie.Need-loop-holds Inv-loop μ-loop
+loop-holds c = (search needs, refl, rw add-zero refl, λ k h. refl)
+
+add-path-byte : tie.Need-add-path-byte Inv-loop μ-loop
+add-path-byte c = search needs
+
+sub-path-byte : tie.Need-sub-path-byte Inv-loop μ-loop
+sub-path-byte c = search needs
+
+part-path-byte-start : tie.Need-part-path-byte-start Inv-loop μ-loop
+part-path-byte-start c = search needs
+
+part-path-byte-end : tie.Need-part-path-byte-end Inv-loop μ-loop
+part-path-byte-end c = search needs
+
+path-byte-requires : tie.Need-path-byte-requires Inv-loop μ-loop
+path-byte-requires c κs = search needs
+
+add-out : tie.Need-add-out Inv-loop μ-loop
+add-out c = search needs
+
+slice-write-out : tie.Need-slice-write-out Inv-loop μ-loop
+slice-write-out c = search needs
+
+add-i : tie.Need-add-i Inv-loop μ-loop
+add-i c = search needs
+
+loop-less : tie.Need-loop-less Inv-loop μ-loop
+loop-less c = search needs
+
+loop-again : tie.Need-loop-again Inv-loop μ-loop
+loop-again c =
+    let l = c .before .before .before .before .loop in
+    let a = c .before .before .before .before .before .before .before .before .args in
+    let o = a .out .now in
+    let p = part-same (l .out) o (a .from) (a .size) (a .at) (omega arith) (omega arith) (l .inv .1) (l .inv .3) in (
+      omega arith,
+      simp length-set (l .inv .1),
+      written-byte (l .out) (a .at) (joined (part o (a .from) (a .size)) (a .name .now) (a .unit .now)) (l .i) _ _ (l .inv .2) (omega arith) (omega arith)
+          (joined-byte (l .out) o (a .from) (a .size) (a .name .now) (a .unit .now) (l .i) _ (c .path-byte .ensures) p),
+      λ k h. getD-set-other (l .out) (a .at + l .i) k _ 0 (λ e. omega arith) ∙ l .inv .3 k h,
+    )
+
+same-length : tie.Need-same-length Inv-loop μ-loop
+same-length c = search needs
+
+returns : tie.Need-returns Inv-loop μ-loop
+returns c =
+    let l = c .before .loop in
+    let a = c .before .before .before .before .before .args in
+    written-all (l .out) (a .at) (joined (part (a .out .now) (a .from) (a .size)) (a .name .now) (a .unit .now)) (l .i) _ (l .inv .2) (omega arith)
+
+pub write-joined-below-spec : {M : Type 1} → statement M
+write-joined-below-spec =
+    tie.close
+    (tie.spec
+    Inv-loop
+    μ-loop
+    loop-holds
+    add-path-byte
+    sub-path-byte
+    part-path-byte-start
+    part-path-byte-end
+    path-byte-requires
+    add-out
+    slice-write-out
+    add-i
+    loop-less
+    loop-again
+    same-length
+    returns)

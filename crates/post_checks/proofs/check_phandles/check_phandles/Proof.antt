@@ -1,0 +1,43 @@
+-- By whether the log is an overlay (References).
+use mathlib.Core.Path.{sym, _∙_}
+use Rattle.post_checks.proofs.References.{phandles-lower, phandles-none}
+use borrow.Author.Needs.{needs}
+use Rattle.post_checks.proofs.check_phandles.check_phandles.Statement.{statement}
+use Rattle.post_checks.proofs.check_phandles.check_phandles.Tie as tie
+
+sets-overlay-in-requires : tie.Need-sets-overlay-in-requires
+sets-overlay-in-requires c κs = search needs
+
+same-length : tie.Need-same-length
+same-length c = search needs
+
+returns : tie.Need-returns
+returns c = phandles-none (sym (c .before .sets-overlay-in .ensures _) ∙ c .if1 .taken)
+
+slice-aggregate-check-live : tie.Need-slice-aggregate-check-live
+slice-aggregate-check-live c = search needs
+
+check-live-requires : tie.Need-check-live-requires
+check-live-requires c κs = search needs
+
+same-length-2 : tie.Need-same-length-2
+same-length-2 c = search needs
+
+same-length-3 : tie.Need-same-length-3
+same-length-3 c = search needs
+
+returns-2 : tie.Need-returns-2
+returns-2 c = phandles-lower (sym (c .before .before .before .before .before .before .before .before .before .before .sets-overlay-in .ensures _) ∙ c .before .before .before .before .before .before .before .before .before .if1 .left) (c .before .before .before .before .before .check-live .ensures)
+
+pub check-phandles-spec : {M : Type 1} → statement M
+check-phandles-spec =
+    tie.close
+    (tie.spec
+    sets-overlay-in-requires
+    same-length
+    returns
+    slice-aggregate-check-live
+    check-live-requires
+    same-length-2
+    same-length-3
+    returns-2)

@@ -1,0 +1,209 @@
+// References of live properties (check_phandles of check_mir_post.rs): one that leads nowhere is
+// reported at the property's name.
+ghost use mathlib.Core.Path.{_≡_};
+ghost use mathlib.Core.List.{[], _∷_, map};
+ghost use Prim.Native.Nat.{_≤_};
+ghost use lib.ListN.{length};
+ghost use Rattle.log.specs.Record.{mostRecords, secondText};
+ghost use Rattle.log.specs.ReadBack.{chainOf, targetAt, cellAt, readCells, valueAt, readValues, nameSpanAt, defValueAt, defAt, readDefs, readBindings};
+ghost use Rattle.making.specs.Recs.{meant};
+ghost use Rattle.making.specs.State.{State, emit};
+ghost use Rattle.queries.specs.Live.{live};
+ghost use Rattle.post_checks.specs.Resolve.{resolve};
+ghost use Rattle.post_checks.specs.Leading.{resolution, Leads};
+ghost use Rattle.post_checks.specs.Post.{checkTarget, checkCell, checkCells, checkValue, checkValues, checkDef, checkDefs, checkReferences};
+ghost use Rattle.post_checks.specs.Lowers.{Lowers};
+ghost use Rattle.post_checks.specs.Checks.{Reports, said, targetLabel, targetPlace};
+use crate::check_mir_post::label_place;
+use crate::check_mir_post::name_span_of;
+use crate::resolve::Resolved;
+use crate::resolve::binding_path;
+use crate::resolve::resolve_below;
+use crate::resolve::resolve_label;
+use crate::resolve::resolve_path;
+use input::record::no_text;
+use log::record::child_of;
+use log::record::first_text;
+use log::record::kind_of;
+use log::record::log_count;
+use log::record::next_of;
+use log::record::out_field;
+use log::record::second_text;
+use making::ctx::LowerCtx;
+use making::place::PathAt;
+use making::recs::Span;
+use queries::definition::PROPERTY;
+use queries::definition::goes_on;
+use queries::live::live_list;
+use queries::mir::sets_overlay_in;
+
+// The kinds of output records that hold references, by 01's numbers.
+const CELL_LIST: u32 = 9;
+
+const REFERENCE: u32 = 12;
+
+// How many definitions a log can have.
+const MOST: usize = 65536;
+
+// Reports references of live properties that lead nowhere, unless the log is an overlay.
+pub fn check_phandles(out: &mut [u32], bytes: &mut [u8], ctx: LowerCtx) -> LowerCtx
+    ensures { λ d. ⌜ Lowers ctx d (now (out .entry)) (now (bytes .entry)) (now (out .exit)) (now (bytes .exit)) (λ (s : State). emit (checkReferences s) s) ⌝ }
+{
+    if sets_overlay_in(out, ctx.defs.first) {
+        return ctx;
+    }
+    let mut list = [0u32; MOST];
+    check_live(out, bytes, ctx, &mut list)
+}
+
+// The reports on all live definitions, with room for their list.
+fn check_live(out: &mut [u32], bytes: &mut [u8], ctx: LowerCtx, list: &mut [u32]) -> LowerCtx
+    requires { ⌜ mostRecords ≤ length (now list) ⌝ }
+    ensures { λ d. ⌜ Reports ctx d (now (out .entry)) (now (bytes .entry)) (now (out .exit)) (now (bytes .exit)) [] (checkDefs (said ctx (now (out .entry)) (now (bytes .entry))) (live [] (readDefs (now (out .entry)) (now (bytes .entry)) (ctx .defs .first)))) ⌝ }
+{
+    let n = live_list(out, bytes, ctx.defs.first, no_text(bytes), list);
+    check_definitions(out, bytes, ctx, &list[..n as usize])
+}
+
+// The reports on definitions.
+fn check_definitions(out: &mut [u32], bytes: &mut [u8], ctx: LowerCtx, list: &[u32]) -> LowerCtx
+    ensures { λ d. ⌜ Reports ctx d (now (out .entry)) (now (bytes .entry)) (now (out .exit)) (now (bytes .exit)) (now (list .entry)) (checkDefs (said ctx (now (out .entry)) (now (bytes .entry))) (map (defAt (now (out .entry)) (now (bytes .entry))) (now (list .entry)))) ⌝ }
+{
+    let mut made = ctx;
+    let mut i = 0;
+    while i < list.len() {
+        made = check_definition(out, bytes, made, list[i]);
+        i += 1;
+    }
+    made
+}
+
+// The reports on a definition: on the values of a property.
+fn check_definition(out: &mut [u32], bytes: &mut [u8], ctx: LowerCtx, r: u32) -> LowerCtx
+    ensures { λ d. ⌜ Reports ctx d (now (out .entry)) (now (bytes .entry)) (now (out .exit)) (now (bytes .exit)) (r ∷ []) (checkDef (said ctx (now (out .entry)) (now (bytes .entry))) (nameSpanAt (now (out .entry)) r) (defValueAt (now (out .entry)) (now (bytes .entry)) r)) ⌝ }
+{
+    if kind_of(out, r) != PROPERTY {
+        return ctx;
+    }
+    let span = name_span_of(out, r);
+    let first = child_of(out, r);
+    check_values(out, bytes, ctx, span, first)
+}
+
+// The reports on a chain of values.
+fn check_values(
+    out: &mut [u32],
+    bytes: &mut [u8],
+    ctx: LowerCtx,
+    span: Span,
+    first: u32,
+) -> LowerCtx
+    ensures { λ d. ⌜ Reports ctx d (now (out .entry)) (now (bytes .entry)) (now (out .exit)) (now (bytes .exit)) (chainOf (now (out .entry)) first) (checkValues (said ctx (now (out .entry)) (now (bytes .entry))) (meant span) (readValues (now (out .entry)) (now (bytes .entry)) first)) ⌝ }
+{
+    let mut made = ctx;
+    let mut r = first;
+    let mut left = log_count(out);
+    while goes_on(out, r, left) {
+        made = check_value(out, bytes, made, span, r);
+        r = next_of(out, r);
+        left -= 1;
+    }
+    made
+}
+
+// The reports on a value: on a reference, or on the cells of a list.
+fn check_value(out: &mut [u32], bytes: &mut [u8], ctx: LowerCtx, span: Span, r: u32) -> LowerCtx
+    ensures { λ d. ⌜ Reports ctx d (now (out .entry)) (now (bytes .entry)) (now (out .exit)) (now (bytes .exit)) (r ∷ []) (checkValue (said ctx (now (out .entry)) (now (bytes .entry))) (meant span) (valueAt (now (out .entry)) (now (bytes .entry)) r)) ⌝ }
+{
+    let kind = kind_of(out, r);
+    if kind == CELL_LIST {
+        let first = child_of(out, r);
+        return check_cells(out, bytes, ctx, span, first);
+    }
+    if kind == REFERENCE {
+        return check_phandle(out, bytes, ctx, span, r);
+    }
+    ctx
+}
+
+// The reports on a chain of cells.
+fn check_cells(out: &mut [u32], bytes: &mut [u8], ctx: LowerCtx, span: Span, first: u32) -> LowerCtx
+    ensures { λ d. ⌜ Reports ctx d (now (out .entry)) (now (bytes .entry)) (now (out .exit)) (now (bytes .exit)) (chainOf (now (out .entry)) first) (checkCells (said ctx (now (out .entry)) (now (bytes .entry))) (meant span) (readCells (now (out .entry)) (now (bytes .entry)) first)) ⌝ }
+{
+    let mut made = ctx;
+    let mut r = first;
+    let mut left = log_count(out);
+    while goes_on(out, r, left) {
+        made = check_cell(out, bytes, made, span, r);
+        r = next_of(out, r);
+        left -= 1;
+    }
+    made
+}
+
+// The report on a cell, if it is a reference.
+fn check_cell(out: &mut [u32], bytes: &mut [u8], ctx: LowerCtx, span: Span, r: u32) -> LowerCtx
+    ensures { λ d. ⌜ Reports ctx d (now (out .entry)) (now (bytes .entry)) (now (out .exit)) (now (bytes .exit)) (r ∷ []) (checkCell (said ctx (now (out .entry)) (now (bytes .entry))) (meant span) (cellAt (now (out .entry)) (now (bytes .entry)) r)) ⌝ }
+{
+    if kind_of(out, r) != REFERENCE {
+        return ctx;
+    }
+    check_phandle(out, bytes, ctx, span, r)
+}
+
+// The report on a reference, where it leads nowhere.
+fn check_phandle(out: &mut [u32], bytes: &mut [u8], ctx: LowerCtx, span: Span, r: u32) -> LowerCtx
+    ensures { λ d. ⌜ Reports ctx d (now (out .entry)) (now (bytes .entry)) (now (out .exit)) (now (bytes .exit)) (r ∷ []) (checkTarget (said ctx (now (out .entry)) (now (bytes .entry))) (meant span) (targetAt (now (out .entry)) (now (bytes .entry)) r)) ⌝ }
+{
+    let none = Span { from: 0, to: 0 };
+    let label = target_place(out, r);
+    let path = binding_path(out, r);
+    match resolve_target(out, bytes, ctx.binds.first, ctx.defs.first, r) {
+        Resolved::NoLabel => ctx.emit_copied(out, bytes, 3, span, none, label),
+        Resolved::NoNode => ctx.emit_copied(out, bytes, 4, span, none, path),
+        Resolved::NoNodeBelow(b) => {
+            ctx.emit_joined_at(out, bytes, 4, span, binding_path(out, b), path)
+        }
+        Resolved::Bound(_) => ctx,
+        Resolved::BoundPath(_) => ctx,
+        Resolved::AtPath => ctx,
+    }
+}
+
+// Where a reference of the log leads.
+fn resolve_target(out: &[u32], bytes: &[u8], binds: u32, defs: u32, r: u32) -> Resolved
+    ensures { λ v. ⌜ resolution (now (out .entry)) (now (bytes .entry)) (targetLabel (now (out .entry)) (now (bytes .entry)) r) (secondText (now (out .entry)) (now (bytes .entry)) r) v ≡ resolve (targetAt (now (out .entry)) (now (bytes .entry)) r) (readBindings (now (out .entry)) (now (bytes .entry)) binds) (readDefs (now (out .entry)) (now (bytes .entry)) defs) ⌝ }
+    ensures { λ v. ⌜ Leads (now (out .entry)) (now (bytes .entry)) binds defs (targetLabel (now (out .entry)) (now (bytes .entry)) r) (secondText (now (out .entry)) (now (bytes .entry)) r) v ⌝ }
+{
+    let n = out_field(out, r, 7);
+    let label = first_text(out, bytes, r);
+    let path = second_text(out, bytes, r);
+    if n == 1 {
+        return resolve_label(out, bytes, binds, label);
+    }
+    if n == 2 {
+        return resolve_below(out, bytes, binds, defs, label, path);
+    }
+    if n == 3 {
+        return resolve_path(out, bytes, defs, path);
+    }
+    Resolved::NoLabel
+}
+
+// The place of a reference's label, an empty one where it has none.
+fn target_place(out: &[u32], r: u32) -> PathAt
+    ensures { λ p. ⌜ p ≡ targetPlace (now (out .entry)) r ⌝ }
+{
+    let n = out_field(out, r, 7);
+    if n == 1 {
+        return label_place(out, r);
+    }
+    if n == 2 {
+        return label_place(out, r);
+    }
+    PathAt {
+        root: false,
+        start: 0,
+        size: 0,
+    }
+}

@@ -1,0 +1,4 @@
+// Where references lead (resolve_phandle), and the post checks (check_mir_post).
+pub mod check_mir_post;
+pub mod check_phandles;
+pub mod resolve;

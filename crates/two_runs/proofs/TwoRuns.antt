@@ -1,0 +1,113 @@
+-- The two-run theorem over trees and states: a new subnode and its deletion, anywhere in a body that enters the main log, leave all that is read alike.
+use Prim.Native.Nat.{ℕ}
+use mathlib.Core.Path.{_≡_, refl, sym, ap, _∙_}
+use mathlib.Core.Bool.{Bool, true, false, not, cond}
+use mathlib.Core.List.{List, [], _∷_, _++_}
+use Rattle.paths_numbers.specs.Text.{isEmpty}
+use Rattle.paths_numbers.specs.Path.{join}
+use Rattle.paths_numbers.specs.Reference.{Target}
+use Rattle.paths_numbers.proofs.Texts.{by-test, not-both, both}
+use Rattle.log.specs.Meaning.{Span, Cell, number, reference, Value, string, cellList, bytestring, phandle, DefValue, node, property, deletedNode, deletedProperty, version, plugin, Def, Diag}
+use Rattle.queries.specs.Kind.{any, setsOverlay}
+use Rattle.queries.specs.Live.{live}
+use Rattle.queries.proofs.Gap.{Gap, gap-within, gap-live, gap-overlay, gap-history}
+use Rattle.input.specs.Tree.{Tree, Trees, tree, empty, more, nodeKind}
+use Rattle.making.specs.State.{State, start, emit}
+use Rattle.lowering.specs.Lower.{Place, at, Placed, placeOf, opened, lowerPlaced, lowerNode, lowerItem, lowerItems, lowered}
+use Rattle.post_checks.specs.Post.{atFirst, duplicateLabels, referenceReport, checkTarget, checkCell, checkCells, checkValue, checkValues, checkDef, checkDefs, checkReferences, directivesFrom, checkDirectives, postChecks}
+use Rattle.two_runs.specs.TwoRuns.{Pair, Inserted, here, after, within, Alike, TwoRuns}
+use Rattle.input.specs.GoodName.{goodNames, goodNamesIn}
+use Rattle.two_runs.proofs.Sim.{Sim, Like, equal, gap, same-resolve, keeps}
+use Rattle.input.proofs.GoodNames.{good-second}
+use Rattle.two_runs.proofs.Pair.{pair-sim}
+use Rattle.two_runs.proofs.Defined.{Defined, still, opened-defined, directives-same}
+
+-- a node that is placed at a path, as a whole
+node-at : (parent : List ℕ) (s : State) (text : List ℕ) (w : ℕ) (span : Span) (parts body : Trees) (p : List ℕ) → placeOf parent parts span s .place ≡ at p
+    → lowerItem (tree nodeKind text w span parts body) parent s ≡ lowerItems body p (opened p parts span (emit (placeOf parent parts span s .reports) s))
+unfolding lowerItem lowerNode
+node-at parent s text w span parts body p e = rw e refl
+
+-- where the two are put in, the runs part by the gap alone
+pub sims : {new parent : List ℕ} {s : State} {a b : Trees} → Inserted new parent s a b → goodNamesIn b ≡ true
+    → (isEmpty parent ≡ false → Defined s) → Sim new true (lowerItems a parent s) (lowerItems b parent s)
+unfolding lowerItems goodNamesIn
+sims {new} {parent} {s} (here {n = n} {d} {rest} p) good h =
+    keeps rest new parent true _ _ (pair-sim p (both (goodNames n) _ good .0) (h (p .inBody)))
+sims {new} {parent} {s} (after {t = t} i) good h = sims i (both (goodNames t) _ good .1) (λ e. still t parent s (h e))
+sims {new} {parent} {s} (within {text = text} {w} {span} {parts} {body} {body'} {rest} {p} e i) good h =
+    keeps rest new parent true _ _
+    (rw (node-at parent s text w span parts body p e, node-at parent s text w span parts body' p e)
+    (sims i (good-second nodeKind text w span parts body' (both (goodNames (tree nodeKind text w span parts body')) _ good .0))
+    (λ f. opened-defined p parts span (emit (placeOf parent parts span s .reports) s))))
+
+-- post checks of references
+module _ {new : List ℕ} {t : Bool} {a b : State} (s : Sim new t a b) where
+  same-target : (span : Span) (x : Target) → checkTarget a span x ≡ checkTarget b span x
+  same-target span x = ap (referenceReport span) (same-resolve s x)
+
+  same-cell : (span : Span) (c : Cell) → checkCell a span c ≡ checkCell b span c
+  same-cell span (number n) = refl
+  same-cell span (reference x) = same-target span x
+
+  same-cells : (span : Span) (cs : List Cell) → checkCells a span cs ≡ checkCells b span cs
+  unfolding checkCells
+  same-cells span [] = refl
+  same-cells span (c ∷ cs) = cc (same-cell span c, same-cells span cs)
+
+  same-value : (span : Span) (v : Value) → checkValue a span v ≡ checkValue b span v
+  same-value span (string x) = refl
+  same-value span (cellList w cs) = same-cells span cs
+  same-value span (bytestring x) = refl
+  same-value span (phandle x) = same-target span x
+
+  same-values : (span : Span) (vs : List Value) → checkValues a span vs ≡ checkValues b span vs
+  unfolding checkValues
+  same-values span [] = refl
+  same-values span (v ∷ vs) = cc (same-value span v, same-values span vs)
+
+  same-def : (span : Span) (v : DefValue) → checkDef a span v ≡ checkDef b span v
+  same-def span (node l o) = refl
+  same-def span (property vs) = same-values span vs
+  same-def span deletedNode = refl
+  same-def span deletedProperty = refl
+  same-def span version = refl
+  same-def span plugin = refl
+
+  same-defs : (ds : List Def) → checkDefs a ds ≡ checkDefs b ds
+  unfolding checkDefs
+  same-defs [] = refl
+  same-defs (d ∷ ds) = cc (same-def (d .nameSpan) (d .value), same-defs ds)
+
+-- two states with a gap are alike
+module _ {new : List ℕ} {a b : State} (s : Sim new true a b) (g : Gap new (a .defs) (b .defs)) where
+  same-references : checkReferences a ≡ checkReferences b
+  unfolding checkReferences
+  same-references = rw (gap-overlay g, gap-live g []) (ap (λ (l : List Diag). cond (setsOverlay (b .defs)) [] l) (same-defs s (live [] (b .defs))))
+
+  same-directives : checkDirectives (a .defs) ≡ checkDirectives (b .defs)
+  unfolding checkDirectives
+  same-directives = rw (g .first, g .second) (sym (directives-same (gap-within g) (g .before) (g .after) atFirst (g .defined)))
+
+  alike : Alike new a b
+  unfolding postChecks
+  alike =
+      record {
+        lives = gap-live g;
+        bindings = s .binds;
+        extensions = s .exts;
+        diagnostics = s .diags;
+        checks = cc (s .binds, same-references, same-directives);
+        histories = gap-history g;
+      }
+
+-- the gap of two logs
+the-gap : {new : List ℕ} {a b : List Def} → Like new true a b → Gap new a b
+the-gap (gap g) = g
+
+pub sim-alike : {new : List ℕ} {a b : State} → Sim new true a b → Alike new a b
+sim-alike s = alike s (the-gap (s .logs))
+
+pub two-runs : TwoRuns
+unfolding TwoRuns lowered isEmpty
+two-runs new a b good i = sim-alike (sims i good (λ e. absurd (not-both {t = true} refl e)))
