@@ -1,4 +1,4 @@
-/* The three queries of include/definition_log.h on a small log, and a refusal of each number:
+/* Lowers a small description by include/definition_log.h, prints its log, asks the three queries of it, and shows refusals:
  *   rt staticlib definition_log_c
  *   gcc -Iinclude examples/definition_log.c target/staticlib/libdefinition_log_c.a -o target/definition_log && target/definition_log */
 #include <inttypes.h>
@@ -7,29 +7,52 @@
 
 #include "definition_log.h"
 
-/* The log of this description, whose first two lines are the example of 01:
- *   /dts-v1/;
- *   / { a: b { }; };
- *   / { p; c { q; }; /delete-node/ c; }; */
-static const uint8_t bytes[] = "/" "/b" "a" "a" "/b" "/" "/p" "/c" "/c/q" "/c";
-#define BYTES (sizeof bytes - 1)
+/* The source. Its first two lines are the example of 01; then a bay with a property, deleted again; then a reference to a label that is not there. */
+static const char source[] = "/dts-v1/;\n"
+                             "/ { a: b { }; };\n"
+                             "/ { bay@1 { ink = <7>; }; /delete-node/ bay@1; };\n"
+                             "/ { stock = <&lost>; };\n";
+#define TEXT_LEN (sizeof source - 1)
 
-static const uint32_t words[] = {
-    /* record 0: records used, the first definition, extension, binding, diagnostic, bytes used, the first post-check diagnostic */
-    11, 1, 0, 5, 0, 18, 0, 0, 0, 0, 0, 0, 0, 0, 0, 0,
-    /* kind, next, text, second text, child, N, M, span, name span, zeros */
-    DL_VERSION, 2, 0, 0, 0, 0, 0, 0, 0, 0, 9, 0, 9, 0, 0, 0,
-    DL_NODE, 3, 0, 1, 0, 0, 0, 0, 0, 10, 26, 10, 11, 0, 0, 0,        /* 2: / */
-    DL_NODE, 6, 1, 2, 0, 0, 4, 0, 0, 14, 23, 17, 18, 0, 0, 0,        /* 3: /b */
-    DL_LABEL, 0, 3, 1, 0, 0, 0, 0, 0, 0, 0, 0, 0, 0, 0, 0,           /* 4: its label, a */
-    DL_BINDING, 0, 4, 1, 5, 2, 0, 0, 0, 14, 16, 0, 0, 0, 0, 0,       /* 5: a is /b */
-    DL_NODE, 7, 7, 1, 0, 0, 0, 0, 0, 27, 63, 27, 28, 0, 0, 0,        /* 6: / */
-    DL_PROPERTY, 8, 8, 2, 0, 0, 0, 0, 0, 31, 33, 31, 32, 0, 0, 0,    /* 7: /p */
-    DL_NODE, 9, 10, 2, 0, 0, 0, 0, 0, 34, 43, 34, 35, 0, 0, 0,       /* 8: /c */
-    DL_PROPERTY, 10, 12, 4, 0, 0, 0, 0, 0, 38, 40, 38, 39, 0, 0, 0,  /* 9: /c/q */
-    DL_DELETED_NODE, 0, 16, 2, 0, 0, 0, 0, 0, 44, 60, 44, 60, 0, 0, 0 /* 10: /c */
+/* Its description, as a parser would write it. Texts are where the source has them, and spans are offsets in it. */
+static const uint32_t description[] = {
+    /* kind, next, child, text start, text length, W, span start, span end */
+    0, 0, 1, 0, 0, 0, 0, 0,
+    DL_IN_DIRECTIVE, 2, 0, 0, 0, DL_W_VERSION, 0, 9,        /* 1: /dts-v1/; */
+    DL_IN_NODE, 8, 3, 0, 0, 4, 10, 26,                      /* 2: / */
+    DL_IN_SLASH, 0, 0, 0, 0, 0, 10, 11,
+    DL_IN_NODE, 0, 5, 0, 0, 0, 14, 23,                      /* 4: a: b { }; */
+    DL_IN_LABEL, 7, 6, 0, 0, 0, 14, 16,
+    DL_IN_NAME, 0, 0, 14, 1, 0, 14, 15,                     /* 6: a */
+    DL_IN_NAME, 0, 0, 17, 1, 0, 17, 18,                     /* 7: b */
+    DL_IN_NODE, 22, 9, 0, 0, 10, 27, 76,                    /* 8: / */
+    DL_IN_SLASH, 0, 0, 0, 0, 0, 27, 28,
+    DL_IN_NODE, 18, 11, 0, 0, 14, 31, 52,                   /* 10: bay@1 */
+    DL_IN_NAME, 12, 0, 31, 3, 0, 31, 34,
+    DL_IN_UNIT_ADDRESS, 0, 13, 0, 0, 0, 34, 36,
+    DL_IN_NAME, 0, 0, 35, 1, 0, 35, 36,
+    DL_IN_PROPERTY, 0, 15, 0, 0, 16, 39, 49,                /* 14: ink = <7>; */
+    DL_IN_NAME, 0, 0, 39, 3, 0, 39, 42,
+    DL_IN_CELL_LIST, 0, 17, 0, 0, 0, 45, 48,
+    DL_IN_NUMBER, 0, 0, 46, 1, 0, 46, 47,
+    DL_IN_DIRECTIVE, 0, 19, 0, 0, DL_W_DELETE_NODE, 53, 73, /* 18: /delete-node/ bay@1; */
+    DL_IN_NAME, 20, 0, 67, 3, 0, 67, 70,
+    DL_IN_UNIT_ADDRESS, 0, 21, 0, 0, 0, 70, 72,
+    DL_IN_NAME, 0, 0, 71, 1, 0, 71, 72,
+    DL_IN_NODE, 0, 23, 0, 0, 24, 77, 100,                   /* 22: / */
+    DL_IN_SLASH, 0, 0, 0, 0, 0, 77, 78,
+    DL_IN_PROPERTY, 0, 25, 0, 0, 26, 81, 97,                /* 24: stock = <&lost>; */
+    DL_IN_NAME, 0, 0, 81, 5, 0, 81, 86,
+    DL_IN_CELL_LIST, 0, 27, 0, 0, 0, 89, 96,
+    DL_IN_REFERENCE, 0, 0, 91, 4, DL_W_BY_NAME, 90, 95      /* 27: &lost */
 };
+#define DESCRIPTION_LEN (sizeof description / sizeof description[0])
+
+/* The buffers for the log. Number 7 would say that they are too small. */
+static uint32_t words[32 * DL_RECORD_WORDS];
+static uint8_t bytes[256];
 #define WORDS (sizeof words / sizeof words[0])
+#define BYTES (sizeof bytes)
 
 /* How many answers the list of this program holds. */
 #define ROOM 8
@@ -39,16 +62,13 @@ static const uint32_t words[] = {
 
 static const char *const kinds[] = {"", "node", "property", "deleted node", "deleted property", "version", "plugin"};
 
-/* Prints the answers of a list by kind and path. */
-static void answers(const char *query, const char *path, struct DlAnswer answer, const uint32_t *list)
+/* The words of a record of the log, and its texts for printf. */
+static const uint32_t *record(uint32_t number)
 {
-    printf("%s \"%s\": %" PRIu32 "\n", query, path, answer.returned);
-    for (uint32_t i = 0; i < answer.returned; i++) {
-        const uint32_t *record = words + (size_t)list[i] * DL_RECORD_WORDS;
-        printf("  record %" PRIu32 ": %s \"%.*s\"\n", list[i], kinds[record[DL_KIND]], (int)record[DL_TEXT_LENGTH],
-               (const char *)bytes + record[DL_TEXT_START]);
-    }
+    return words + (size_t)number * DL_RECORD_WORDS;
 }
+#define FIRST_TEXT(r) (int)(r)[DL_TEXT_LENGTH], (const char *)bytes + (r)[DL_TEXT_START]
+#define SECOND_TEXT(r) (int)(r)[DL_SECOND_LENGTH], (const char *)bytes + (r)[DL_SECOND_START]
 
 /* Prints what an answer says, in words. */
 static void told(const char *what, struct DlAnswer answer)
@@ -57,6 +77,27 @@ static void told(const char *what, struct DlAnswer answer)
     switch (answer.number) {
     case DL_ANSWERED:
         printf("answered: %" PRIu32 "\n", answer.returned);
+        break;
+    case DL_WRONG_SIZE:
+        printf("the description is not 1 to 2,048 records of 8 words, or its text is longer than 65,536 bytes\n");
+        break;
+    case DL_BAD_LINK:
+        printf("a link of record %" PRIu32 " does not lead upwards, leads past the end, or leads to a record linked already\n", answer.returned);
+        break;
+    case DL_BAD_TEXT:
+        printf("the text of record %" PRIu32 " ends behind the text that is lent\n", answer.returned);
+        break;
+    case DL_UNFIT_RECORD:
+        printf("record %" PRIu32 " does not fit its place, or its W or its span is none\n", answer.returned);
+        break;
+    case DL_BAD_NAME:
+        printf("the name in record %" PRIu32 " is empty or has a slash in it\n", answer.returned);
+        break;
+    case DL_TOO_DEEP:
+        printf("record %" PRIu32 " lies more than 64 links deep\n", answer.returned);
+        break;
+    case DL_NO_ROOM:
+        printf("the log needs larger buffers\n");
         break;
     case DL_BROKEN_LOG:
         printf("the log is broken at record %" PRIu32 "\n", answer.returned);
@@ -68,6 +109,40 @@ static void told(const char *what, struct DlAnswer answer)
         printf("the list must hold %" PRIu32 "\n", answer.returned);
         break;
     }
+}
+
+/* Prints a chain of diagnostics: code, text, and where it is in the source. */
+static void diagnostics(uint32_t first)
+{
+    for (uint32_t n = first; n != 0; n = record(n)[DL_NEXT]) {
+        const uint32_t *r = record(n);
+        printf("  code %" PRIu32 " \"%.*s\" at %" PRIu32 "-%" PRIu32 "\n", r[DL_N], FIRST_TEXT(r), r[DL_SPAN_START], r[DL_SPAN_END]);
+    }
+}
+
+/* Prints the log: definitions, bindings, and diagnostics, those of the post checks last. */
+static void print_log(void)
+{
+    printf("%" PRIu32 " records and %" PRIu32 " bytes used\ndefinitions:\n", words[DL_RECORDS_USED], words[DL_BYTES_USED]);
+    for (uint32_t n = words[DL_FIRST_DEFINITION]; n != 0; n = record(n)[DL_NEXT]) {
+        const uint32_t *r = record(n);
+        printf("  record %" PRIu32 ": %s \"%.*s\" at %" PRIu32 "-%" PRIu32 "\n", n, kinds[r[DL_KIND]], FIRST_TEXT(r), r[DL_SPAN_START],
+               r[DL_SPAN_END]);
+    }
+    printf("bindings:\n");
+    for (uint32_t n = words[DL_FIRST_BINDING]; n != 0; n = record(n)[DL_NEXT])
+        printf("  %.*s is %.*s\n", FIRST_TEXT(record(n)), SECOND_TEXT(record(n)));
+    printf("diagnostics:\n");
+    diagnostics(words[DL_FIRST_DIAGNOSTIC]);
+    diagnostics(words[DL_FIRST_POST_DIAGNOSTIC]);
+}
+
+/* Prints the answers of a list by kind and path. */
+static void answers(const char *query, const char *path, struct DlAnswer answer, const uint32_t *list)
+{
+    printf("%s \"%s\": %" PRIu32 "\n", query, path, answer.returned);
+    for (uint32_t i = 0; i < answer.returned; i++)
+        printf("  record %" PRIu32 ": %s \"%.*s\"\n", list[i], kinds[record(list[i])[DL_KIND]], FIRST_TEXT(record(list[i])));
 }
 
 static void live(const char *base)
@@ -90,26 +165,61 @@ static void history(const char *path)
         told(path, answer);
 }
 
+/* Lowers the description with one word of a record changed. */
+static void changed(const char *what, uint32_t number, uint32_t word, uint32_t value)
+{
+    uint32_t input[DESCRIPTION_LEN];
+    memcpy(input, description, sizeof description);
+    input[number * DL_IN_RECORD_WORDS + word] = value;
+    told(what, dl_lower(input, DESCRIPTION_LEN, TEXT(source), words, WORDS, bytes, BYTES));
+}
+
+/* Lowers 65 nodes, each but the first in the body of the one before it. */
+static void nested(void)
+{
+    enum { DEEP = DL_MOST_LINKS + 1 };
+    uint32_t input[(DEEP + 1) * DL_IN_RECORD_WORDS] = {0};
+    input[DL_IN_CHILD] = 1;
+    for (uint32_t n = 1; n <= DEEP; n++) {
+        input[n * DL_IN_RECORD_WORDS + DL_IN_KIND] = DL_IN_NODE;
+        input[n * DL_IN_RECORD_WORDS + DL_IN_W] = n < DEEP ? n + 1 : 0;
+    }
+    told("65 nodes inside one another", dl_lower(input, sizeof input / sizeof input[0], NULL, 0, words, WORDS, bytes, BYTES));
+}
+
 int main(void)
 {
     uint32_t list[1];
 
+    told("lowering", dl_lower(description, DESCRIPTION_LEN, TEXT(source), words, WORDS, bytes, BYTES));
+    print_log();
+
     live("");
     live("/");
-    live("/c");
+    live("/bay@1");
     history("/b");
-    history("/c");
-    history("/c/q");
+    history("/bay@1");
+    history("/bay@1/ink");
     told("a node at /b", dl_contains_node(words, WORDS, bytes, BYTES, TEXT("/b")));
-    told("a node at /c", dl_contains_node(words, WORDS, bytes, BYTES, TEXT("/c")));
-    told("a node at /p", dl_contains_node(words, WORDS, bytes, BYTES, TEXT("/p")));
+    told("a node at /bay@1", dl_contains_node(words, WORDS, bytes, BYTES, TEXT("/bay@1")));
+    told("a node at /stock", dl_contains_node(words, WORDS, bytes, BYTES, TEXT("/stock")));
 
-    /* Without its last record the log has a link that leads out of it, in record 9. */
-    told("one record missing", dl_contains_node(words, WORDS - DL_RECORD_WORDS, bytes, BYTES, TEXT("/b")));
+    /* Queries that are refused. Without the bytes, the lowest record at fault is the lowest one with a text. */
     told("one word missing", dl_contains_node(words, WORDS - 1, bytes, BYTES, TEXT("/b")));
+    told("no bytes", dl_contains_node(words, WORDS, NULL, 0, TEXT("/b")));
     told("no log", dl_contains_node(NULL, 0, NULL, 0, TEXT("/b")));
-    told("history of \"/c/\"", dl_history(words, WORDS, bytes, BYTES, TEXT("/c/"), list, 1));
+    told("history of \"/bay@1/\"", dl_history(words, WORDS, bytes, BYTES, TEXT("/bay@1/"), list, 1));
     told("live under \"/\" into 1 place", dl_iter_live_defs_under(words, WORDS, bytes, BYTES, TEXT("/"), list, 1));
-    told("live under \"/p\" into 1 place", dl_iter_live_defs_under(words, WORDS, bytes, BYTES, TEXT("/p"), list, 1));
+    told("live under \"/b\" into 1 place", dl_iter_live_defs_under(words, WORDS, bytes, BYTES, TEXT("/b"), list, 1));
+
+    /* Descriptions that are refused: numbers 1 to 6 leave the buffers as they were, 7 leaves zeros. */
+    told("one word missing", dl_lower(description, DESCRIPTION_LEN - 1, TEXT(source), words, WORDS, bytes, BYTES));
+    changed("record 4 as its own label", 4, DL_IN_CHILD, 4);
+    changed("a name of 90 bytes", 15, DL_IN_TEXT_LENGTH, 90);
+    changed("a string among a node's parts", 9, DL_IN_KIND, DL_IN_STRING);
+    changed("a property without a name's bytes", 15, DL_IN_TEXT_LENGTH, 0);
+    nested();
+    printf("a node at /b: %" PRIu32 " still\n", dl_contains_node(words, WORDS, bytes, BYTES, TEXT("/b")).returned);
+    told("room for 4 records", dl_lower(description, DESCRIPTION_LEN, TEXT(source), words, 4 * DL_RECORD_WORDS, bytes, BYTES));
     return 0;
 }

@@ -1,13 +1,18 @@
-/* The definition log: what of it is live, what a path's history is, and whether a node is there, proved in Rattle; docs/01-scope.md says what each
- * gives, and "01" below is that page.
+/* The definition log: lowering, which makes it of a description, and the queries: what of it is live, what a path's history is, and whether a node is
+ * there. Proved in Rattle; docs/01-scope.md says what each gives, and "01" below is that page.
  *
  * A slice is a pointer and a length in elements: `words_len` counts words of 32 bits, not bytes. What a caller keeps:
- *   - the length is true: that many elements can be read there, and of `list` written;
- *   - `words` and `list` are aligned as a uint32_t is;
- *   - `list` overlaps no other slice of the call; the others are only read, and may share memory, as a path that stands in `bytes`;
+ *   - the length is true: that many elements can be read there, and of `out`, `bytes` of lowering, and `list` written;
+ *   - `words`, `out` and `list` are aligned as a uint32_t is;
+ *   - a slice that is written overlaps no other slice of the call: `list`, and `out` and `bytes` of lowering; the others are only read, and may share
+ *     memory, as a path that stands in `bytes`;
  *   - a pointer is null only with length 0.
- * Every function answers every input: a log that is broken is refused, never followed. None keeps a pointer, and only `list` is written. A call takes
- * up to about 600 KB of stack, and no heap.
+ * Every function answers every input: a description or a log that is broken is refused, never followed. None keeps a pointer, none writes anything but the
+ * slices named above, and none takes heap.
+ *
+ * Stack: lowering takes up to about 1.5 MB, a live list up to about 1.2 MB, the other two queries up to about 350 KB (measured; docs/PERFORMANCE.md says
+ * how). What lowering takes is bounded whatever it is lent: arrays of fixed sizes, and calls that go down one level for each of the 64 that a description
+ * may have.
  *
  * Link with libdefinition_log_c.a (`rt staticlib definition_log_c`). */
 #ifndef DEFINITION_LOG_H
@@ -28,16 +33,138 @@ struct DlAnswer {
     uint32_t returned;
 };
 
-/* The numbers. After all but 0 the list is as it was. 8 is tried first, then 9, then 10. Lowering will add 1 to 7, its refusals of a description. */
+/* The numbers. A lowering tries 1 to 7 in this order, each over all records before the next, and a query 8 to 10. "First" is the lowest record. After 1 to
+ * 6 both buffers of a lowering are as they were, and after 8 to 10 the list of a query is. */
 enum {
-    /* The answer is there. Returned: how many answers the list got, from its start, the rest of it being as it was; of dl_contains_node 1 or 0. */
+    /* The answer is there.
+     * Of dl_lower: the log is written, and every word and byte of the buffers that is no part of it is 0. Returned: 0.
+     * Of the queries: how many answers the list got, from its start, the rest of it being as it was; of dl_contains_node 1 or 0. */
     DL_ANSWERED = 0,
+    /* The words are not 8 times 1 to 2,048, or the text has over 65,536 bytes. Returned: 0. */
+    DL_WRONG_SIZE = 1,
+    /* A link does not lead above its own record, leads past the last record, or leads to one already linked: next and child of every record, and W of
+     * nodes and properties. Returned: the first record with such a link. */
+    DL_BAD_LINK = 2,
+    /* A text does not end inside the text that is lent; an empty one has a start too. Every record has one. Returned: the first such record. */
+    DL_BAD_TEXT = 3,
+    /* A kind is unfit for its place, has a child where it has none, W is outside its list or is no character, a span ends before its start, or a word of
+     * record 0 other than its child is not 0. Returned: the first such record. 4 to 6 look only at records reached from record 0. */
+    DL_UNFIT_RECORD = 4,
+    /* A name is empty or holds "/", or a reference by name holds "/". Returned: the first such record. */
+    DL_BAD_NAME = 5,
+    /* More than 64 child, item or value links lead from record 0 to a record; next links do not count. Returned: the first such record. */
+    DL_TOO_DEEP = 6,
+    /* The records or bytes made are more than the buffers hold, or more than 65,536 records or 2^24 bytes. Bodies that are dropped and bindings that are
+     * removed again count. Returned: 0. Every word and byte of both buffers is 0. */
+    DL_NO_ROOM = 7,
     /* The log breaks a rule for logs, listed below. Returned: the lowest record at fault, which is 0 also where the count of words is wrong. */
     DL_BROKEN_LOG = 8,
     /* The path is not empty, not "/", and not "/" before each of its nonempty components, as "a", "/a/" and "//" are not. Returned: 0. */
     DL_BAD_PATH = 9,
     /* There are more answers than the list holds. Returned: how many, so that a list of that length is enough. */
     DL_LIST_TOO_SHORT = 10
+};
+
+/* ---- Descriptions: what lowering reads. A description is words, 8 to a record, and a text, where the texts of the records are: a start and a length
+ * there, with no end mark. Links are record numbers, and chains of them end in 0. A link leads above its own record, and no record has two links to it.
+ * Record 0 has only the first top item, as its child; its other words are 0. */
+
+/* The words of a record, by their index. */
+enum {
+    DL_IN_KIND = 0,
+    DL_IN_NEXT = 1, /* the next record of its chain */
+    DL_IN_CHILD = 2, /* the first part, cell or operand; 0 where the kind has none */
+    DL_IN_TEXT_START = 3,
+    DL_IN_TEXT_LENGTH = 4,
+    DL_IN_W = 5, /* of a node the first item of its body, of a property its first value; of other kinds a number, 0 where none is named */
+    DL_IN_SPAN_START = 6, /* where it stands in the source: lowering copies spans and asks only that none ends before its start */
+    DL_IN_SPAN_END = 7,
+    DL_IN_RECORD_WORDS = 8
+};
+
+/* The kinds. The first part of a kind counts; of labels, all. */
+enum {
+    DL_IN_NODE = 1, /* child: parts; W: first item */
+    DL_IN_PROPERTY = 2, /* child: parts; W: first value */
+    DL_IN_DIRECTIVE = 3, /* child: parts; W: which, below */
+    DL_IN_PREPROCESSOR = 4,
+    DL_IN_NAME = 5, /* text: the name */
+    DL_IN_UNIT_ADDRESS = 6, /* child: a name or a macro */
+    DL_IN_LABEL = 7, /* child: a name or a macro */
+    DL_IN_REFERENCE = 8, /* W 0, by name: text is the name, of length 0 where it is missing; W 1, raw: text is `&{..}`. child: a macro or none */
+    DL_IN_MACRO = 9, /* text: as it stands */
+    DL_IN_SLASH = 10, /* a root node's mark */
+    DL_IN_OMIT = 11, /* the mark that a node may be left out */
+    DL_IN_STRING = 12, /* text: its bytes */
+    DL_IN_CELL_LIST = 13, /* text: the width, of length 0 where there is none; child: cells */
+    DL_IN_BYTESTRING = 14, /* text: its hex digits, up to the first "]" */
+    DL_IN_NUMBER = 15, /* text: the number */
+    DL_IN_CHARACTER = 16, /* W: the code point */
+    DL_IN_EXPRESSION = 17, /* 17 to 20, child: expressions, in order */
+    DL_IN_PREFIX = 18, /* W: the operator, below */
+    DL_IN_PARENTHESIS = 19,
+    DL_IN_INFIX = 20 /* W: the operator, below */
+};
+
+/* Which kinds fit which chain:
+ *   items: 1 to 4                  node parts: 5 to 11
+ *   property parts: 5, 6, 9        directive parts: 5, 6, 8, 9
+ *   values: 3, 4, 8, 9, 12 to 14   cells: 3, 4, 8, 9, 15 to 17
+ *   expressions: 9, 15, 16, 18 to 20 */
+
+/* W of a directive. */
+enum {
+    DL_W_VERSION = 1,
+    DL_W_PLUGIN = 2,
+    DL_W_INCLUDE = 3,
+    DL_W_DELETE_NODE = 4,
+    DL_W_DELETE_PROPERTY = 5,
+    DL_W_OTHER = 6
+};
+
+/* W of a reference. */
+enum {
+    DL_W_BY_NAME = 0,
+    DL_W_RAW = 1
+};
+
+/* W of a prefix and of an infix; 0 is a missing operator. */
+enum {
+    DL_W_PLUS = 1, /* + */
+    DL_W_MINUS = 2, /* - */
+    DL_W_NOT_BITS = 3, /* ~ */
+    DL_W_NOT = 4 /* ! */
+};
+enum {
+    DL_W_ADD = 1, /* + */
+    DL_W_SUBTRACT = 2, /* - */
+    DL_W_MULTIPLY = 3, /* * */
+    DL_W_DIVIDE = 4, /* / */
+    DL_W_REMAINDER = 5, /* % */
+    DL_W_AND_BITS = 6, /* & */
+    DL_W_OR_BITS = 7, /* | */
+    DL_W_XOR_BITS = 8, /* ^ */
+    DL_W_SHIFT_LEFT = 9, /* << */
+    DL_W_SHIFT_RIGHT = 10, /* >> */
+    DL_W_AND = 11, /* && */
+    DL_W_OR = 12, /* || */
+    DL_W_LESS = 13, /* < */
+    DL_W_GREATER = 14, /* > */
+    DL_W_AT_MOST = 15, /* <= */
+    DL_W_AT_LEAST = 16, /* >= */
+    DL_W_EQUAL = 17, /* == */
+    DL_W_NOT_EQUAL = 18, /* != */
+    DL_W_CONDITIONAL = 19 /* ?:, which has three operands */
+};
+
+/* The limits of a description, and of the log that is made of one. No description needs larger buffers than DL_MOST_WORDS and DL_MOST_BYTES. */
+enum {
+    DL_MOST_IN_RECORDS = 2048,
+    DL_MOST_TEXT = 65536,
+    DL_MOST_LINKS = 64,
+    DL_MOST_RECORDS = 65536,
+    DL_MOST_WORDS = 1048576, /* 16 for each record */
+    DL_MOST_BYTES = 16777216
 };
 
 /* ---- The log. It is words, 16 to a record, and bytes, where the texts of the records are; a text is a start and a length there, with no end mark.
@@ -47,16 +174,16 @@ enum {
 enum {
     DL_KIND = 0,
     DL_NEXT = 1, /* the next record of its chain */
-    DL_TEXT_START = 2, /* the first text: a definition's path, a binding's label */
+    DL_TEXT_START = 2, /* the first text: a definition's path, a label, a reference's label, a string's or bytestring's bytes */
     DL_TEXT_LENGTH = 3,
-    DL_SECOND_START = 4, /* the second text: a binding's path */
+    DL_SECOND_START = 4, /* the second text: a binding's path, a reference's path */
     DL_SECOND_LENGTH = 5,
     DL_CHILD = 6, /* the first label of a node, value of a property, cell of a cell list; an extension's reference */
-    DL_N = 7,
-    DL_M = 8, /* the first definition of an extension's body */
+    DL_N = 7, /* a node's omit mark, a cell list's width, a number's low word, a reference's form, a diagnostic's code */
+    DL_M = 8, /* the first definition of an extension's body, a number's high word */
     DL_SPAN_START = 9,
     DL_SPAN_END = 10,
-    DL_NAME_START = 11, /* the name span */
+    DL_NAME_START = 11, /* the name span; of a diagnostic with code 20 the span of the earlier binding */
     DL_NAME_END = 12,
     DL_RECORD_WORDS = 16 /* the last three are 0 */
 };
@@ -91,10 +218,55 @@ enum {
     DL_DIAGNOSTIC = 15
 };
 
+/* N of a reference: what it names, the label in the first text, the path in the second. */
+enum {
+    DL_N_LABEL = 1,
+    DL_N_LABEL_AND_PATH = 2,
+    DL_N_PATH = 3
+};
+
+/* N of a diagnostic. Its text is the label of 3 and 20, the path of 4, the macro's text of 10, else empty. */
+enum {
+    DL_CODE_PREPROCESSOR = 1, /* preprocessor directives are not read */
+    DL_CODE_INCLUDE = 2, /* includes are not read */
+    DL_CODE_NO_LABEL = 3, /* no such label */
+    DL_CODE_NO_NODE = 4, /* no such node */
+    DL_CODE_SUBNODE_OUTSIDE = 5, /* a subnode outside of a node */
+    DL_CODE_ROOT_INSIDE = 6, /* a root node inside of a node */
+    DL_CODE_PROPERTY_OUTSIDE = 7, /* a property outside of a node */
+    DL_CODE_DIRECTIVE_AS_VALUE = 8,
+    DL_CODE_DIRECTIVE_AS_CELL = 9,
+    DL_CODE_NO_MACRO = 10, /* a macro that is not defined */
+    DL_CODE_ODD_DIGITS = 11, /* a bytestring lacks a hex digit */
+    DL_CODE_NO_WIDTH = 12, /* a cell width is not 8, 16, 32 or 64 */
+    DL_CODE_LARGE_CHARACTER = 13, /* a character too large for its cell */
+    DL_CODE_REFERENCE_WIDTH = 14, /* a reference outside of 32-bit cells */
+    DL_CODE_LARGE_EXPRESSION = 15, /* an expression outside of its cell's width */
+    DL_CODE_EMPTY_NUMBER = 16,
+    DL_CODE_NO_DIGIT = 17,
+    DL_CODE_NUMBER_TOO_LARGE = 18,
+    DL_CODE_NUMBER_TOO_SMALL = 19,
+    DL_CODE_DUPLICATE_LABEL = 20,
+    DL_CODE_VERSION_LATE = 21, /* a version directive behind definitions */
+    DL_CODE_PLUGIN_MISPLACED = 22, /* a plugin directive that is not behind the version directive */
+    DL_CODE_BEFORE_VERSION = 23, /* a definition before the version directive */
+    DL_CODE_OVERFLOW = 24, /* a result outside of 64 bits */
+    DL_CODE_ZERO_DIVISOR = 25,
+    DL_CODE_SHIFT_AMOUNT = 26 /* a shift amount outside of 0 to 63 */
+};
+
 /* The rules that number 8 speaks of: the count of words is 16 times 1 or more; each link leads to a record of the log, up or down, and no record is
  * reached twice; a child is 0 where the kind has none; texts end inside `bytes`; a kind fits the chain that it is in; no span ends before its start;
  * paths of definitions and bindings are as number 9 asks and not empty, but a version's or plugin directive's may be. Only record 0 and what links
  * lead to from it is looked at, and its two counts are not. */
+
+/* ---- Lowering. */
+
+/* Lowers the description in `words` and `text` into `out` and `bytes`: the log of its top items, then of the post checks. What the buffers held before does
+ * not matter. `out` holds as many records as it has times 16 words, and DL_RECORDS_USED and DL_BYTES_USED of the log say how much was needed. Words of
+ * `out` behind its last whole record are 0 then; leave them out where the log is lent to a query, which asks for 16 times 1 or more. */
+struct DlAnswer dl_lower(const uint32_t *words, size_t words_len, const uint8_t *text, size_t text_len, uint32_t *out, size_t out_len, uint8_t *bytes,
+                         size_t bytes_len);
 
 /* ---- Queries. An answer is the number of a record of the chain that starts at DL_FIRST_DEFINITION. */
 

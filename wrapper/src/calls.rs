@@ -9,6 +9,17 @@ pub(crate) struct DlAnswer {
 }
 
 unsafe extern "C" {
+    fn dl_lower(
+        words: *const u32,
+        words_len: usize,
+        text: *const u8,
+        text_len: usize,
+        out: *mut u32,
+        out_len: usize,
+        bytes: *mut u8,
+        bytes_len: usize,
+    ) -> DlAnswer;
+
     fn dl_iter_live_defs_under(
         words: *const u32,
         words_len: usize,
@@ -39,6 +50,26 @@ unsafe extern "C" {
         path: *const u8,
         path_len: usize,
     ) -> DlAnswer;
+}
+
+/// Lowers a description into two buffers.
+pub(crate) fn lower(words: &[u32], text: &[u8], out: &mut [u32], bytes: &mut [u8]) -> DlAnswer {
+    // SAFETY: each pointer is a slice's, aligned and with that slice's length in elements, so that
+    // many can be read there and, of `out` and `bytes`, written. Those two are borrowed mutably, so
+    // they overlap neither each other nor the rest. The function keeps no pointer and writes only
+    // these two, with any words and bytes.
+    unsafe {
+        dl_lower(
+            words.as_ptr(),
+            words.len(),
+            text.as_ptr(),
+            text.len(),
+            out.as_mut_ptr(),
+            out.len(),
+            bytes.as_mut_ptr(),
+            bytes.len(),
+        )
+    }
 }
 
 /// The definitions that are live under a base, into a list.

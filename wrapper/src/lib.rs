@@ -1,26 +1,34 @@
-//! Queries of a definition log: what of it is live, what a path's history is, and whether a node is
-//! there.
+//! A definition log, made and read: lowering, which makes it of a description, and queries: what of it
+//! is live, what a path's history is, and whether a node is there.
 //!
-//! A definition log is what lowering makes of a devicetree description: its nodes, properties,
-//! deletions and directives, in order. It lies in words of 32 bits, 16 to a record, and in bytes,
-//! where the texts are; docs/01-scope.md ("01") has the layout, and `include/definition_log.h` tells
-//! it in short.
+//! A definition log has what a devicetree source defines: its nodes, properties, deletions and
+//! directives, in order, with labels and diagnostics. A [`Description`] is that source as records, which
+//! a parser writes or, for tests and small things, a [`Tree`]; lowering it gives the [`Log`].
 //!
-//! The answers come from a library that is proved: for all words and bytes that are lent, also broken
-//! ones, it answers as 01 says, reads nothing outside of them, writes only the list, and ends. What
-//! is not proved is this wrapper. A query takes up to about 600 KB of stack.
+//! A log lies in words of 32 bits, 16 to a record, and in bytes, where the texts are, and a description
+//! in words, 8 to a record, and its text; docs/01-scope.md ("01") has the layout, and
+//! `include/definition_log.h` tells it in short.
+//!
+//! Lowering and the answers come from a library that is proved: for all words and bytes that are lent,
+//! also broken ones, it answers as 01 says, reads nothing outside of them, writes only the buffers that
+//! it is to write, and ends. What is not proved is this wrapper, which reads records by itself. A live
+//! list takes up to about 1.2 MB of stack, lowering up to about 1.5 MB, the other queries up to about 350 KB.
 //!
 //! ```
 //! use definition_log::sample;
 //!
-//! let log = sample::log();
+//! let lowered = sample::description().lower()?;
+//! let log = lowered.log();
 //! for record in log.iter_live_defs_under("/")? {
 //!     let definition = log.definition(record).expect("lists have definitions");
 //!     println!("{} {}", definition.kind, String::from_utf8_lossy(definition.path));
 //! }
-//! assert_eq!(log.history("/c/q")?, [9, 10], "defined, then gone with its node");
+//! for diagnostic in log.diagnostics().chain(log.post_diagnostics()) {
+//!     println!("{diagnostic} at {:?}", diagnostic.span);
+//! }
+//! assert_eq!(log.history("/c/q")?.len(), 2, "defined, then gone with its node");
 //! assert!(log.contains_node("/b")?);
-//! # Ok::<(), definition_log::QueryError>(())
+//! # Ok::<(), Box<dyn std::error::Error>>(())
 //! ```
 //!
 //! # How to build
@@ -32,12 +40,22 @@
 #![deny(clippy::undocumented_unsafe_blocks)]
 
 mod calls;
+mod diagnostic;
 mod error;
+mod lower;
+mod lower_error;
 mod read;
 pub mod sample;
+mod tree;
+mod value;
 
+pub use diagnostic::Diagnostic;
 pub use error::QueryError;
-pub use read::{Definition, Kind};
+pub use lower::{Description, OwnedLog};
+pub use lower_error::LowerError;
+pub use read::{Binding, Definition, Extension, Kind};
+pub use tree::{Directive, Infix, InputKind, OwnedDescription, Prefix, Tree};
+pub use value::{Cell, Target, Value};
 
 /// How many answers a list has room for at first, where the caller lends none.
 const FIRST_ROOM: usize = 64;

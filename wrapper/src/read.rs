@@ -2,28 +2,41 @@
 
 use std::{fmt, ops::Range};
 
-use crate::Log;
+use crate::{Log, Target};
 
 /// How many words a record has.
-const RECORD_WORDS: usize = 16;
+pub(crate) const RECORD_WORDS: usize = 16;
 
 /// A log has no record from this one on, however many words are lent.
-const MOST_RECORDS: usize = 65_536;
+pub(crate) const MOST_RECORDS: usize = 65_536;
+
+/// The words of a record.
+pub(crate) type Record = [u32; RECORD_WORDS];
 
 // The words of a record, by their index.
-const KIND: usize = 0;
+pub(crate) const KIND: usize = 0;
 const NEXT: usize = 1;
 const TEXT: usize = 2;
-const CHILD: usize = 6;
-const N: usize = 7;
-const SPAN: usize = 9;
-const NAME_SPAN: usize = 11;
+const SECOND_TEXT: usize = 4;
+pub(crate) const CHILD: usize = 6;
+pub(crate) const N: usize = 7;
+pub(crate) const M: usize = 8;
+pub(crate) const SPAN: usize = 9;
+pub(crate) const NAME_SPAN: usize = 11;
 
-/// The word of record 0 that has the first definition.
+// The words of record 0: how much is used, and the first record of each chain.
+const RECORDS_USED: usize = 0;
 const FIRST_DEFINITION: usize = 1;
+const FIRST_EXTENSION: usize = 2;
+const FIRST_BINDING: usize = 3;
+pub(crate) const FIRST_DIAGNOSTIC: usize = 4;
+const BYTES_USED: usize = 5;
+pub(crate) const FIRST_POST_DIAGNOSTIC: usize = 6;
 
-/// The kind of a label's record.
+// The kinds of records that are no definitions.
 const LABEL: u32 = 7;
+const EXTENSION: u32 = 13;
+const BINDING: u32 = 14;
 
 /// What a definition does.
 ///
@@ -103,6 +116,52 @@ pub struct Definition<'a> {
     pub omit: bool,
 }
 
+/// A label that is bound to the path of a node, in the order in which bindings were made; those that a
+/// deletion removed are not there.
+///
+/// ```
+/// let a = definition_log::sample::log().bindings().next().expect("a binding");
+/// assert_eq!((a.record, a.label, a.path, a.span), (5, &b"a"[..], &b"/b"[..], 14..16));
+/// ```
+#[derive(Clone, Debug, PartialEq, Eq, Hash)]
+pub struct Binding<'a> {
+    /// The number of its record.
+    pub record: u32,
+    /// The label.
+    pub label: &'a [u8],
+    /// The path of the node that it stands before.
+    pub path: &'a [u8],
+    /// Where the label stands in the source, in bytes.
+    pub span: Range<u32>,
+}
+
+/// A node whose reference leads nowhere in an overlay, kept with its body, which
+/// [`Log::body`] has.
+///
+/// ```
+/// use definition_log::{Directive, InputKind, OwnedDescription, Target, Tree};
+///
+/// // `/plugin/; &a { };`
+/// let plugin = Tree::of(InputKind::Directive(Directive::Plugin)).at(0..10);
+/// let a = Tree::of(InputKind::Reference).text("a").at(11..13);
+/// let lowered = OwnedDescription::of(&[plugin, Tree::node([a], []).at(11..18)]).description().lower()?;
+/// let extension = lowered.log().extensions().next().expect("an extension");
+/// assert_eq!(extension.target, Some(Target::Label(b"a")));
+/// assert_eq!((extension.span, extension.name_span), (11..18, 11..13));
+/// # Ok::<(), definition_log::LowerError>(())
+/// ```
+#[derive(Clone, Debug, PartialEq, Eq, Hash)]
+pub struct Extension<'a> {
+    /// The number of its record.
+    pub record: u32,
+    /// What it refers to; lowering makes no extension without it.
+    pub target: Option<Target<'a>>,
+    /// Where it stands in the source, in bytes.
+    pub span: Range<u32>,
+    /// Where its reference stands there.
+    pub name_span: Range<u32>,
+}
+
 /// Readers. They test no rule: of a log that a query would refuse they give what can be read, and
 /// end. They never panic.
 impl<'a> Log<'a> {
@@ -126,8 +185,8 @@ impl<'a> Log<'a> {
             record,
             kind: Kind::of(words[KIND])?,
             path: self.text(words)?,
-            span: words[SPAN]..words[SPAN + 1],
-            name_span: words[NAME_SPAN]..words[NAME_SPAN + 1],
+            span: range(words, SPAN),
+            name_span: range(words, NAME_SPAN),
             omit: words[KIND] == 1 && words[N] != 0,
         })
     }
@@ -143,8 +202,7 @@ impl<'a> Log<'a> {
     /// ```
     pub fn definitions(&self) -> impl Iterator<Item = Definition<'a>> + use<'a> {
         let log = *self;
-        let first = self.words.get(FIRST_DEFINITION).copied().unwrap_or(0);
-        log.chain(first).map_while(move |record| log.definition(record))
+        log.chain(log.head(FIRST_DEFINITION)).map_while(move |record| log.definition(record))
     }
 
     /// The labels of the node that this record defines, as they stand before its name; none if it
@@ -163,10 +221,81 @@ impl<'a> Log<'a> {
             Some(Definition { kind: Kind::Node, .. }) => self.record(record).map_or(0, |words| words[CHILD]),
             _ => 0,
         };
-        log.chain(first).map_while(move |label| {
-            let words = log.record(label).filter(|words| words[KIND] == LABEL)?;
-            log.text(words)
+        log.chain_of(first, LABEL).map_while(move |(_, words)| log.text(words))
+    }
+
+    /// The bindings of the log, in the order in which they were made.
+    ///
+    /// ```
+    /// let labels: Vec<&[u8]> = definition_log::sample::log().bindings().map(|binding| binding.label).collect();
+    /// assert_eq!(labels, [b"a"]);
+    /// ```
+    pub fn bindings(&self) -> impl Iterator<Item = Binding<'a>> + use<'a> {
+        let log = *self;
+        log.chain_of(log.head(FIRST_BINDING), BINDING).map_while(move |(record, words)| {
+            let (label, path) = (log.text(words)?, log.second_text(words)?);
+            Some(Binding { record, label, path, span: range(words, SPAN) })
         })
+    }
+
+    /// The extensions of the log, those inside another one's body before it.
+    ///
+    /// ```
+    /// assert_eq!(definition_log::sample::log().extensions().count(), 0);
+    /// ```
+    pub fn extensions(&self) -> impl Iterator<Item = Extension<'a>> + use<'a> {
+        let log = *self;
+        log.chain_of(log.head(FIRST_EXTENSION), EXTENSION).map(move |(record, words)| Extension {
+            record,
+            target: log.record(words[CHILD]).and_then(|reference| log.target(reference)),
+            span: range(words, SPAN),
+            name_span: range(words, NAME_SPAN),
+        })
+    }
+
+    /// The definitions in the body of the extension of this record number, in whose paths "/" stands
+    /// for the node that it refers to; none if there is no such extension.
+    ///
+    /// ```
+    /// use definition_log::{Directive, InputKind, OwnedDescription, Tree};
+    ///
+    /// // `/plugin/; &a { p; };`
+    /// let plugin = Tree::of(InputKind::Directive(Directive::Plugin));
+    /// let p = Tree::property([Tree::name("p")], []);
+    /// let node = Tree::node([Tree::of(InputKind::Reference).text("a")], [p]);
+    /// let lowered = OwnedDescription::of(&[plugin, node]).description().lower()?;
+    /// let log = lowered.log();
+    /// let extension = log.extensions().next().expect("an extension");
+    /// let paths: Vec<&[u8]> = log.body(extension.record).map(|definition| definition.path).collect();
+    /// assert_eq!(paths, [b"/p"]);
+    /// assert_eq!(log.body(1).count(), 0, "record 1 is no extension");
+    /// # Ok::<(), definition_log::LowerError>(())
+    /// ```
+    pub fn body(&self, record: u32) -> impl Iterator<Item = Definition<'a>> + use<'a> {
+        let log = *self;
+        let first = self.record(record).filter(|words| words[KIND] == EXTENSION).map_or(0, |words| words[M]);
+        log.chain(first).map_while(move |record| log.definition(record))
+    }
+
+    /// How many records were made, as record 0 says: record 0 too, and what was dropped again. A buffer
+    /// for as many is enough to lower the same description.
+    ///
+    /// ```
+    /// assert_eq!(definition_log::sample::log().records_used(), 11);
+    /// ```
+    #[must_use]
+    pub fn records_used(&self) -> usize {
+        self.head(RECORDS_USED) as usize
+    }
+
+    /// How many bytes of text were made, as record 0 says.
+    ///
+    /// ```
+    /// assert_eq!(definition_log::sample::log().bytes_used(), 18);
+    /// ```
+    #[must_use]
+    pub fn bytes_used(&self) -> usize {
+        self.head(BYTES_USED) as usize
     }
 
     /// How many records belong to the log.
@@ -174,8 +303,13 @@ impl<'a> Log<'a> {
         (self.words.len() / RECORD_WORDS).min(MOST_RECORDS)
     }
 
+    /// A word of record 0; 0 if there is none.
+    pub(crate) fn head(&self, word: usize) -> u32 {
+        self.words.first_chunk::<RECORD_WORDS>().map_or(0, |head| head[word])
+    }
+
     /// The words of a record other than record 0.
-    fn record(&self, record: u32) -> Option<&'a [u32; RECORD_WORDS]> {
+    pub(crate) fn record(&self, record: u32) -> Option<&'a Record> {
         let record = record as usize;
         if record == 0 || self.count() <= record {
             return None;
@@ -184,9 +318,19 @@ impl<'a> Log<'a> {
     }
 
     /// The first text of a record.
-    fn text(&self, words: &[u32; RECORD_WORDS]) -> Option<&'a [u8]> {
-        let start = words[TEXT] as usize;
-        self.bytes.get(start..start.checked_add(words[TEXT + 1] as usize)?)
+    pub(crate) fn text(&self, words: &Record) -> Option<&'a [u8]> {
+        self.text_at(words[TEXT], words[TEXT + 1])
+    }
+
+    /// The second text of a record.
+    pub(crate) fn second_text(&self, words: &Record) -> Option<&'a [u8]> {
+        self.text_at(words[SECOND_TEXT], words[SECOND_TEXT + 1])
+    }
+
+    /// The text at a start, of a length.
+    fn text_at(&self, start: u32, length: u32) -> Option<&'a [u8]> {
+        let start = start as usize;
+        self.bytes.get(start..start.checked_add(length as usize)?)
     }
 
     /// The records of a chain from this one on: up to the end, a link that leads out of the log, or
@@ -196,6 +340,21 @@ impl<'a> Log<'a> {
             .take_while(move |&record| self.record(record).is_some())
             .take(self.count())
     }
+
+    /// The records of a chain from this one on with their words, as far as they are of this kind.
+    pub(crate) fn chain_of(self, first: u32, kind: u32) -> impl Iterator<Item = (u32, &'a Record)> + use<'a> {
+        self.chain_with(first).take_while(move |(_, words)| words[KIND] == kind)
+    }
+
+    /// The records of a chain from this one on, with their words.
+    pub(crate) fn chain_with(self, first: u32) -> impl Iterator<Item = (u32, &'a Record)> + use<'a> {
+        self.chain(first).filter_map(move |record| Some((record, self.record(record)?)))
+    }
+}
+
+/// The two words of a span.
+pub(crate) fn range(words: &Record, word: usize) -> Range<u32> {
+    words[word]..words[word + 1]
 }
 
 #[cfg(test)]

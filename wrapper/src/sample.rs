@@ -1,4 +1,4 @@
-//! A small log, to try things on: that of the description
+//! A small description and its log, to try things on: those of
 //!
 //! ```text
 //! /dts-v1/;
@@ -15,12 +15,39 @@
 //! # Ok::<(), definition_log::QueryError>(())
 //! ```
 
-use crate::Log;
+use crate::{Description, Log};
 
-/// Its texts, one behind the other.
+/// The source, in which the description has its texts.
+const SOURCE: &[u8] = b"/dts-v1/;\n/ { a: b { }; };\n/ { p; c { q; }; /delete-node/ c; };";
+
+/// The description's records: kind, next, child, text, W, span. Record 0 has the first top item as its
+/// child.
+#[rustfmt::skip]
+static DESCRIBED: [[u32; 8]; 18] = [
+    [0, 0, 1, 0, 0, 0, 0, 0],
+    [3, 2, 0, 0, 0, 1, 0, 9],      // the version
+    [1, 8, 3, 0, 0, 4, 10, 26],    // node /
+    [10, 0, 0, 0, 0, 0, 10, 11],
+    [1, 0, 5, 0, 0, 0, 14, 23],    // node b, in it
+    [7, 7, 6, 0, 0, 0, 14, 16],    // its label
+    [5, 0, 0, 14, 1, 0, 14, 15],
+    [5, 0, 0, 17, 1, 0, 17, 18],
+    [1, 0, 9, 0, 0, 10, 27, 63],   // node /
+    [10, 0, 0, 0, 0, 0, 27, 28],
+    [2, 12, 11, 0, 0, 0, 31, 33],  // property p, in it
+    [5, 0, 0, 31, 1, 0, 31, 32],
+    [1, 16, 13, 0, 0, 14, 34, 43], // node c, next to it
+    [5, 0, 0, 34, 1, 0, 34, 35],
+    [2, 0, 15, 0, 0, 0, 38, 40],   // property q, in that
+    [5, 0, 0, 38, 1, 0, 38, 39],
+    [3, 0, 17, 0, 0, 4, 44, 60],   // the deletion of c
+    [5, 0, 0, 58, 1, 0, 58, 59],
+];
+
+/// The log's texts, one behind the other.
 const BYTES: &[u8] = b"//baa/b//p/c/c/q/c";
 
-/// Its records: kind, next, text, second text, child, N, M, span, name span, zeros. Record 0 has the
+/// The log's records: kind, next, text, second text, child, N, M, span, name span, zeros. Record 0 has the
 /// records used, the first definition, extension, binding, diagnostic, the bytes used, and the first
 /// post-check diagnostic.
 #[rustfmt::skip]
@@ -37,6 +64,17 @@ static RECORDS: [[u32; 16]; 11] = [
     [2, 10, 12, 4, 0, 0, 0, 0, 0, 38, 40, 38, 39, 0, 0, 0], // property /c/q
     [3, 0, 16, 2, 0, 0, 0, 0, 0, 44, 60, 44, 60, 0, 0, 0],  // deleted node /c
 ];
+
+/// The description.
+///
+/// ```
+/// let description = definition_log::sample::description();
+/// assert_eq!((description.words().len(), description.text().len()), (18 * 8, 63));
+/// ```
+#[must_use]
+pub fn description() -> Description<'static> {
+    Description::new(DESCRIBED.as_flattened(), SOURCE)
+}
 
 /// The log.
 ///

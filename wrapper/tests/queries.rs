@@ -119,14 +119,3 @@ fn empty_logs_answer_nothing() {
     assert_eq!(log.contains_node("/"), Ok(false));
     assert_eq!(Log::new(&[], &[]).contains_node("/"), Err(QueryError::BrokenLog { record: 0 }));
 }
-
-#[test]
-fn a_thread_with_1_mb_of_stack_is_enough() {
-    let asked = std::thread::Builder::new()
-        .stack_size(1 << 20)
-        .spawn(|| sample::log().iter_live_defs_under("/"))
-        .unwrap()
-        .join()
-        .unwrap();
-    assert_eq!(asked, Ok(vec![7, 6, 3, 2]));
-}

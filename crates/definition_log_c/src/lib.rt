@@ -1,9 +1,12 @@
 // The definition log for C, on numbers and slices; include/definition_log.h declares these functions.
-// Each calls one function of the crate below and hands its answer over.
+// Each calls one function of a crate below and hands its answer over.
 ghost use mathlib.Core.Path.{_≡_};
 ghost use lib.ListN.{length};
+ghost use Rattle.log.specs.Alike.{Words32};
 ghost use Rattle.queries.specs.Query.{queryAnswer, queryOut, liveAnswers, historyAnswers, containsAnswer};
+ghost use Rattle.lowering.specs.Lowered.{Lowered};
 ghost use Rattle.definition_log_c.specs.Told.{told};
+use lowering::lower::lower;
 use queries::query::contains_node;
 use queries::query::history;
 use queries::query::iter_live_defs_under;
@@ -13,6 +16,24 @@ use queries::query::iter_live_defs_under;
 pub struct DlAnswer {
     pub number: u32,
     pub returned: u32,
+}
+
+// Lowers a description, any words and any text, into the buffers that are lent.
+#[no_mangle]
+pub extern "C" fn dl_lower(
+    words: &[u32],
+    text: &[u8],
+    out: &mut [u32],
+    bytes: &mut [u8],
+) -> DlAnswer
+    ensures { λ r. ⌜ Lowered (now (words .entry)) (now (text .entry)) (now (out .entry)) (now (bytes .entry)) (told r) (now (out .exit)) (now (bytes .exit)) ⌝ }
+    ensures { λ _. ⌜ Words32 (now (out .exit)) ⌝ }
+{
+    let done = lower(words, text, out, bytes);
+    DlAnswer {
+        number: done.number,
+        returned: done.returned,
+    }
 }
 
 // The live definitions under a base, latest first, by their record numbers.

@@ -1,0 +1,207 @@
+//! Descriptions, and what they are lowered to.
+
+use crate::{
+    Log, LowerError, calls,
+    lower_error::MOST_BYTES,
+    read::{MOST_RECORDS, RECORD_WORDS},
+};
+
+/// How many times as large as the last ones the buffers are that a lowering is tried again with.
+const GROWTH: usize = 4;
+
+/// A description that someone holds: its words, 8 to a record, and its text. It may be broken; lowering
+/// tests it first.
+///
+/// 01 has the records under "Records", `include/definition_log.h` tells them in short, and
+/// [`OwnedDescription::of`](crate::OwnedDescription::of) writes them for a [`Tree`](crate::Tree).
+///
+/// ```
+/// use definition_log::{Description, Kind};
+///
+/// // Record 0, whose child is record 1: a directive (3), the version's (1), at 0-9.
+/// let words = [0, 0, 1, 0, 0, 0, 0, 0, 3, 0, 0, 0, 0, 1, 0, 9];
+/// let lowered = Description::new(&words, b"").lower()?;
+/// let first = lowered.log().definitions().next().expect("a definition");
+/// assert_eq!((first.kind, first.span), (Kind::Version, 0..9));
+/// # Ok::<(), definition_log::LowerError>(())
+/// ```
+#[derive(Clone, Copy, Debug)]
+pub struct Description<'a> {
+    words: &'a [u32],
+    text: &'a [u8],
+}
+
+impl<'a> Description<'a> {
+    /// The description in these words and this text.
+    ///
+    /// ```
+    /// use definition_log::Description;
+    ///
+    /// // Record 0 alone describes nothing.
+    /// let lowered = Description::new(&[0; 8], b"").lower()?;
+    /// assert_eq!(lowered.log().definitions().count(), 0);
+    /// # Ok::<(), definition_log::LowerError>(())
+    /// ```
+    #[must_use]
+    pub const fn new(words: &'a [u32], text: &'a [u8]) -> Description<'a> {
+        Description { words, text }
+    }
+
+    /// Its words.
+    ///
+    /// ```
+    /// assert_eq!(definition_log::sample::description().words()[2], 1, "the first top item");
+    /// ```
+    #[must_use]
+    pub const fn words(&self) -> &'a [u32] {
+        self.words
+    }
+
+    /// Its text.
+    ///
+    /// ```
+    /// assert!(definition_log::sample::description().text().starts_with(b"/dts-v1/;"));
+    /// ```
+    #[must_use]
+    pub const fn text(&self) -> &'a [u8] {
+        self.text
+    }
+
+    /// Lowers it into buffers that grow as needed.
+    ///
+    /// # Errors
+    ///
+    /// All of [`LowerError`]; [`NoRoom`](LowerError::NoRoom) only where the log needs more than 65,536
+    /// records or 2^24 bytes.
+    ///
+    /// ```
+    /// use definition_log::sample;
+    ///
+    /// let lowered = sample::description().lower()?;
+    /// let log = lowered.log();
+    /// assert!(log.contains_node("/b")?);
+    /// assert_eq!(log.history("/c")?.len(), 2, "defined, then deleted");
+    /// # Ok::<(), Box<dyn std::error::Error>>(())
+    /// ```
+    pub fn lower(&self) -> Result<OwnedLog, LowerError> {
+        // At first two records of the log for each of the description, and a few more.
+        self.lower_from(self.words.len() / 4 + 16, self.text.len() + 1024)
+    }
+
+    /// Lowers it into buffers of these sizes, and of larger ones as long as they do not do.
+    fn lower_from(&self, records: usize, bytes: usize) -> Result<OwnedLog, LowerError> {
+        let (mut records, mut bytes) = (records.min(MOST_RECORDS), bytes.min(MOST_BYTES));
+        loop {
+            let mut log = OwnedLog { words: vec![0; records * RECORD_WORDS], bytes: vec![0; bytes] };
+            match self.lower_into(&mut log.words, &mut log.bytes) {
+                Err(LowerError::NoRoom { .. }) if records < MOST_RECORDS || bytes < MOST_BYTES => {
+                    records = (records * GROWTH).clamp(1, MOST_RECORDS);
+                    bytes = (bytes * GROWTH).clamp(1, MOST_BYTES);
+                }
+                Err(refused) => return Err(refused),
+                Ok(_) => return Ok(log),
+            }
+        }
+    }
+
+    /// [`lower`](Description::lower) into buffers that the caller lends, 16 words to a record. What they
+    /// held does not matter; what of them is no part of the log is zero afterwards.
+    ///
+    /// The log is lent from the buffers. It has all of their whole records, and
+    /// [`records_used`](Log::records_used) and [`bytes_used`](Log::bytes_used) say how many were needed.
+    ///
+    /// # Errors
+    ///
+    /// All of [`LowerError`]. After [`NoRoom`](LowerError::NoRoom) the buffers are zeros, after the
+    /// others they are as they were.
+    ///
+    /// ```
+    /// use definition_log::sample;
+    ///
+    /// let (mut words, mut bytes) = ([0; 16 * 16], [0; 64]);
+    /// let log = sample::description().lower_into(&mut words, &mut bytes)?;
+    /// assert_eq!((log.records_used(), log.bytes_used()), (11, 18));
+    /// assert_eq!(log.bindings().count(), 1);
+    /// # Ok::<(), definition_log::LowerError>(())
+    /// ```
+    ///
+    /// What is read and what is written cannot overlap:
+    ///
+    /// ```compile_fail,E0502
+    /// # use definition_log::Description;
+    /// let (mut words, mut bytes) = ([0; 64], [0; 64]);
+    /// let log = Description::new(&[0; 8], &bytes).lower_into(&mut words, &mut bytes);
+    /// ```
+    pub fn lower_into<'b>(&self, out: &'b mut [u32], bytes: &'b mut [u8]) -> Result<Log<'b>, LowerError> {
+        let records = out.len() / RECORD_WORDS;
+        let answer = calls::lower(self.words, self.text, out, bytes);
+        LowerError::or_lowered(answer, (self.words.len(), self.text.len()), (records, bytes.len()))?;
+        Ok(Log::new(&out[..records * RECORD_WORDS], bytes))
+    }
+}
+
+/// A log with its own words and bytes.
+///
+/// ```
+/// use definition_log::{OwnedLog, sample};
+///
+/// let lowered: OwnedLog = sample::description().lower()?;
+/// assert_eq!(lowered.log().definitions().count(), 8);
+/// # Ok::<(), definition_log::LowerError>(())
+/// ```
+#[derive(Clone, Debug)]
+pub struct OwnedLog {
+    words: Vec<u32>,
+    bytes: Vec<u8>,
+}
+
+impl OwnedLog {
+    /// The log, to ask and to read.
+    ///
+    /// ```
+    /// use definition_log::sample;
+    ///
+    /// let lowered = sample::description().lower()?;
+    /// assert!(!lowered.log().contains_node("/c")?, "it was deleted");
+    /// # Ok::<(), Box<dyn std::error::Error>>(())
+    /// ```
+    #[must_use]
+    pub fn log(&self) -> Log<'_> {
+        Log::new(&self.words, &self.bytes)
+    }
+
+    /// Its words and its bytes, which may be more than the log needs.
+    ///
+    /// ```
+    /// use definition_log::{Log, sample};
+    ///
+    /// let (words, bytes) = sample::description().lower()?.into_parts();
+    /// assert!(Log::new(&words, &bytes).contains_node("/b")?);
+    /// # Ok::<(), Box<dyn std::error::Error>>(())
+    /// ```
+    #[must_use]
+    pub fn into_parts(self) -> (Vec<u32>, Vec<u8>) {
+        (self.words, self.bytes)
+    }
+}
+
+#[cfg(test)]
+mod tests {
+    use crate::sample;
+
+    #[test]
+    fn buffers_grow_from_any_size() {
+        for (records, bytes) in [(0, 0), (0, 18), (11, 0), (10, 17), (11, 18), (usize::MAX, usize::MAX)] {
+            let lowered = sample::description().lower_from(records, bytes).unwrap();
+            assert_eq!((lowered.log().records_used(), lowered.log().bytes_used()), (11, 18));
+        }
+    }
+
+    #[test]
+    fn buffers_that_do_are_not_grown() {
+        let (words, bytes) = sample::description().lower_from(11, 18).unwrap().into_parts();
+        assert_eq!((words.len(), bytes.len()), (11 * 16, 18));
+        let (words, bytes) = sample::description().lower_from(10, 18).unwrap().into_parts();
+        assert_eq!((words.len(), bytes.len()), (40 * 16, 72));
+    }
+}
