@@ -1,0 +1,107 @@
+// Reads a description from standard input, lowers it and prints the listing of its log.
+ghost use Prim.Native.Nat.{_*_, _≤_};
+ghost use mathlib.Core.Path.{_≡_};
+ghost use lib.ListN.{length, take};
+ghost use Rattle.io.specs.Counts.{Counts};
+ghost use Rattle.listing.specs.Page.{pageAt, filled};
+ghost use Rattle.listing.specs.Program.{wordBytes, mostWords, wordsOf, outLength, bytesLength, listed, printed, mostPrinted};
+
+mod lines;
+mod listing;
+mod page;
+mod reading;
+
+use listing::list_answer;
+use listing::list_refusal;
+use lowering::lower::lower;
+use reading::read_words;
+use reading::word_at;
+
+// The records of an input, and their words.
+const MOST_RECORDS: u32 = 2048;
+
+const MOST_WORDS: usize = 16384;
+
+// The longest input that is not refused by its size has 131,076 bytes; one more, so that a longer text is
+// seen to be longer.
+const MOST_INPUT: usize = 131077;
+
+// "1,024 records and 65,536 bytes".
+const OUT_WORDS: usize = 16384;
+
+const OUT_BYTES: usize = 65536;
+
+// The longest listing: each record but record 0 has at most 50 bytes beside its texts, and the last line 2.
+const MOST_PAGE: usize = 116688;
+
+fn main() {
+    let mut input = [0u8; MOST_INPUT];
+    let n = io::read_full(0, &mut input);
+    let mut page = [0u8; MOST_PAGE];
+    let used = list_whole(&input[..n], &mut page);
+    io::write_all(1, &page[..used]);
+}
+
+// Writes what is printed for an input to the start of a page that is long enough for any, and returns how
+// long it is.
+fn list_whole(input: &[u8], page: &mut [u8]) -> usize
+    requires { ⌜ mostPrinted ≤ length (now page) ⌝ }
+    ensures { λ n. ⌜ Counts n (now (page .exit)) ⌝ }
+    ensures { λ n. ⌜ take n (now (page .exit)) ≡ printed (now (input .entry)) ⌝ }
+{
+    list_input(input, page)
+}
+
+// Writes what is printed for an input to the start of a page, cut where it does not fit, and returns how
+// long it is there.
+fn list_input(input: &[u8], page: &mut [u8]) -> usize
+    ensures { λ n. ⌜ pageAt (now (page .exit)) n ≡ filled (now (page .entry)) (printed (now (input .entry))) ⌝ }
+{
+    if input.len() < 4 {
+        return list_refusal(1, 0, page);
+    }
+    let count = word_at(input, 0);
+    let from = 4 + (count as usize) * 32;
+    if input.len() < from {
+        return list_refusal(1, 0, page);
+    }
+    if MOST_RECORDS < count {
+        return list_refusal(1, 0, page);
+    }
+    list_records(&input[4..], (count as usize) * 8, &input[from..], page)
+}
+
+// The same for the bytes of `n` words, and a text.
+fn list_records(records: &[u8], n: usize, text: &[u8], page: &mut [u8]) -> usize
+    requires { ⌜ (n * wordBytes ≤ length (now records)) × (n ≤ mostWords) ⌝ }
+    ensures { λ to. ⌜ pageAt (now (page .exit)) to ≡ filled (now (page .entry)) (listed (wordsOf n (now (records .entry))) (now (text .entry))) ⌝ }
+{
+    let mut words = [0u32; MOST_WORDS];
+    read_words(records, n, &mut words);
+    list_words(&words[..n], text, page)
+}
+
+// The same for words and a text.
+fn list_words(words: &[u32], text: &[u8], page: &mut [u8]) -> usize
+    ensures { λ n. ⌜ pageAt (now (page .exit)) n ≡ filled (now (page .entry)) (listed (now (words .entry)) (now (text .entry))) ⌝ }
+{
+    let mut out = [0u32; OUT_WORDS];
+    let mut bytes = [0u8; OUT_BYTES];
+    list_lowered(words, text, &mut out, &mut bytes, page)
+}
+
+// The same with room for the log.
+fn list_lowered(
+    words: &[u32],
+    text: &[u8],
+    out: &mut [u32],
+    bytes: &mut [u8],
+    page: &mut [u8],
+) -> usize
+    requires { ⌜ length (now out) ≡ outLength ⌝ }
+    requires { ⌜ length (now bytes) ≡ bytesLength ⌝ }
+    ensures { λ n. ⌜ pageAt (now (page .exit)) n ≡ filled (now (page .entry)) (listed (now (words .entry)) (now (text .entry))) ⌝ }
+{
+    let answer = lower(words, text, out, bytes);
+    list_answer(answer.number, answer.returned, out, bytes, page)
+}

@@ -1,0 +1,94 @@
+// A recorded log against the one that lowering left.
+use crate::definitions::chain;
+use crate::definitions::definitions;
+use crate::definitions::reference;
+use crate::definitions::span;
+use crate::definitions::spans;
+use crate::tally::Tally;
+use log::record::child_of;
+use log::record::first_text;
+use log::record::kind_of;
+use log::record::next_of;
+use log::record::out_field;
+use log::record::second_text;
+
+// The kinds of the records outside definitions.
+const EXTENSION: u32 = 13;
+
+const BINDING: u32 = 14;
+
+const DIAGNOSTIC: u32 = 15;
+
+// The whole log: record 0's counts and what its chains have.
+pub fn whole_log(sample: &[u8], out: &[u32], bytes: &[u8], t: Tally) -> Tally {
+    let counted = t.number(sample, out_field(out, 0, 0), b"records used");
+    let sized = counted.number(sample, out_field(out, 0, 5), b"bytes used");
+    let defined = definitions(sample, out, bytes, out_field(out, 0, 1), sized);
+    let extended = extensions(sample, out, bytes, out_field(out, 0, 2), defined);
+    let bound = bindings(sample, out, bytes, out_field(out, 0, 3), extended);
+    let reported = diagnostics(sample, out, bytes, out_field(out, 0, 4), bound);
+    diagnostics(sample, out, bytes, out_field(out, 0, 6), reported)
+}
+
+// The extensions.
+fn extensions(sample: &[u8], out: &[u32], bytes: &[u8], first: u32, t: Tally) -> Tally {
+    let mut left = t.recorded(sample);
+    let mut next = chain(sample, out, first, t, b"number of extensions");
+    let mut r = first;
+    while 0 < left {
+        next = extension(sample, out, bytes, r, next);
+        r = next_of(out, r);
+        left -= 1;
+    }
+    next
+}
+
+// An extension: its reference and its body.
+fn extension(sample: &[u8], out: &[u32], bytes: &[u8], r: u32, t: Tally) -> Tally {
+    let kinded = t.noted(kind_of(out, r) == EXTENSION, b"kind of an extension");
+    let spanned = spans(sample, out, r, kinded);
+    let named = reference(sample, out, bytes, child_of(out, r), spanned);
+    definitions(sample, out, bytes, out_field(out, r, 8), named)
+}
+
+// The bindings.
+fn bindings(sample: &[u8], out: &[u32], bytes: &[u8], first: u32, t: Tally) -> Tally {
+    let mut left = t.recorded(sample);
+    let mut next = chain(sample, out, first, t, b"number of bindings");
+    let mut r = first;
+    while 0 < left {
+        next = binding(sample, out, bytes, r, next);
+        r = next_of(out, r);
+        left -= 1;
+    }
+    next
+}
+
+// A binding.
+fn binding(sample: &[u8], out: &[u32], bytes: &[u8], r: u32, t: Tally) -> Tally {
+    let kinded = t.noted(kind_of(out, r) == BINDING, b"kind of a binding");
+    let labelled = kinded.text(sample, first_text(out, bytes, r), b"label of a binding");
+    let placed = labelled.text(sample, second_text(out, bytes, r), b"path of a binding");
+    span(sample, out, r, placed)
+}
+
+// Diagnostics, of lowering or of the post checks.
+fn diagnostics(sample: &[u8], out: &[u32], bytes: &[u8], first: u32, t: Tally) -> Tally {
+    let mut left = t.recorded(sample);
+    let mut next = chain(sample, out, first, t, b"number of diagnostics");
+    let mut r = first;
+    while 0 < left {
+        next = diagnostic(sample, out, bytes, r, next);
+        r = next_of(out, r);
+        left -= 1;
+    }
+    next
+}
+
+// A diagnostic.
+fn diagnostic(sample: &[u8], out: &[u32], bytes: &[u8], r: u32, t: Tally) -> Tally {
+    let kinded = t.noted(kind_of(out, r) == DIAGNOSTIC, b"kind of a diagnostic");
+    let coded = kinded.number(sample, out_field(out, r, 7), b"code of a diagnostic");
+    let told = coded.text(sample, first_text(out, bytes, r), b"text of a diagnostic");
+    spans(sample, out, r, told)
+}
