@@ -18,11 +18,12 @@ use crate::{
 pub struct Coverage(BTreeMap<String, u64>);
 
 impl Coverage {
-    pub fn new() -> Self {
+    /// All of generated descriptions is to come up.
+    pub fn of_descriptions() -> Self {
         let mut wanted: Vec<String> = (1..=26).map(|code| format!("code {code}")).collect();
         wanted.extend([3, 4, 20, 21, 22, 23].map(|code| format!("code {code} of post checks")));
         wanted.extend(EVENTS.map(str::to_owned));
-        for place in PLACES {
+        for place in Place::ALL {
             for kind in place.kinds() {
                 wanted.push(format!("kind {kind} as {place:?}"));
             }
@@ -194,17 +195,3 @@ impl Coverage {
         }
     }
 }
-
-const PLACES: [Place; 11] = [
-    Place::TopItem,
-    Place::Item,
-    Place::NodePart,
-    Place::PropertyPart,
-    Place::DirectivePart,
-    Place::UnitAddressPart,
-    Place::LabelPart,
-    Place::ReferencePart,
-    Place::Value,
-    Place::Cell,
-    Place::Expression,
-];

@@ -4,16 +4,21 @@ use std::{env, fs, io::Write, process::ExitCode};
 
 use judge::{
     answer::{Answer, Query},
-    by_01, coverage, definitions, generate, library, logs, notation, numbers, ours, panics, recorded,
+    by_01,
+    coverage::Coverage,
+    damaged, definitions, generate, listing_input, logs, notation, ours, panics, parts, recorded,
     records::{self, RECORD, Records},
-    small, text_form, trees, worked,
+    speed, text_form, trees, worked,
 };
 
 /// Descriptions compared when no number is given.
-const CASES: u64 = 60_000;
+const CASES: u64 = 200_000;
 
-/// Descriptions for which a whole side is compared, with room just enough and one short.
-const WHOLE_CASES: u64 = 4_000;
+/// Damaged descriptions compared when no number is given.
+const DAMAGED: u64 = 100_000;
+
+/// Pairs of runs tried when no number is given, one in two to meet the premises of demand 3.
+const PAIRS: u64 = 40_000;
 
 /// Logs for which queries are compared when no number is given, as made and damaged.
 const LOGS: u64 = 120_000;
@@ -25,33 +30,49 @@ const RECORDED: &str = concat!(env!("CARGO_MANIFEST_DIR"), "/../../crates/replay
 const CRATES: &str = concat!(env!("CARGO_MANIFEST_DIR"), "/../../crates");
 
 const NO_QUERIES: &str = "our library with the queries is not there (rt staticlib definition_log_c)";
+const NO_LOWERING: &str = "our library with lowering is not there (dl_lower of definition_log_c)";
 
 const USAGE: &str =
-    "usage: run [all [CASES]] | worked FILE | numbers | small | trees FROM CASES | queries [FROM LOGS]
-       | planted | speed | ask DESCRIPTION | show SEED | input SEED | judge FILE | listing FILE | record FOLDER | definitions FOLDER [COUNT] [SEED]";
+    "usage: run [all [CASES]] | worked FILE | numbers | small | trees FROM CASES | damaged [FROM CASES] | pairs [FROM CASES]
+       | queries [FROM LOGS]
+       | planted | speed | ask DESCRIPTION | show SEED | input SEED | write FILE | judge FILE | listing FILE | record FOLDER | definitions FOLDER [COUNT] [SEED]";
 
 fn main() -> ExitCode {
     panics::install_hook();
     let words: Vec<String> = env::args().skip(1).collect();
     let words: Vec<&str> = words.iter().map(String::as_str).collect();
-    let result = match words[..] {
+    match command(&words) {
+        Ok(()) => ExitCode::SUCCESS,
+        Err(message) => {
+            eprintln!("{message}");
+            ExitCode::FAILURE
+        }
+    }
+}
+
+/// What the words ask for.
+fn command(words: &[&str]) -> Result<(), String> {
+    match *words {
         [] | ["all"] => all(CASES),
         ["all", cases] => number(cases).and_then(all),
         ["worked", file] => worked::run(file),
-        ["numbers"] => closing(numbers_part(), 0),
-        ["small"] => small_part().and_then(|counts| closing(counts, 0)),
-        ["trees", from, cases] => number(from).and_then(|from| closing(trees_part(from, number(cases)?)?, 0)),
-        ["queries"] => queries_part(0, LOGS).and_then(|counts| closing(counts, 0)),
-        ["queries", from, logs] => {
-            number(from).and_then(|from| closing(queries_part(from, number(logs)?)?, 0))
-        }
+        ["numbers"] => parts::closing(parts::numbers(), 0),
+        ["small"] => parts::small(ours::library().as_ref()).and_then(|counts| parts::closing(counts, 0)),
+        ["trees", from, cases] => part(descriptions, from, cases),
+        ["damaged"] => damaged_part(0, DAMAGED).and_then(|counts| parts::closing(counts, 0)),
+        ["damaged", from, cases] => part(damaged_part, from, cases),
+        ["pairs"] => pairs_part(0, PAIRS).and_then(|counts| parts::closing(counts, 0)),
+        ["pairs", from, cases] => part(pairs_part, from, cases),
+        ["queries"] => queries_part(0, LOGS).and_then(|counts| parts::closing(counts, 0)),
+        ["queries", from, logs] => part(queries_part, from, logs),
         ["sample", from, logs] => number(from).and_then(|from| sample(from, number(logs)?)),
         ["built"] => built(),
-        ["speed"] => ours::queries().ok_or(NO_QUERIES.to_owned()).and_then(|ours| logs::speed::run(&ours)),
+        ["speed"] => speed_part(),
         ["planted"] => planted_part(),
         ["ask", description] => ask(description),
         ["show", seed] => show(seed),
         ["input", seed] => input(seed),
+        ["write", file] => write(file),
         ["judge", file] => {
             judged_file(file).map(|(answer, queries)| print!("{}", text_form::text_form(&answer, &queries)))
         }
@@ -61,13 +82,6 @@ fn main() -> ExitCode {
         ["record", folder] => recorded::write(folder).map(|line| println!("{line}")),
         ["definitions", folder, ref more @ ..] if more.len() <= 2 => definitions_part(folder, more),
         _ => Err(USAGE.to_owned()),
-    };
-    match result {
-        Ok(()) => ExitCode::SUCCESS,
-        Err(message) => {
-            eprintln!("{message}");
-            ExitCode::FAILURE
-        }
     }
 }
 
@@ -79,105 +93,67 @@ fn print_bytes(bytes: &[u8]) -> Result<(), String> {
     std::io::stdout().write_all(bytes).map_err(|error| error.to_string())
 }
 
-/// Both parts, and the closing line.
+/// One part alone, from a seed on, with the closing line.
+fn part(part: fn(u64, u64) -> Result<parts::Counts, String>, from: &str, cases: &str) -> Result<(), String> {
+    parts::closing(part(number(from)?, number(cases)?)?, 0)
+}
+
+/// All parts, and the closing line.
 fn all(cases: u64) -> Result<(), String> {
-    let (numbers, numbers_different) = numbers_part();
-    let (small, small_different) = small_part()?;
-    let (trees, trees_different) = trees_part(0, cases)?;
-    let (whole, whole_different) = library_part();
-    let (queries, queries_different) = queries_part(0, LOGS)?;
+    let ours = ours::library();
+    let mut counts =
+        vec![parts::numbers(), parts::small(ours.as_ref())?, descriptions(0, cases)?, parts::sentences()];
+    if let Some(ours) = &ours {
+        counts.push(parts::damaged(ours, 0, DAMAGED)?);
+        counts.push(parts::pairs(ours, 0, PAIRS)?);
+    }
+    counts.push(queries_part(0, LOGS)?);
     planted_part()?;
     println!("{}", recorded::check(RECORDED)?);
-    let different =
-        numbers_different + small_different + trees_different + whole_different + queries_different;
-    closing((numbers + small + trees + whole + queries, different), 0)
+    let sum = |total: parts::Counts, part: &parts::Counts| (total.0 + part.0, total.1 + part.1);
+    parts::closing(counts.iter().fold((0, 0), sum), 0)
 }
 
-fn closing((compared, different): (u64, u64), aside: u64) -> Result<(), String> {
-    println!("{compared} compared, {different} different, {aside} set aside");
-    if different == 0 { Ok(()) } else { Err("there are differences".to_owned()) }
-}
-
-/// The leaves; how many were compared and how many differ.
-fn numbers_part() -> (u64, u64) {
-    let mut sides = vec![("01's sentences", numbers::by_01())];
-    match ours::leaves() {
-        Some(ours) => sides.push(("our library", ours)),
-        None => println!("our library is not there: numbers and paths are not compared with it"),
+/// Descriptions, with our lowering if it is there.
+fn descriptions(from: u64, cases: u64) -> Result<parts::Counts, String> {
+    let ours = ours::library();
+    if ours.is_none() {
+        println!("{NO_LOWERING}: lowering through C is left out");
     }
-    let mut total = (0, 0);
-    for (name, side) in &sides {
-        println!("numbers and paths, the Rust against {name}:");
-        let counts = numbers::compare(side, u64::MAX);
-        for (leaf, compared, different) in &counts.lines {
-            println!("{compared:>9} {leaf}, {different} different");
-        }
-        total = (total.0 + counts.compared(), total.1 + counts.different());
-    }
-    total
+    parts::descriptions(ours.as_ref(), from, cases)
 }
 
-/// Small descriptions with their known answers.
-fn small_part() -> Result<(u64, u64), String> {
-    let counts = small::compare()?;
-    println!("small descriptions with known lines: {} compared, {} different", counts.0, counts.1);
-    Ok(counts)
+fn damaged_part(from: u64, cases: u64) -> Result<parts::Counts, String> {
+    parts::damaged(&ours::library().ok_or(NO_LOWERING)?, from, cases)
 }
 
-/// Descriptions, with the coverage report; fails if something never came up.
-fn trees_part(from: u64, cases: u64) -> Result<(u64, u64), String> {
-    println!("descriptions, the Rust against 01's sentences:");
-    let mut coverage = coverage::Coverage::new();
-    let counts = trees::compare(from, cases, &mut coverage);
-    let (report, missing) = coverage.report();
-    print!("{report}");
-    println!(
-        "{} descriptions with {} records and {} queries, {} different; {} diagnostics by 01's rule (codes 9, 24 to 26)",
-        counts.compared, counts.records, counts.queries, counts.different, counts.by_rule
-    );
-    if missing.is_empty() {
-        Ok((counts.compared, counts.different))
-    } else {
-        Err(format!("never came up in {cases} cases: {}", missing.join(", ")))
-    }
+fn pairs_part(from: u64, cases: u64) -> Result<parts::Counts, String> {
+    parts::pairs(&ours::library().ok_or(NO_LOWERING)?, from, cases)
 }
 
-/// Whole sides, records in and records out.
-fn library_part() -> (u64, u64) {
-    let counts = library::compare(&library::by_01(), 0, WHOLE_CASES);
-    println!(
-        "records in and out, the Rust against 01's sentences: {} compared, {} different",
-        counts.0, counts.1
-    );
-    println!("our library does not lower yet: whole descriptions are not compared with it");
-    counts
-}
-
-/// Queries of logs that are lent, with the coverage report; fails if something never came up.
-fn queries_part(from: u64, logs: u64) -> Result<(u64, u64), String> {
+fn queries_part(from: u64, logs: u64) -> Result<parts::Counts, String> {
     let Some(ours) = ours::queries() else {
         println!("{NO_QUERIES}: queries are not compared with it");
         return Ok((0, 0));
     };
-    println!("queries of lent logs, the Rust and rows 8 to 10 against our library:");
-    let mut coverage = logs::wanted();
-    let counts = logs::compare(&ours, from, logs, &mut coverage);
-    let (report, missing) = coverage.report();
-    print!("{report}");
-    println!("{}", counts.line());
-    if missing.is_empty() {
-        Ok((counts.calls, counts.different))
-    } else {
-        Err(format!("never came up in {logs} logs: {}", missing.join(", ")))
-    }
+    parts::queries(&ours, from, logs)
 }
 
-/// A sample of the same without the report, for `memory`.
+/// A sample of the same without the reports, for `memory`: lowering good, damaged and short of room.
 fn sample(from: u64, logs: u64) -> Result<(), String> {
     let ours = ours::queries().ok_or(NO_QUERIES)?;
     let counts = logs::compare(&ours, from, logs, &mut logs::wanted());
     println!("{}", counts.line());
-    closing((counts.calls, counts.different), 0)
+    let Some(ours) = ours::library() else {
+        println!("{NO_LOWERING}: it is not looked at");
+        return parts::closing((counts.calls, counts.different), 0);
+    };
+    let lowered = trees::compare(Some(&ours), from, logs / 4, &mut Coverage::empty());
+    println!("{} descriptions lowered, {} different", lowered.lowered, lowered.lowered_different);
+    let damaged = damaged::compare(&ours, from, logs, &mut Coverage::empty());
+    println!("{}", damaged.line());
+    let different = counts.different + lowered.lowered_different + damaged.different;
+    parts::closing((counts.calls + lowered.lowered + damaged.inputs, different), 0)
 }
 
 /// Whether the program was built with our queries.
@@ -185,19 +161,24 @@ fn built() -> Result<(), String> {
     ours::queries().map(|_| ()).ok_or(NO_QUERIES.to_owned())
 }
 
-/// Faults planted into our answers; fails if the comparison does not find one.
+/// The tables of queries, and those of lowering if it is there.
+fn speed_part() -> Result<(), String> {
+    logs::speed::run(&ours::queries().ok_or(NO_QUERIES)?)?;
+    match ours::library() {
+        Some(ours) => speed::run(&ours),
+        None => {
+            println!("{NO_LOWERING}: it is not measured");
+            Ok(())
+        }
+    }
+}
+
 fn planted_part() -> Result<(), String> {
     if ours::queries().is_none() {
         println!("{NO_QUERIES}: no fault is planted into its answers");
         return Ok(());
     }
-    let found = logs::faults::found();
-    for (name, difference) in &found {
-        println!("{name}: {}", difference.as_deref().unwrap_or("not found"));
-    }
-    let missed = found.iter().filter(|(_, difference)| difference.is_none()).count();
-    println!("{} planted faults found, {missed} not found", found.len() - missed);
-    if missed == 0 { Ok(()) } else { Err("the comparison misses a fault".to_owned()) }
+    parts::planted()
 }
 
 /// Theorems on small descriptions, for the checker.
@@ -233,10 +214,13 @@ fn show(seed: &str) -> Result<(), String> {
 fn input(seed: &str) -> Result<(), String> {
     let seed = number(seed)?;
     let records = generate::generate(seed, trees::size_of_case(seed)).records;
-    let mut bytes = ((records.words.len() / RECORD) as u32).to_le_bytes().to_vec();
-    bytes.extend(records.words.iter().flat_map(|word| word.to_le_bytes()));
-    bytes.extend(&records.text);
-    print_bytes(&bytes)
+    print_bytes(&listing_input::bytes((records.words.len() / RECORD) as u32, &records))
+}
+
+/// A description in a file as the listing program's input.
+fn write(file: &str) -> Result<(), String> {
+    let text = fs::read_to_string(file).map_err(|error| format!("{file}: {error}"))?;
+    print_bytes(&listing_input::of_text(&text).map_err(|error| format!("{file}: {error}"))?)
 }
 
 /// The Rust's answer to the listing program's input, which rows 1 to 6 must accept.

@@ -133,6 +133,9 @@ impl<'a> Reader<'a> {
 
     fn definition(&mut self, words: &'a [u32]) -> Result<Definition, String> {
         let kind = wanted(words, 1..=6)?;
+        if kind == 1 && words[N] > 1 {
+            return Err(format!("an omit mark is {}", words[N]));
+        }
         Ok(Definition {
             kind,
             path: self.text(words, TEXT)?,

@@ -11,6 +11,7 @@ impl Random {
         random
     }
 
+    #[allow(clippy::should_implement_trait, reason = "random numbers have no end")]
     pub fn next(&mut self) -> u64 {
         self.0 ^= self.0 >> 12;
         self.0 ^= self.0 << 25;

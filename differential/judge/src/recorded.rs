@@ -30,7 +30,7 @@ fn made() -> Result<(Vec<u8>, String, usize), String> {
     }
     let mut out = Out::default();
     out.number(cases.len() as u32);
-    let mut coverage = Coverage::new();
+    let mut coverage = Coverage::of_descriptions();
     for judged in &cases {
         assert_eq!(by_01::rows::refusal(&judged.case.records), None, "a recorded description is refused");
         let by_01 = by_01::lower::lower(&judged.case.top);

@@ -66,6 +66,20 @@ pub enum Place {
 }
 
 impl Place {
+    pub const ALL: [Self; 11] = [
+        Self::TopItem,
+        Self::Item,
+        Self::NodePart,
+        Self::PropertyPart,
+        Self::DirectivePart,
+        Self::UnitAddressPart,
+        Self::LabelPart,
+        Self::ReferencePart,
+        Self::Value,
+        Self::Cell,
+        Self::Expression,
+    ];
+
     /// The kinds that 01 allows in a place.
     pub fn kinds(self) -> &'static [u32] {
         match self {

@@ -2,16 +2,19 @@
 
 use crate::{
     answer::{Answer, Query, Text},
-    by_01::{self, paths},
+    by_01::{self, lower::Lowered, paths},
     coverage::Coverage,
     crate_tree::crate_tree,
     generate::{Case, Size, generate},
     judge::judge,
+    library::Library,
     notation,
+    random::Random,
     records::{RECORD, read},
     shrink::shrunk,
     text_form::text_form,
     tree::Rec,
+    whole::{self, Due},
 };
 
 /// A case with the Rust's answers.
@@ -67,24 +70,27 @@ fn query_paths(answer: &Answer, most: usize) -> Vec<Text> {
     asked
 }
 
-/// What a comparison counted.
+/// What a comparison counted: descriptions, those on which 01's sentences and the Rust differ, and
+/// those on which a side and the Rust do.
 #[derive(Default)]
 pub struct Counts {
     pub compared: u64,
     pub different: u64,
+    pub lowered: u64,
+    pub lowered_different: u64,
     pub by_rule: u64,
     pub records: u64,
     pub queries: u64,
 }
 
-/// Compares the Rust with 01's sentences on `cases` descriptions.
-pub fn compare(first_seed: u64, cases: u64, coverage: &mut Coverage) -> Counts {
+/// Compares the Rust with 01's sentences on `cases` descriptions, and with a side if there is one.
+pub fn compare(side: Option<&Library>, from: u64, cases: u64, coverage: &mut Coverage) -> Counts {
     let mut counts = Counts::default();
-    for seed in first_seed..first_seed + cases {
+    for seed in from..from + cases {
         let judged = judged(seed, size_of_case(seed), 40);
         assert_eq!(read(&judged.case.records), judged.case.top, "seed {seed}: records and tree differ");
         assert_eq!(by_01::rows::refusal(&judged.case.records), None, "seed {seed}: refused");
-        let by_01 = by_01::lower::lower(&read(&judged.case.records));
+        let by_01 = by_01::lower::lower(&judged.case.top);
         coverage.note(&judged, &by_01);
         let queries = queries_by_01(&by_01.answer, &judged.queries);
         counts.compared += 1;
@@ -97,8 +103,39 @@ pub fn compare(first_seed: u64, cases: u64, coverage: &mut Coverage) -> Counts {
                 show_difference(seed, &judged.case.top, judged.case.look);
             }
         }
+        if let Some(side) = side {
+            compare_side(side, seed, &judged, &by_01, &mut counts);
+        }
     }
     counts
+}
+
+/// Compares a side with the Rust, and counts it.
+fn compare_side(side: &Library, seed: u64, judged: &Judged, by_01: &Lowered, counts: &mut Counts) {
+    counts.lowered += 1;
+    if let Err(fault) = whole_side(side, seed, judged, by_01) {
+        counts.lowered_different += 1;
+        if counts.lowered_different <= 3 {
+            println!("seed {seed}: {fault}");
+            let differs = |top: &[Rec]| fault_of(side, top).is_some();
+            let smaller = shrunk(judged.case.top.clone(), &differs);
+            let fault = fault_of(side, &smaller).unwrap_or("not if written plainly".to_owned());
+            println!("  {}\n  {fault}", notation::written(&smaller));
+        }
+    }
+}
+
+/// Where a side differs from the Rust; row 7's counts are by 01.
+pub fn whole_side(side: &Library, seed: u64, judged: &Judged, by_01: &Lowered) -> Result<(), String> {
+    let made = (by_01.records, by_01.bytes);
+    let due = Due { records: &judged.case.records, answer: &judged.answer, made };
+    whole::compare(side, &due, &judged.queries, &mut Random::new(seed))
+}
+
+/// Where a side differs from the Rust on a description that is written plainly.
+pub fn fault_of(side: &Library, top: &[Rec]) -> Option<String> {
+    let judged = judged_case(Case::known(top.to_vec()), 40);
+    whole_side(side, 0, &judged, &by_01::lower::lower(top)).err()
 }
 
 fn queries_by_01(answer: &Answer, asked: &[Query]) -> Vec<Query> {

@@ -2,6 +2,7 @@
 //! `preprocess` (which 01 leaves out) hand a built tree to `lower_root_file`.
 
 #![allow(dead_code, reason = "docs/src has functions for others than lowering")]
+#![allow(clippy::result_unit_err, reason = "docs/src is compiled as it is")]
 
 pub mod db;
 pub mod file;

@@ -1,16 +1,19 @@
 //! Our sources read as Rust, their proofs left out, against the Rust judge: to find faults before
-//! there is a proof. A number limits the cases for each leaf. OURS_CRATES names another folder of crates, as a copy with a fault in it.
+//! there is a proof. A number limits the cases for each leaf; `whole` compares lowering and queries, once
+//! our sources have both. OURS_CRATES names another folder of crates, as a copy with a fault in it.
 
 include!(concat!(env!("OUT_DIR"), "/modules.rs"));
+
+#[cfg(lowers)]
+mod whole;
 
 use std::{env, process::ExitCode};
 
 use judge::{
     answer::Target,
     leaves::Int,
-    numbers,
     ours::{Leaves, in_room},
-    panics,
+    panics, parts,
 };
 use paths_numbers::{
     dt_node::{self, Built},
@@ -23,13 +26,31 @@ use paths_numbers::{
 
 fn main() -> ExitCode {
     panics::install_hook();
-    let most = env::args().nth(1).and_then(|most| most.parse().ok()).unwrap_or(u64::MAX);
-    let counts = numbers::compare(&ours(), most);
-    for (leaf, compared, different) in &counts.lines {
-        println!("{compared:>9} {leaf}, {different} different");
+    let words: Vec<String> = env::args().skip(1).collect();
+    let words: Vec<&str> = words.iter().map(String::as_str).collect();
+    let number = |text: &str| text.parse::<u64>().map_err(|_| format!("{text} is not a number"));
+    let result = match words[..] {
+        [] => parts::closing(parts::leaves(&ours(), u64::MAX), 0),
+        ["whole"] => whole(0, 20_000),
+        ["whole", from, cases] => number(from).and_then(|from| whole(from, number(cases)?)),
+        [most] => number(most).and_then(|most| parts::closing(parts::leaves(&ours(), most), 0)),
+        _ => Err("usage: run unproved [CASES] | whole [FROM CASES]".to_owned()),
+    };
+    match result {
+        Ok(()) => ExitCode::SUCCESS,
+        Err(message) => {
+            eprintln!("{message}");
+            ExitCode::FAILURE
+        }
     }
-    println!("{} compared, {} different, 0 set aside", counts.compared(), counts.different());
-    if counts.different() == 0 { ExitCode::SUCCESS } else { ExitCode::FAILURE }
+}
+
+/// Lowering and queries, if our sources have both.
+fn whole(from: u64, cases: u64) -> Result<(), String> {
+    #[cfg(lowers)]
+    return whole::compare(from, cases);
+    #[cfg(not(lowers))]
+    Err(format!("our sources do not lower yet: {cases} cases from {from} are not compared"))
 }
 
 fn ours() -> Leaves {

@@ -1,4 +1,5 @@
-//! Rows 1 to 6: which descriptions are refused, with which number, and what is returned.
+//! Rows 1 to 6: which descriptions are refused, with which number, what is returned, and by which
+//! clauses of the table.
 
 use crate::{
     records::{MOST_RECORDS, MOST_TEXT, RECORD, Records},
@@ -8,104 +9,223 @@ use crate::{
 /// The most child, item or value links from record 0.
 const MOST_LINKS: u32 = 64;
 
+/// The links of a record: next, child, and W of kinds 1 and 2.
+#[derive(Debug, Clone, Copy, PartialEq, Eq)]
+pub enum Link {
+    Next,
+    Child,
+    Items,
+    Values,
+}
+
+/// What can be wrong, as rows 1 to 6 list it.
+#[derive(Debug, Clone, Copy, PartialEq, Eq)]
+pub enum Clause {
+    NoWords,
+    WordsNotEight,
+    RecordsOver,
+    TextOver,
+    NotAbove(Link),
+    PastEnd(Link),
+    LinkedAlready(Link),
+    TextPastEnd,
+    /// A word of record 0 that is not zero.
+    Record0(usize),
+    KindUnfit(Place),
+    /// W outside the list of a kind.
+    W(u32),
+    Surrogate,
+    AboveLastPoint,
+    /// A child of a kind that has none.
+    Child(u32),
+    SpanTurned,
+    NameEmpty,
+    NameSlash,
+    ReferenceSlash,
+    /// More than 64 links, the last of them this one.
+    Links(Link),
+}
+
+/// The same with all clauses that hold of the record returned.
+#[derive(Debug, Clone, PartialEq, Eq)]
+pub struct Refused {
+    pub number: u32,
+    pub returned: u32,
+    pub clauses: Vec<Clause>,
+}
+
 /// A refusal: number and what is returned.
 pub type Refusal = (u32, u32);
 
+/// The number and what is returned, if a description is refused.
+pub fn refusal(records: &Records) -> Option<Refusal> {
+    refused(records).map(|refused| (refused.number, refused.returned))
+}
+
 /// The refusal of a description, if there is one. Each cause is tried over all records before the
 /// next; the lowest record at fault is returned.
-pub fn refusal(records: &Records) -> Option<Refusal> {
-    let Records { words, text } = records;
-    let whole = words.len() % RECORD == 0 && (1..=MOST_RECORDS).contains(&(words.len() / RECORD));
-    if !whole || text.len() > MOST_TEXT {
-        return Some((1, 0));
+pub fn refused(from: &Records) -> Option<Refused> {
+    let size = wrong_size(from);
+    if !size.is_empty() {
+        return Some(Refused { number: 1, returned: 0, clauses: size });
     }
-    let records: Vec<&[u32]> = words.chunks(RECORD).collect();
-    let lowest = |number: u32, fault: &dyn Fn(usize) -> bool| {
-        (0..records.len()).find(|record| fault(*record)).map(|record| (number, record as u32))
+    let records: Vec<&[u32]> = from.words.chunks(RECORD).collect();
+    let lowest = |number: u32, faults: &dyn Fn(usize) -> Vec<Clause>| {
+        let of = |record| Refused { number, returned: record as u32, clauses: faults(record) };
+        (0..records.len()).map(of).find(|refused| !refused.clauses.is_empty())
     };
-    if let Some(record) = bad_link(&records) {
-        return Some((2, record as u32));
-    }
-    if let Some(refusal) =
-        lowest(3, &|record| u64::from(records[record][3]) + u64::from(records[record][4]) > text.len() as u64)
-    {
-        return Some(refusal);
-    }
-    let reached = reached(&records);
-    let text_of = |words: &[u32]| &text[words[3] as usize..][..words[4] as usize];
-    lowest(4, &|record| match reached[record] {
-        Some((place, _)) => !fits(records[record], place),
-        None => record == 0 && records[0].iter().enumerate().any(|(word, value)| word != 2 && *value != 0),
-    })
-    .or_else(|| {
-        lowest(5, &|record| reached[record].is_some() && bad_name(records[record], text_of(records[record])))
-    })
-    .or_else(|| lowest(6, &|record| reached[record].is_some_and(|(_, links)| links > MOST_LINKS)))
-}
-
-/// The links of a record: next, child, and W of kinds 1 and 2.
-fn links(words: &[u32]) -> [u32; 3] {
-    [words[1], words[2], if matches!(words[0], 1 | 2) { words[5] } else { 0 }]
-}
-
-/// The first record with a link not above itself, past the end, or to one already linked.
-fn bad_link(records: &[&[u32]]) -> Option<usize> {
-    let mut linked = vec![false; records.len()];
-    (0..records.len()).find(|record| {
-        links(records[*record]).into_iter().map(|link| link as usize).filter(|link| *link != 0).any(|link| {
-            let bad = link <= *record || link >= records.len() || linked[link];
-            if !bad {
-                linked[link] = true;
-            }
-            bad
-        })
-    })
-}
-
-/// The place of each record that is reached from record 0, and how many links lead to it.
-fn reached(records: &[&[u32]]) -> Vec<Option<(Option<Place>, u32)>> {
-    let mut reached = vec![None; records.len()];
-    // Links go up, so each record is known before what it links to.
-    for (record, words) in records.iter().enumerate() {
-        let Some((place, depth)) = (if record == 0 { Some((None, 0)) } else { reached[record] }) else {
-            continue;
+    let linked = linked_by(&records);
+    let links = lowest(2, &|record| bad_links(&records, &linked, record));
+    links.or_else(|| lowest(3, &|record| bad_text(records[record], from.text.len()))).or_else(|| {
+        let reached = reached(&records);
+        let of_reached = |record: usize, faults: &dyn Fn(&Reached) -> Vec<Clause>| {
+            reached[record].as_ref().map_or(Vec::new(), faults)
         };
-        let [next, child, more] = links(words).map(|link| link as usize);
-        let of_child = if record == 0 { Some(Place::TopItem) } else { Place::of_children(words[0]) };
-        if next != 0 {
-            reached[next] = Some((place, depth));
+        let text = |words: &[u32]| &from.text[words[3] as usize..][..words[4] as usize];
+        lowest(4, &|record| match record {
+            0 => bad_head(records[0]),
+            _ => of_reached(record, &|reached| unfit(records[record], reached.place)),
+        })
+        .or_else(|| {
+            lowest(5, &|record| of_reached(record, &|_| bad_name(records[record], text(records[record]))))
+        })
+        .or_else(|| lowest(6, &|record| of_reached(record, &too_deep)))
+    })
+}
+
+/// Row 1: "words not 8 times 1 to 2,048, or text over 65,536 bytes".
+fn wrong_size(Records { words, text }: &Records) -> Vec<Clause> {
+    held([
+        (Clause::NoWords, words.is_empty()),
+        (Clause::WordsNotEight, !words.len().is_multiple_of(RECORD)),
+        (Clause::RecordsOver, words.len().is_multiple_of(RECORD) && words.len() > MOST_RECORDS * RECORD),
+        (Clause::TextOver, text.len() > MOST_TEXT),
+    ])
+}
+
+fn held<const N: usize>(clauses: [(Clause, bool); N]) -> Vec<Clause> {
+    clauses.into_iter().filter(|(_, holds)| *holds).map(|(clause, _)| clause).collect()
+}
+
+/// The links of a record that are not zero.
+pub fn links(words: &[u32]) -> Vec<(Link, usize)> {
+    let second = match words[0] {
+        1 => Some((Link::Items, words[5])),
+        2 => Some((Link::Values, words[5])),
+        _ => None,
+    };
+    let all = [Some((Link::Next, words[1])), Some((Link::Child, words[2])), second];
+    let there = all.into_iter().flatten().filter(|(_, to)| *to != 0);
+    there.map(|(link, to)| (link, to as usize)).collect()
+}
+
+/// By which record, and which of its links, each record is linked first.
+fn linked_by(records: &[&[u32]]) -> Vec<Option<(usize, usize)>> {
+    let mut linked = vec![None; records.len()];
+    for (record, words) in records.iter().enumerate() {
+        for (place, (_, to)) in links(words).into_iter().enumerate() {
+            if let Some(slot @ None) = linked.get_mut(to) {
+                *slot = Some((record, place));
+            }
         }
-        if child != 0 {
-            reached[child] = Some((of_child, depth + 1));
+    }
+    linked
+}
+
+/// Row 2: "link not above its own record, past the end, or to one already linked".
+fn bad_links(records: &[&[u32]], linked: &[Option<(usize, usize)>], record: usize) -> Vec<Clause> {
+    let mut faults = Vec::new();
+    for (place, (link, to)) in links(records[record]).into_iter().enumerate() {
+        if to <= record {
+            faults.push(Clause::NotAbove(link));
+        } else if to >= records.len() {
+            faults.push(Clause::PastEnd(link));
+        } else if linked[to] != Some((record, place)) {
+            faults.push(Clause::LinkedAlready(link));
         }
-        if more != 0 {
-            reached[more] = Some((Place::of_more(words[0]), depth + 1));
+    }
+    faults
+}
+
+/// Row 3: "text past its end".
+fn bad_text(words: &[u32], length: usize) -> Vec<Clause> {
+    held([(Clause::TextPastEnd, u64::from(words[3]) + u64::from(words[4]) > length as u64)])
+}
+
+/// Row 4 of record 0: it "holds only the first top item as child; any other word there not zero".
+fn bad_head(words: &[u32]) -> Vec<Clause> {
+    let other = (0..RECORD).filter(|word| *word != 2);
+    other.filter(|word| words[*word] != 0).map(Clause::Record0).collect()
+}
+
+/// How a record is reached from record 0.
+#[derive(Debug, Clone)]
+pub struct Reached {
+    /// None below a kind that has no children.
+    pub place: Option<Place>,
+    /// Child, item and value links up to it, and the last of them.
+    pub links: u32,
+    pub by: Link,
+}
+
+/// How each record is reached, if it is. Links go up, so each record is known before what it links to.
+pub fn reached(records: &[&[u32]]) -> Vec<Option<Reached>> {
+    let mut reached: Vec<Option<Reached>> = vec![None; records.len()];
+    for (record, words) in records.iter().enumerate() {
+        let here = reached[record].clone();
+        if record != 0 && here.is_none() {
+            continue;
+        }
+        let depth = here.as_ref().map_or(0, |here| here.links);
+        for (link, to) in links(words) {
+            let place = match link {
+                Link::Child if record == 0 => Some(Place::TopItem),
+                Link::Child => Place::of_children(words[0]),
+                Link::Items | Link::Values => Place::of_more(words[0]),
+                Link::Next => None,
+            };
+            reached[to] = match link {
+                Link::Next => here.clone(),
+                _ => Some(Reached { place, links: depth + 1, by: link }),
+            };
         }
     }
     reached
 }
 
-/// Row 4, for a record other than 0.
-fn fits(words: &[u32], place: Option<Place>) -> bool {
+/// Row 4 of a record other than 0.
+fn unfit(words: &[u32], place: Option<Place>) -> Vec<Clause> {
     let (kind, child, w) = (words[0], words[2], words[5]);
-    let good_w = match kind {
-        1 | 2 => true,
-        3 => (1..=6).contains(&w),
-        8 => w <= 1,
-        16 => char::from_u32(w).is_some(),
-        18 => w <= 4,
-        20 => w <= 19,
-        _ => w == 0,
+    let bad_w = match kind {
+        1 | 2 | 16 => false,
+        3 => !(1..=6).contains(&w),
+        8 => w > 1,
+        18 => w > 4,
+        20 => w > 19,
+        _ => w != 0,
     };
-    let good_child = child == 0 || Place::of_children(kind).is_some();
-    place.is_some_and(|place| place.kinds().contains(&kind)) && good_w && good_child && words[6] <= words[7]
+    let fits = place.is_some_and(|place| place.kinds().contains(&kind));
+    held([
+        (Clause::KindUnfit(place.unwrap_or(Place::TopItem)), !fits),
+        (Clause::W(kind), bad_w),
+        (Clause::Surrogate, kind == 16 && (0xd800..=0xdfff).contains(&w)),
+        (Clause::AboveLastPoint, kind == 16 && w > 0x10_ffff),
+        (Clause::Child(kind), child != 0 && Place::of_children(kind).is_none()),
+        (Clause::SpanTurned, words[7] < words[6]),
+    ])
 }
 
-/// Row 5: a name that is empty, or a name or name reference with a slash.
-fn bad_name(words: &[u32], text: &[u8]) -> bool {
-    match (words[0], words[5]) {
-        (5, _) => text.is_empty() || text.contains(&b'/'),
-        (8, 0) => text.contains(&b'/'),
-        _ => false,
-    }
+/// Row 5: "name (5) empty, or it or a name reference holding "/"".
+fn bad_name(words: &[u32], text: &[u8]) -> Vec<Clause> {
+    let slash = text.contains(&b'/');
+    held([
+        (Clause::NameEmpty, words[0] == 5 && text.is_empty()),
+        (Clause::NameSlash, words[0] == 5 && slash),
+        (Clause::ReferenceSlash, words[0] == 8 && words[5] == 0 && slash),
+    ])
+}
+
+/// Row 6: "more than 64 child, item or value links from record 0".
+fn too_deep(reached: &Reached) -> Vec<Clause> {
+    held([(Clause::Links(reached.by), reached.links > MOST_LINKS)])
 }

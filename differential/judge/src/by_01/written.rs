@@ -24,10 +24,15 @@ pub fn lower_records(from: &Records, words: &mut [u32], bytes: &mut [u8]) -> (u3
     if lowered.records > room || lowered.bytes > MOST_BYTES.min(bytes.len() as u64) {
         return (7, 0);
     }
+    write(&lowered.answer, (lowered.records as u32, lowered.bytes as u32), words, bytes);
+    (0, 0)
+}
+
+/// Writes a log and the counts of what was made into cleared buffers that have room for it.
+pub fn write(answer: &Answer, made: (u32, u32), words: &mut [u32], bytes: &mut [u8]) {
     let mut writer = Writer { words, bytes, records: 1, used: 0 };
-    let answer = &lowered.answer;
-    writer.words[0] = lowered.records as u32;
-    writer.words[5] = lowered.bytes as u32;
+    writer.words[0] = made.0;
+    writer.words[5] = made.1;
     writer.chain(1, &answer.definitions, Writer::definition);
     writer.chain(2, &answer.extensions, |writer, extension| {
         let record = writer.record(13, [b"", b""], extension.span, extension.name_span);
@@ -40,7 +45,6 @@ pub fn lower_records(from: &Records, words: &mut [u32], bytes: &mut [u8]) -> (u3
     });
     writer.chain(4, &answer.lowering, Writer::diagnosis);
     writer.chain(6, &answer.post, Writer::diagnosis);
-    (0, 0)
 }
 
 struct Writer<'a> {

@@ -40,7 +40,7 @@ const IN_A_FILE: usize = 10;
 const LIMITS: [&str; 4] = ["2048 records", "65536 bytes of text", "64 links", "path of 40 components"];
 
 /// The crates whose definitions are computed through.
-const USED: [&str; 4] = ["paths_numbers", "log", "queries", "lowering"];
+const USED: [&str; 7] = ["paths_numbers", "log", "making", "queries", "input", "post_checks", "lowering"];
 
 /// A description of the sample.
 struct Sample {
@@ -148,7 +148,7 @@ fn noted(about: String, judged: Judged) -> (Sample, Vec<String>) {
 
 /// What is to come up and does not.
 fn missing(samples: &[Sample]) -> Vec<String> {
-    let mut coverage = Coverage::new();
+    let mut coverage = Coverage::of_descriptions();
     for sample in samples {
         coverage.note(&sample.judged, &sample.by_01);
     }
@@ -239,7 +239,7 @@ const COMPUTED: &str =
 use Prim.Native.Nat.{ℕ}
 use mathlib.Core.List.{List}
 use Rattle.log.specs.Meaning.{Span, DefValue, Def, Ext, Binding, Diag}
-use Rattle.log.specs.State.{State}
+use Rattle.making.specs.State.{State}
 use Rattle.lowering.specs.Lowered.{meaning}
 use Rattle.paths_numbers.specs.Reference.{Target}
 

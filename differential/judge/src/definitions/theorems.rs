@@ -21,9 +21,9 @@ use Rattle.paths_numbers.specs.Reference.{label, labelPath, path}
 use Rattle.log.specs.Meaning.{Def, number, reference, string, cellList, bytestring, phandle, node, property, deletedNode, deletedProperty, version, plugin}
 use Rattle.queries.specs.Live.{live, containsNode}
 use Rattle.queries.specs.History.{history}
-use Rattle.log.specs.State.{State}
-use Rattle.lowering.specs.Post.{postChecks}
-use Rattle.lowering.specs.Rows.{verdict, accepted, refused}
+use Rattle.making.specs.State.{State}
+use Rattle.post_checks.specs.Post.{postChecks}
+use Rattle.input.specs.Rows.{verdict, accepted, refused}
 use Rattle.lowering.specs.Lowered.{meaning, recordsMade, bytesMade}
 use Rattle.judged.specs.Computed.{computed, span, definition, extension, binding, diagnostic}
 ";

@@ -59,6 +59,8 @@ pub fn generate(seed: u64, size: Size) -> Case {
             records.text.resize(MOST_TEXT, b'/');
         }
         if records.words.len() / records::RECORD <= MOST_RECORDS && records.text.len() <= MOST_TEXT {
+            records.words.shrink_to_fit();
+            records.text.shrink_to_fit();
             return Case { top, records, layout, look: random.next() };
         }
     }

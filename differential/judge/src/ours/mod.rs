@@ -1,0 +1,92 @@
+//! Our side, called through C.
+//!
+//! `leaves` puts the exported functions of the lowest crate into a table, if there was a static
+//! library with them when the judge was built (see build.rs). A function that is missing in the
+//! table is not compared. `queries` does the same for the queries, which have a library of their own,
+//! and `library` for lowering and the queries together, if that library has lowering too.
+
+#[cfg(ours_queries)]
+mod definition_log;
+#[cfg(ours)]
+mod paths_numbers;
+
+use crate::{
+    answer::Target,
+    leaves::Int,
+    library::{Library, Queries},
+};
+
+/// The leaves on one side of a comparison. Codes are 01's. A name has a unit address, empty where
+/// there is none.
+#[derive(Default)]
+#[allow(clippy::type_complexity, reason = "each type says what a leaf takes and gives")]
+pub struct Leaves {
+    /// Where the stripped part begins in the path.
+    pub strip: Option<fn(&[u8], &[u8]) -> Option<usize>>,
+    /// The path of a parent, a name and its unit address.
+    pub join: Option<fn(&[u8], &[u8], &[u8]) -> Vec<u8>>,
+    /// Whether a path is that of a parent, a name and its unit address; lies at or under it; and
+    /// whether that lies at or under the path.
+    pub against_joined: Option<fn(&[u8], &[u8], &[u8], &[u8]) -> [bool; 3]>,
+    pub is_path: Option<fn(&[u8]) -> bool>,
+    pub int: Option<fn(Int, &[u8]) -> Result<i128, u32>>,
+    pub width: Option<fn(&[u8]) -> Result<u32, u32>>,
+    pub cell: Option<fn(u32, i64) -> Result<u64, u32>>,
+    pub character: Option<fn(u32, u32) -> Result<u64, u32>>,
+    pub bytes: Option<fn(&[u8]) -> Result<Vec<u8>, u32>>,
+    pub prefix: Option<fn(u32, i64) -> Result<i64, u32>>,
+    pub infix: Option<fn(u32, i64, i64) -> Result<i64, u32>>,
+    pub conditional: Option<fn(i64, i64, i64) -> i64>,
+    pub reference: Option<fn(&[u8]) -> Option<Target>>,
+}
+
+/// What a function writes behind two bytes of a buffer: with room to spare, and with just enough;
+/// with one byte less it must say that there is no room, and write nothing.
+///
+/// `write` gives how many bytes it wrote, or none if there is no room.
+pub fn in_room(length: usize, write: &dyn Fn(&mut [u8]) -> Option<usize>) -> Vec<u8> {
+    let mut spare = vec![7; length + 4];
+    let written = write(&mut spare).map(|length| written_alone(&spare, length));
+    let mut enough = vec![7; length + 2];
+    let again = write(&mut enough).map(|length| written_alone(&enough, length));
+    let mut short = vec![7; length + 1];
+    let refused = write(&mut short).is_none() && short.iter().all(|byte| *byte == 7);
+    match written {
+        Some(written) if again.as_ref() == Some(&written) && refused => written,
+        _ => b"wrong room".to_vec(),
+    }
+}
+
+/// The `length` bytes behind two, if all others still are 7.
+fn written_alone(out: &[u8], length: usize) -> Vec<u8> {
+    let (written, behind) = out[2..].split_at(length);
+    if out[..2].iter().chain(behind).all(|byte| *byte == 7) {
+        written.to_vec()
+    } else {
+        b"written outside".to_vec()
+    }
+}
+
+/// Our leaves, or none if the library was not there when the judge was built.
+pub fn leaves() -> Option<Leaves> {
+    #[cfg(ours)]
+    return Some(paths_numbers::leaves());
+    #[cfg(not(ours))]
+    None
+}
+
+/// Our queries, or none if their library was not there when the judge was built.
+pub fn queries() -> Option<Queries> {
+    #[cfg(ours_queries)]
+    return Some(definition_log::QUERIES);
+    #[cfg(not(ours_queries))]
+    None
+}
+
+/// Our lowering and queries, or none if the library was not there or could not lower.
+pub fn library() -> Option<Library> {
+    #[cfg(ours_lowering)]
+    return Some(definition_log::LIBRARY);
+    #[cfg(not(ours_lowering))]
+    None
+}

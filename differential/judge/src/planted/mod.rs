@@ -1,0 +1,69 @@
+//! Faults planted into our lowering's answers: the comparison must find each.
+//!
+//! Of 01's slips, counting "" as under "/" does not show in what lowering writes: only nodes are
+//! resolved and unbound, and no node has the path "". It is planted into the queries (`logs::faults`).
+
+mod slips;
+mod words;
+mod wrong;
+
+use crate::{
+    by_01,
+    coverage::Coverage,
+    damaged,
+    library::{Library, Lower, Queries},
+    ours, pairs,
+    trees::{self, judged, size_of_case},
+};
+
+/// The comparison that must find a fault.
+#[derive(Clone, Copy)]
+enum By {
+    /// The Rust's lowerings of generated descriptions.
+    Rust,
+    /// Rows 1 to 7.
+    Rows,
+    /// Pairs of runs.
+    Pairs,
+}
+
+/// A fault: its name, the comparison that must find it, and lowering with the fault.
+type Fault = (&'static str, By, Lower);
+
+/// Seeds among which a fault must be found.
+const SEEDS: u64 = 4_000;
+
+/// Where each planted fault is found first, if it is. Our library must be there.
+pub fn found() -> Vec<(&'static str, Option<String>)> {
+    let lowerings = wrong::FAULTS.iter().chain(&words::FAULTS).chain(&slips::FAULTS);
+    let sides = lowerings.map(|(name, by, lower)| (*name, *by, Library { lower: *lower, ..ours() }));
+    let queries = Queries { live: slips::deleted_live, ..ours().queries };
+    let pairs = ("pairs: deleted definitions stay live", By::Pairs, Library { queries, ..ours() });
+    sides.chain([pairs]).map(|(name, by, side)| (name, first_difference(&side, by))).collect()
+}
+
+/// Our side; that it is there was looked at before.
+fn ours() -> Library {
+    ours::library().expect("our library")
+}
+
+/// Our lowering.
+fn lower(records: &crate::records::Records, words: &mut [u32], bytes: &mut [u8]) -> (u32, u32) {
+    (ours().lower)(records, words, bytes)
+}
+
+fn first_difference(side: &Library, by: By) -> Option<String> {
+    let coverage = &mut Coverage::empty();
+    (0..SEEDS).find_map(|seed| {
+        let result = match by {
+            By::Rust => {
+                let judged = judged(seed, size_of_case(seed), 3);
+                trees::whole_side(side, seed, &judged, &by_01::lower::lower(&judged.case.top))
+            }
+            By::Rows => damaged::compare_seed(side, seed, &mut damaged::Counts::default(), coverage),
+            By::Pairs => pairs::compare_seed(side, seed, &mut pairs::Counts::default(), coverage),
+        };
+        let fault = result.err()?;
+        Some(format!("seed {seed}, {}", fault.lines().next().unwrap_or_default()))
+    })
+}
