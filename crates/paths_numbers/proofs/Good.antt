@@ -1,10 +1,11 @@
 -- Row 9's form of a path: its components byte by byte, and that joining keeps it.
-use Prim.Native.Nat.{ℕ, _+_, _≤_, _<_}
+use Prim.Native.Nat.{ℕ, _+_, _-_, _≤_, _<_}
 use mathlib.Core.Path.{_≡_, refl, sym, ap, _∙_}
-use mathlib.Core.Bool.{Bool, true, false, not, cond}
+use mathlib.Core.Bool.{Bool, true, false, not, cond, _||_}
 use mathlib.Core.List.{List, [], _∷_, _++_}
 use native.Mathlib.Numerals.{add-one}
-use borrow.Author.Tests.{eq-eqb, ne-eqb, eqb-true}
+use native.Mathlib.Omega.{arith}
+use borrow.Author.Tests.{eqb-true}
 use lib.Dec.{eqb}
 use lib.ListN.{length, getD, drop, drop-of-length-le}
 use lib.Seq.{drop-cons}
@@ -14,27 +15,37 @@ use Rattle.paths_numbers.specs.Path.{root, components, goodPath, join, j
 use Rattle.paths_numbers.proofs.Texts.{by-test, both, not-both, same-ne}
 use Rattle.paths_numbers.proofs.Joined.{join-plain}
 
--- w is whether the whole has components, and the invariant says that what is left decides it
-module _ (s : List ℕ) (i : ℕ) (after w : Bool) (inv : w ≡ components after (drop i s)) where
-  -- a "/" behind another
-  pub slash-again : i < length s → getD s i 0 ≡ slash → after ≡ true → false ≡ w
-  unfolding components
-  slash-again h e t = sym (inv ∙ rw (drop-cons s i 0 h, t) (simp (eq-eqb _ _ e)))
+-- behind a first byte, the rest decides
+pub first-byte : (s : List ℕ) → 1 ≤ length s → components false s ≡ components (eqb (getD s 0 0) slash) (drop 1 s)
+unfolding components
+first-byte [] h = absurd (omega arith)
+first-byte (b ∷ s) h = by-test (eqb b slash) (λ e. rw e refl) (λ e. rw e refl)
 
-  -- a "/" behind another byte
-  pub slash-first : i < length s → getD s i 0 ≡ slash → after ≡ false → w ≡ components true (drop (i + 1) s)
-  unfolding components
-  slash-first h e t = inv ∙ rw (drop-cons s i 0 h, t, add-one) (simp (eq-eqb _ _ e))
+-- one byte more: two "/" were found before, or are found now, or the rest decides
+one-byte : (doubled after : Bool) (b : ℕ) (s : List ℕ)
+    → cond doubled false (components after (b ∷ s)) ≡ cond (doubled || cond after (eqb b slash) false) false (components (eqb b slash) s)
+unfolding components
+one-byte true after b s = refl
+one-byte false true b s = by-test (eqb b slash) (λ e. rw e refl) (λ e. rw e refl)
+one-byte false false b s = by-test (eqb b slash) (λ e. rw e refl) (λ e. rw e refl)
 
-  -- another byte
-  pub no-slash : i < length s → (getD s i 0 ≡ slash → ⊥) → w ≡ components false (drop (i + 1) s)
-  unfolding components
-  no-slash h n = inv ∙ rw (drop-cons s i 0 h, add-one) (simp (ne-eqb _ _ n))
+-- w is whether the whole has components, and the invariant says that two "/" were found or what is left behind the byte before i decides it
+module _ (s : List ℕ) (i : ℕ) (doubled w : Bool) (inv : w ≡ cond doubled false (components (eqb (getD s (i - 1) 0) slash) (drop i s))) where
+  -- the next byte
+  pub next-byte : (d : Bool) → i < length s → d ≡ cond (eqb (getD s (i - 1) 0) slash) (eqb (getD s i 0) slash) false
+      → w ≡ cond (doubled || d) false (components (eqb (getD s (i + 1 - 1) 0) slash) (drop (i + 1) s))
+  next-byte d h e =
+      let k : i + 1 - 1 ≡ i = omega arith in
+      inv ∙ rw (drop-cons s i 0 h, one-byte doubled _ _ _, e, k, add-one) refl
 
-  -- there are no more
-  pub at-end : length s ≤ i → not after ≡ w
+  -- two "/" were found
+  pub were-doubled : doubled ≡ true → false ≡ w
+  were-doubled t = sym (inv ∙ rw t refl)
+
+  -- there are no more bytes
+  pub at-end : length s ≤ i → doubled ≡ false → not (eqb (getD s (i - 1) 0) slash) ≡ w
   unfolding components
-  at-end h = sym (inv ∙ rw (drop-of-length-le s h) refl)
+  at-end h t = sym (inv ∙ rw (drop-of-length-le s h, t) refl)
 
 -- whether no byte is "/"
 unfoldable pub withoutSlash : List ℕ → Bool

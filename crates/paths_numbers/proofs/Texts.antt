@@ -1,13 +1,13 @@
 -- How texts compare: what `same` and `begins` decide, a comparison byte by byte, and the first byte of a text.
 use Prim.Native.Nat.{ℕ, _+_, _-_, _≤_, _<_}
 use mathlib.Core.Path.{_≡_, refl, sym, ap, _∙_}
-use mathlib.Core.Bool.{Bool, true, false, cond}
+use mathlib.Core.Bool.{Bool, true, false, not, cond, _||_}
 use mathlib.Core.List.{List, [], _∷_, _++_}
 use native.Mathlib.Numerals.{add-one}
 use native.Mathlib.Omega.{arith}
 use borrow.Author.Tests.{eq-eqb, ne-eqb, eqb-true}
 use lib.Dec.{eqb}
-use lib.ListN.{length, getD, take, drop, drop-of-length-le, length-drop}
+use lib.ListN.{length, getD, take, drop, drop-of-length-le, length-drop, List·getD-append}
 use lib.Seq.{drop-cons, take-all, drop-length}
 use Rattle.paths_numbers.specs.Text.{begins, same, isEmpty, startsWith}
 
@@ -119,6 +119,34 @@ module _ (s p : List ℕ) (i : ℕ) (w : Bool) (inv : w ≡ begins (drop i s) (d
   pub agreed : length p ≤ i → true ≡ w
   unfolding begins
   agreed h = sym (inv ∙ rw (drop-of-length-le p h) refl)
+
+-- a text does not begin with one that has another byte at some place
+pub begins-differs : (s p : List ℕ) (i : ℕ) → i < length p → (getD s i 0 ≡ getD p i 0 → ⊥) → begins s p ≡ false
+begins-differs s p i h n =
+    is-false (begins s p)
+    (λ e. n (ap (λ (l : List ℕ). getD l i 0) (begins-split s p e) ∙ List·getD-append p (drop (length p) s) 0 i h))
+
+-- the comparison without a way out: w is whether s begins with p, and the invariant says that a difference was found or what is left of both decides
+module _ (s p : List ℕ) (i : ℕ) (found w : Bool) (inv : w ≡ cond found false (begins (drop i s) (drop i p))) where
+  -- the bytes at i
+  pub compared : i < length s → i < length p
+      → w ≡ cond (found || not (eqb (getD s i 0) (getD p i 0))) false (begins (drop (i + 1) s) (drop (i + 1) p))
+  unfolding begins
+  compared h k = inv ∙ rw (drop-cons s i 0 h, drop-cons p i 0 k, add-one) (one found (eqb (getD s i 0) (getD p i 0)) _)
+    where
+      one : (f t r : Bool) → cond f false (cond t r false) ≡ cond (f || not t) false r
+      one true t r = refl
+      one false true r = refl
+      one false false r = refl
+
+  -- there are no more
+  pub compared-all : length p ≤ i → not found ≡ w
+  unfolding begins
+  compared-all h = sym (inv ∙ rw (drop-of-length-le p h) (end found))
+    where
+      end : (f : Bool) → cond f false true ≡ not f
+      end true = refl
+      end false = refl
 
 -- a text of length 0 is empty
 pub is-empty : (s : List ℕ) → length s ≡ 0 → isEmpty s ≡ true

@@ -1,6 +1,8 @@
 // What mir.rs asks of paths.
-ghost use mathlib.Core.Bool.{false};
+ghost use mathlib.Core.Bool.{false, cond};
 ghost use mathlib.Core.Path.{_≡_};
+ghost use lib.Dec.{eqb};
+ghost use Rattle.paths_numbers.specs.Byte.{slash};
 ghost use Rattle.paths_numbers.specs.Path.{atOrUnder, stripped, root, components, goodPath};
 ghost use Rattle.paths_numbers.specs.Text.{same};
 use crate::text::starts_with;
@@ -66,22 +68,32 @@ pub fn good_path(path: &[u8]) -> bool
     has_components(path)
 }
 
-// Whether nonempty components follow each other, each behind a "/".
+// Whether nonempty components follow each other, each behind a "/". The loop has no way out of its
+// middle, so that it is compiled to compare many bytes at a time.
 fn has_components(path: &[u8]) -> bool
     ensures { λ r. ⌜ r ≡ components false (now (path .entry)) ⌝ }
 {
-    let mut after = false;
-    let mut i = 0;
+    if path.len() == 0 {
+        return true;
+    }
+    let mut doubled = false;
+    let mut i = 1;
     while i < path.len() {
-        if path[i] == b'/' {
-            if after {
-                return false;
-            }
-            after = true;
-        } else {
-            after = false;
-        }
+        doubled = doubled | both_slashes(path[i - 1], path[i]);
         i += 1;
     }
-    !after
+    if doubled {
+        return false;
+    }
+    path[i - 1] != b'/'
+}
+
+// Whether both bytes are "/".
+fn both_slashes(a: u8, b: u8) -> bool
+    ensures { λ r. ⌜ r ≡ cond (eqb a slash) (eqb b slash) false ⌝ }
+{
+    if a != b'/' {
+        return false;
+    }
+    b == b'/'
 }

@@ -2,21 +2,28 @@
 ghost use mathlib.Core.Path.{_≡_};
 ghost use Rattle.paths_numbers.specs.Text.{begins, same};
 
-// Whether `s` begins with `p`.
+// Whether `s` begins with `p`. The last bytes are compared first, since paths often differ only there;
+// the loop has no way out of its middle, so that it is compiled to compare many bytes at a time.
 pub fn starts_with(s: &[u8], p: &[u8]) -> bool
     ensures { λ r. ⌜ r ≡ begins (now (s .entry)) (now (p .entry)) ⌝ }
 {
-    if s.len() < p.len() {
+    let n = p.len();
+    if s.len() < n {
         return false;
     }
+    if n == 0 {
+        return true;
+    }
+    if s[n - 1] != p[n - 1] {
+        return false;
+    }
+    let mut differs = false;
     let mut i = 0;
-    while i < p.len() {
-        if s[i] != p[i] {
-            return false;
-        }
+    while i < n {
+        differs = differs | (s[i] != p[i]);
         i += 1;
     }
-    true
+    !differs
 }
 
 // Whether two texts are the same bytes.

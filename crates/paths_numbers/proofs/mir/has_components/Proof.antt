@@ -1,33 +1,42 @@
--- What is left of the path, with whether the byte before was a "/", decides (Good: slash-again, slash-first, no-slash, at-end).
+-- Two "/" in a row were found, or what is left of the path, behind the byte before it, decides (Good: first-byte, next-byte, were-doubled, at-end).
 use borrow.Author.Needs.{needs}
 use Prim.Native.Nat.{_-_, _≤_}
-use mathlib.Core.Path.{_≡_}
-use mathlib.Core.Bool.{false}
-use mathlib.Core.Logic.{⊎-elim}
+use mathlib.Core.Path.{_≡_, refl}
+use mathlib.Core.Bool.{false, cond}
 use native.Mathlib.Omega.{arith}
-use lib.ListN.{length, drop}
+use lib.Dec.{eqb}
+use lib.ListN.{length, getD, drop}
+use Rattle.paths_numbers.specs.Byte.{slash}
 use Rattle.paths_numbers.specs.Path.{components}
-use Rattle.paths_numbers.proofs.Good.{slash-again, slash-first, no-slash, at-end}
+use Rattle.paths_numbers.proofs.Texts.{no-byte}
+use Rattle.paths_numbers.proofs.Good.{first-byte, next-byte, were-doubled, at-end}
 use Rattle.paths_numbers.proofs.mir.has_components.Statement.{statement}
 use Rattle.paths_numbers.proofs.mir.has_components.Tie as tie
 
 abbrev Inv-loop : tie.InvT-loop
-Inv-loop path after₀ i₀ after i = (i ≤ length path) × (components false path ≡ components after (drop i path))
+Inv-loop path doubled₀ i₀ doubled i = (1 ≤ i) × (i ≤ length path) × (components false path ≡ cond doubled false (components (eqb (getD path (i - 1) 0) slash) (drop i path)))
 
 abbrev μ-loop : tie.MeasureT-loop
-μ-loop path after₀ i₀ after i = length path - i
-
-loop-holds : tie.Need-loop-holds Inv-loop μ-loop
-loop-holds c = search needs
-
-shared-slice-read-if1 : tie.Need-shared-slice-read-if1 Inv-loop μ-loop
-shared-slice-read-if1 c = search needs
+μ-loop path doubled₀ i₀ doubled i = length path - i
 
 returns : tie.Need-returns Inv-loop μ-loop
-returns c =
-    let a = c .before .before .before .before .before .args in
-    let l = c .before .before .before .before .loop in
-    slash-again (a .path .now) (l .i) _ _ (l .inv .1) (omega arith) (c .before .if1 .taken) (c .if2 .taken)
+unfolding components
+returns c = rw (no-byte (c .before .before .args .path .now) (c .if1 .taken)) refl
+
+loop-holds : tie.Need-loop-holds Inv-loop μ-loop
+loop-holds c = (omega arith, omega arith, first-byte (c .before .before .args .path .now) (omega arith))
+
+sub-both-slashes : tie.Need-sub-both-slashes Inv-loop μ-loop
+sub-both-slashes c = search needs
+
+shared-slice-read-both-slashes : tie.Need-shared-slice-read-both-slashes Inv-loop μ-loop
+shared-slice-read-both-slashes c = search needs
+
+shared-slice-read-both-slashes-2 : tie.Need-shared-slice-read-both-slashes-2 Inv-loop μ-loop
+shared-slice-read-both-slashes-2 c = search needs
+
+both-slashes-requires : tie.Need-both-slashes-requires Inv-loop μ-loop
+both-slashes-requires c κs = search needs
 
 add-i : tie.Need-add-i Inv-loop μ-loop
 add-i c = search needs
@@ -37,20 +46,25 @@ loop-less c = search needs
 
 loop-again : tie.Need-loop-again Inv-loop μ-loop
 loop-again c =
-    let a = c .before .before .before .before .args in
-    let l = c .before .before .before .loop in (
-      omega arith,
-      ⊎-elim
-          (λ w. rw (w .2) (slash-first (a .path .now) (l .i) _ _ (l .inv .1) (omega arith) (w .0 .taken) (w .1 .left)))
-          (λ w. rw (w .1) (no-slash (a .path .now) (l .i) _ _ (l .inv .1) (omega arith) (w .0 .left)))
-          (c .if1 .came),
-    )
+    let a = c .before .before .before .before .before .before .before .args in
+    let l = c .before .before .before .before .loop in
+    (omega arith, omega arith, next-byte (a .path .now) (l .i) (l .doubled) _ (l .inv .2) _ (omega arith) (c .both-slashes .ensures))
 
 returns-2 : tie.Need-returns-2 Inv-loop μ-loop
 returns-2 c =
-    let a = c .before .before .args in
-    let l = c .before .loop in
-    at-end (a .path .now) (l .i) _ _ (l .inv .1) (omega arith)
+    let l = c .before .before .loop in
+    were-doubled (c .before .before .before .before .before .args .path .now) (l .i) (l .doubled) _ (l .inv .2) (c .if2 .taken)
+
+sub-result : tie.Need-sub-result Inv-loop μ-loop
+sub-result c = search needs
+
+shared-slice-read-result : tie.Need-shared-slice-read-result Inv-loop μ-loop
+shared-slice-read-result c = search needs
+
+returns-3 : tie.Need-returns-3 Inv-loop μ-loop
+returns-3 c =
+    let l = c .before .before .before .loop in
+    at-end (c .before .before .before .before .before .before .args .path .now) (l .i) (l .doubled) _ (l .inv .2) (omega arith) (c .before .if2 .left)
 
 pub has-components-spec : {M : Type 1} → statement M
 has-components-spec =
@@ -58,10 +72,16 @@ has-components-spec =
     (tie.spec
     Inv-loop
     μ-loop
-    loop-holds
-    shared-slice-read-if1
     returns
+    loop-holds
+    sub-both-slashes
+    shared-slice-read-both-slashes
+    shared-slice-read-both-slashes-2
+    both-slashes-requires
     add-i
     loop-less
     loop-again
-    returns-2)
+    returns-2
+    sub-result
+    shared-slice-read-result
+    returns-3)

@@ -1,37 +1,53 @@
--- The bytes before i are the same, so that what is left of both texts decides (Texts: differs, agrees, agreed).
+-- A difference was found, or what is left of both texts decides (Texts: begins-differs, compared, compared-all).
 use borrow.Author.Needs.{needs}
 use Prim.Native.Nat.{_-_, _≤_}
-use mathlib.Core.Path.{_≡_, sym}
+use mathlib.Core.Path.{_≡_, refl, sym}
+use mathlib.Core.Bool.{false, cond}
 use native.Mathlib.Omega.{arith}
 use lib.ListN.{length, drop}
 use Rattle.paths_numbers.specs.Text.{begins}
-use Rattle.paths_numbers.proofs.Texts.{begins-short, differs, agrees, agreed}
+use Rattle.paths_numbers.proofs.Texts.{no-byte, begins-short, begins-differs, compared, compared-all}
 use Rattle.paths_numbers.proofs.text.starts_with.Statement.{statement}
 use Rattle.paths_numbers.proofs.text.starts_with.Tie as tie
 
 abbrev Inv-loop : tie.InvT-loop
-Inv-loop s p i₀ i = (i ≤ length p) × (begins s p ≡ begins (drop i s) (drop i p))
+Inv-loop s p n differs₀ i₀ differs i = (n ≡ length p) × (length p ≤ length s) × (i ≤ length p) × (begins s p ≡ cond differs false (begins (drop i s) (drop i p)))
 
 abbrev μ-loop : tie.MeasureT-loop
-μ-loop s p i₀ i = length p - i
+μ-loop s p n differs₀ i₀ differs i = length p - i
 
 returns : tie.Need-returns Inv-loop μ-loop
 returns c = sym (begins-short _ _ (c .if1 .taken))
 
+returns-2 : tie.Need-returns-2 Inv-loop μ-loop
+unfolding begins
+returns-2 c = rw (no-byte (c .before .before .args .p .now) (c .if2 .taken)) refl
+
+sub-if3 : tie.Need-sub-if3 Inv-loop μ-loop
+sub-if3 c = search needs
+
+shared-slice-read-if3 : tie.Need-shared-slice-read-if3 Inv-loop μ-loop
+shared-slice-read-if3 c = search needs
+
+sub-if3-2 : tie.Need-sub-if3-2 Inv-loop μ-loop
+sub-if3-2 c = search needs
+
+shared-slice-read-if3-2 : tie.Need-shared-slice-read-if3-2 Inv-loop μ-loop
+shared-slice-read-if3-2 c = search needs
+
+returns-3 : tie.Need-returns-3 Inv-loop μ-loop
+returns-3 c =
+    let a = c .before .before .before .before .before .args in
+    sym (begins-differs (a .s .now) (a .p .now) _ (omega arith) (c .if3 .taken))
+
 loop-holds : tie.Need-loop-holds Inv-loop μ-loop
 loop-holds c = search needs
 
-shared-slice-read-if2 : tie.Need-shared-slice-read-if2 Inv-loop μ-loop
-shared-slice-read-if2 c = search needs
+shared-slice-read-differs : tie.Need-shared-slice-read-differs Inv-loop μ-loop
+shared-slice-read-differs c = search needs
 
-shared-slice-read-if2-2 : tie.Need-shared-slice-read-if2-2 Inv-loop μ-loop
-shared-slice-read-if2-2 c = search needs
-
-returns-2 : tie.Need-returns-2 Inv-loop μ-loop
-returns-2 c =
-    let a = c .before .before .before .before .before .before .args in
-    let l = c .before .before .before .before .loop in
-    differs (a .s .now) (a .p .now) (l .i) _ (l .inv .1) (omega arith) (omega arith) (c .if2 .taken)
+shared-slice-read-differs-2 : tie.Need-shared-slice-read-differs-2 Inv-loop μ-loop
+shared-slice-read-differs-2 c = search needs
 
 add-i : tie.Need-add-i Inv-loop μ-loop
 add-i c = search needs
@@ -41,15 +57,15 @@ loop-less c = search needs
 
 loop-again : tie.Need-loop-again Inv-loop μ-loop
 loop-again c =
-    let a = c .before .before .before .before .before .before .args in
-    let l = c .before .before .before .before .loop in
-    (omega arith, agrees (a .s .now) (a .p .now) (l .i) _ (l .inv .1) (omega arith) (omega arith) (c .if2 .left))
+    let a = c .before .before .before .before .before .before .before .before .before .args in
+    let l = c .before .before .before .loop in
+    (refl, l .inv .1, omega arith, compared (a .s .now) (a .p .now) (l .i) (l .differs) _ (l .inv .3) (omega arith) (omega arith))
 
-returns-3 : tie.Need-returns-3 Inv-loop μ-loop
-returns-3 c =
-    let a = c .before .before .before .args in
+returns-4 : tie.Need-returns-4 Inv-loop μ-loop
+returns-4 c =
+    let a = c .before .before .before .before .before .before .before .args in
     let l = c .before .loop in
-    agreed (a .s .now) (a .p .now) (l .i) _ (l .inv .1) (omega arith)
+    compared-all (a .s .now) (a .p .now) (l .i) (l .differs) _ (l .inv .3) (omega arith)
 
 pub starts-with-spec : {M : Type 1} → statement M
 starts-with-spec =
@@ -58,11 +74,16 @@ starts-with-spec =
     Inv-loop
     μ-loop
     returns
-    loop-holds
-    shared-slice-read-if2
-    shared-slice-read-if2-2
     returns-2
+    sub-if3
+    shared-slice-read-if3
+    sub-if3-2
+    shared-slice-read-if3-2
+    returns-3
+    loop-holds
+    shared-slice-read-differs
+    shared-slice-read-differs-2
     add-i
     loop-less
     loop-again
-    returns-3)
+    returns-4)
