@@ -1,12 +1,12 @@
 // Row 8's test of a log that a caller lends, any words and any bytes: first every link that can be reached is followed and marks the record
 // that it leads to, then the records are tried in rising order.
-ghost use Prim.Native.Nat.{_<_};
+ghost use Prim.Native.Nat.{_≤_, _<_};
 ghost use mathlib.Core.Bool.{true, false, not, cond};
 ghost use mathlib.Core.Path.{_≡_};
 ghost use lib.Dec.{eqb, ltb};
 ghost use lib.ListN.{getD};
 ghost use Rattle.log.specs.Record.{oneOf, defKinds, hasChildren, hasSpan, hasNameSpan, logCount, kindOf, childOf, mOf, outField, spanStart, spanEnd, nameStart, nameEnd, leadsOut, extensionKind};
-ghost use Rattle.log.specs.Sound.{below, kindsIn, linkTo, linksOf, headLinks, headsOut, linksOut, textOut, textsOut, spansReversed, nonemptyPath, pathWrong, soundness};
+ghost use Rattle.log.specs.Sound.{below, kindsIn, linkTo, linksOf, headLinks, headsOut, linksOut, textOut, textsOut, spansReversed, nonemptyPath, pathWrong, wrongCount, soundness};
 ghost use Rattle.log.specs.SoundAnswer.{told};
 ghost use Rattle.log.specs.Walk.{placeOf, linkIn, linkOf, firstMark, stored, held, followAll, allMarks, recordWrong, faultBy, firstBy};
 use crate::kinds;
@@ -22,6 +22,9 @@ use paths_numbers::mir::good_path;
 
 // A log's records, at most.
 const MOST_RECORDS: usize = 65536;
+
+// Up to so many records a log is tested with smaller arrays, which are set up sooner.
+const FEW_RECORDS: usize = 8192;
 
 // The chains, by number.
 const DEFINITIONS: u32 = 0;
@@ -66,8 +69,22 @@ pub fn check_log(words: &[u32], bytes: &[u8]) -> Soundness
     if words.len() % 16 != 0 {
         return Soundness::Broken(0);
     }
+    if log_count(words) as usize <= FEW_RECORDS {
+        return check_few(words, bytes);
+    }
     let mut marks = [UNMET; MOST_RECORDS];
     let mut queue = [0u32; MOST_RECORDS];
+    walk(words, &mut marks, &mut queue);
+    first_fault(words, bytes, &marks)
+}
+
+// The same of a log of few records.
+fn check_few(words: &[u32], bytes: &[u8]) -> Soundness
+    requires { ⌜ (logCount (now words) ≤ 8192) × (wrongCount (now words) ≡ false) ⌝ }
+    ensures { λ f. ⌜ told f ≡ soundness (now (words .entry)) (now (bytes .entry)) ⌝ }
+{
+    let mut marks = [UNMET; FEW_RECORDS];
+    let mut queue = [0u32; FEW_RECORDS];
     walk(words, &mut marks, &mut queue);
     first_fault(words, bytes, &marks)
 }

@@ -16,7 +16,7 @@ use Rattle.making.specs.declared.ctx.LowerCtx.{LowerCtx}
 use Rattle.making.specs.declared.place.PathAt.{PathAt}
 use Rattle.making.specs.declared.recs.Span as declared
 use Rattle.log.specs.Meaning.{Span, Def, Binding, Diag}
-use Rattle.log.specs.Record.{kindOf, childOf, nOf, mOf, spanStart, spanEnd, nameStart, nameEnd, textStart, textLength, firstText, secondText, logCount, mostRecords, nodeKind, propertyKind, deletedNodeKind, deletedPropertyKind, pluginKind, cellListKind, bytestringKind, referenceKind}
+use Rattle.log.specs.Record.{kindOf, childOf, nOf, mOf, spanStart, spanEnd, nameStart, nameEnd, textStart, textLength, firstText, secondText, logCount, nodeKind, propertyKind, deletedNodeKind, deletedPropertyKind, pluginKind, cellListKind, bytestringKind, referenceKind}
 use Rattle.log.specs.ReadBack.{chainOf, nameSpanAt, targetAt, readLabels, cellAt, readCells, valueAt, readValues, defValueAt, defAt, readDefs, bindingAt, readBindings}
 use Rattle.making.specs.PathPlaces.{pathIn}
 use Rattle.making.specs.Recs.{meant, diagMade, noSpan}
@@ -29,7 +29,7 @@ use Rattle.queries.specs.Kind.{setsOverlay}
 use Rattle.queries.specs.Live.{isLive, live}
 use Rattle.queries.specs.Query.{liveNumbers}
 use Rattle.queries.specs.Table.{fitted}
-use Rattle.queries.proofs.Chain.{chain-most, count-most}
+use Rattle.queries.proofs.Chain.{chain-most}
 use Rattle.queries.proofs.Numbers.{live-numbers, live-most, written-start, fitted-full}
 use Rattle.post_checks.specs.Resolve.{firstBinding, byLabel, belowLabel, liveAt, resolve}
 use Rattle.post_checks.specs.Post.{checkTarget, checkCell, checkCells, checkValue, checkValues, checkDef, checkDefs, checkReferences}
@@ -330,12 +330,12 @@ all-live def base (all-more {r} {l} p a) =
     all-append (all-live def base a)
     (by-test (isLive base (def r) (map def l)) (λ t. rw t (all-more p all-none)) (λ t. rw t all-none))
 
--- and so no more than there can be records
-pub live-room : (words bytes base : List ℕ) (first n : ℕ) → n ≡ length (liveNumbers (defAt words bytes) base (chainOf words first)) → n ≤ mostRecords
-live-room words bytes base first n e = omega (arith, live-most (defAt words bytes) base (chainOf words first), chain-most words first, count-most words)
+-- and so no more than there are records
+pub live-room : (words bytes base : List ℕ) (first n : ℕ) → n ≡ length (liveNumbers (defAt words bytes) base (chainOf words first)) → n ≤ logCount words
+live-room words bytes base first n e = omega (arith, live-most (defAt words bytes) base (chainOf words first), chain-most words first)
 
 module _ {c d : LowerCtx} {words bytes w b : List ℕ} where
-  pub live-reports : (list after base : List ℕ) (n : ℕ) → base ≡ [] → mostRecords ≤ length list → n ≡ length (liveNumbers (defAt words bytes) base (chainOf words (c .defs .first)))
+  pub live-reports : (list after base : List ℕ) (n : ℕ) → base ≡ [] → logCount words ≤ length list → n ≡ length (liveNumbers (defAt words bytes) base (chainOf words (c .defs .first)))
       → after ≡ fitted list (liveNumbers (defAt words bytes) base (chainOf words (c .defs .first)))
       → Reports c d words bytes w b (take n after) (checkDefs (said c words bytes) (map (defAt words bytes) (take n after)))
       → Reports c d words bytes w b [] (checkDefs (said c words bytes) (live [] (readDefs words bytes (c .defs .first))))

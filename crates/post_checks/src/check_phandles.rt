@@ -4,7 +4,7 @@ ghost use mathlib.Core.Path.{_≡_};
 ghost use mathlib.Core.List.{[], _∷_, map};
 ghost use Prim.Native.Nat.{_≤_};
 ghost use lib.ListN.{length};
-ghost use Rattle.log.specs.Record.{mostRecords, secondText};
+ghost use Rattle.log.specs.Record.{logCount, secondText};
 ghost use Rattle.log.specs.ReadBack.{chainOf, targetAt, cellAt, readCells, valueAt, readValues, nameSpanAt, defValueAt, defAt, readDefs, readBindings};
 ghost use Rattle.making.specs.Recs.{meant};
 ghost use Rattle.making.specs.State.{State, emit};
@@ -42,8 +42,10 @@ const CELL_LIST: u32 = 9;
 
 const REFERENCE: u32 = 12;
 
-// How many definitions a log can have.
+// How many definitions a log can have, and one of few records, for which a smaller list is set up sooner.
 const MOST: usize = 65536;
+
+const FEW: usize = 8192;
 
 // Reports references of live properties that lead nowhere, unless the log is an overlay.
 pub fn check_phandles(out: &mut [u32], bytes: &mut [u8], ctx: LowerCtx) -> LowerCtx
@@ -52,13 +54,25 @@ pub fn check_phandles(out: &mut [u32], bytes: &mut [u8], ctx: LowerCtx) -> Lower
     if sets_overlay_in(out, ctx.defs.first) {
         return ctx;
     }
+    if log_count(out) as usize <= FEW {
+        return check_few(out, bytes, ctx);
+    }
     let mut list = [0u32; MOST];
+    check_live(out, bytes, ctx, &mut list)
+}
+
+// The reports on all live definitions of a log of few records.
+fn check_few(out: &mut [u32], bytes: &mut [u8], ctx: LowerCtx) -> LowerCtx
+    requires { ⌜ logCount (now out) ≤ 8192 ⌝ }
+    ensures { λ d. ⌜ Reports ctx d (now (out .entry)) (now (bytes .entry)) (now (out .exit)) (now (bytes .exit)) [] (checkDefs (said ctx (now (out .entry)) (now (bytes .entry))) (live [] (readDefs (now (out .entry)) (now (bytes .entry)) (ctx .defs .first)))) ⌝ }
+{
+    let mut list = [0u32; FEW];
     check_live(out, bytes, ctx, &mut list)
 }
 
 // The reports on all live definitions, with room for their list.
 fn check_live(out: &mut [u32], bytes: &mut [u8], ctx: LowerCtx, list: &mut [u32]) -> LowerCtx
-    requires { ⌜ mostRecords ≤ length (now list) ⌝ }
+    requires { ⌜ logCount (now out) ≤ length (now list) ⌝ }
     ensures { λ d. ⌜ Reports ctx d (now (out .entry)) (now (bytes .entry)) (now (out .exit)) (now (bytes .exit)) [] (checkDefs (said ctx (now (out .entry)) (now (bytes .entry))) (live [] (readDefs (now (out .entry)) (now (bytes .entry)) (ctx .defs .first)))) ⌝ }
 {
     let n = live_list(out, bytes, ctx.defs.first, no_text(bytes), list);

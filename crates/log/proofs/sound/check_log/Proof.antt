@@ -1,6 +1,7 @@
 -- By the count of words, then by the marks.
 use borrow.Author.Tests.{eq-eqb, ne-eqb}
 use mathlib.Core.Path.{refl}
+use native.Mathlib.Omega.{arith}
 use Rattle.log.specs.Sound.{soundness}
 use Rattle.log.proofs.Reached.{count-most}
 use Rattle.log.proofs.Checked.{checked}
@@ -15,6 +16,20 @@ returns c = rw (eq-eqb _ _ (c .if1 .taken)) refl
 returns-2 : tie.Need-returns-2
 unfolding soundness
 returns-2 c = rw (ne-eqb _ _ (c .before .if1 .left), ne-eqb _ _ (c .if2 .taken)) refl
+
+log-count-requires : tie.Need-log-count-requires
+log-count-requires c κs = search needs
+
+cast-if3 : tie.Need-cast-if3
+cast-if3 c = search needs
+
+check-few-requires : tie.Need-check-few-requires
+check-few-requires c κs =
+    let i = c .before .before in
+    (omega (arith, c .before .log-count .ensures), rw (ne-eqb _ _ (i .before .if1 .left), eq-eqb _ _ (i .if2 .left)) refl)
+
+returns-3 : tie.Need-returns-3
+returns-3 c = search needs
 
 slice-aggregate-walk : tie.Need-slice-aggregate-walk
 slice-aggregate-walk c = search needs
@@ -31,10 +46,10 @@ slice-aggregate-first-fault c = search needs
 first-fault-requires : tie.Need-first-fault-requires
 first-fault-requires c κs = search needs
 
-returns-3 : tie.Need-returns-3
-returns-3 c =
+returns-4 : tie.Need-returns-4
+returns-4 c =
     let v = c .before .before .before .before in
-    let i = v .before .before .before in
+    let i = v .before .before .before .before .before in
     let a = i .before .before .before .before .args in
     checked 65536 (a .words .now) (a .bytes .now) _ _ _ _ (v .walk .ensures) (c .first-fault .ensures) refl refl (count-most (a .words .now))
     (rw (ne-eqb _ _ (i .before .if1 .left), eq-eqb _ _ (i .if2 .left)) refl)
@@ -45,9 +60,13 @@ check-log-spec =
     (tie.spec
     returns
     returns-2
+    log-count-requires
+    cast-if3
+    check-few-requires
+    returns-3
     slice-aggregate-walk
     slice-aggregate-walk-2
     walk-requires
     slice-aggregate-first-fault
     first-fault-requires
-    returns-3)
+    returns-4)

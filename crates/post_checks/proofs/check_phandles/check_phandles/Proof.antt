@@ -1,5 +1,7 @@
--- By whether the log is an overlay (References).
-use mathlib.Core.Path.{sym, _∙_}
+-- By whether the log is an overlay (References); an array of zeros has room for the list (Numbers: zeros-room).
+use mathlib.Core.Path.{refl, sym, _∙_}
+use Rattle.queries.proofs.Chain.{count-most}
+use Rattle.queries.proofs.Numbers.{zeros-room}
 use Rattle.post_checks.proofs.References.{phandles-lower, phandles-none}
 use borrow.Author.Needs.{needs}
 use Rattle.post_checks.proofs.check_phandles.check_phandles.Statement.{statement}
@@ -14,11 +16,14 @@ same-length c = search needs
 returns : tie.Need-returns
 returns c = phandles-none (sym (c .before .sets-overlay-in .ensures _) ∙ c .if1 .taken)
 
-slice-aggregate-check-live : tie.Need-slice-aggregate-check-live
-slice-aggregate-check-live c = search needs
+log-count-requires : tie.Need-log-count-requires
+log-count-requires c κs = search needs
 
-check-live-requires : tie.Need-check-live-requires
-check-live-requires c κs = search needs
+cast-if2 : tie.Need-cast-if2
+cast-if2 c = search needs
+
+check-few-requires : tie.Need-check-few-requires
+check-few-requires c κs = search needs
 
 same-length-2 : tie.Need-same-length-2
 same-length-2 c = search needs
@@ -27,7 +32,22 @@ same-length-3 : tie.Need-same-length-3
 same-length-3 c = search needs
 
 returns-2 : tie.Need-returns-2
-returns-2 c = phandles-lower (sym (c .before .before .before .before .before .before .before .before .before .before .sets-overlay-in .ensures _) ∙ c .before .before .before .before .before .before .before .before .before .if1 .left) (c .before .before .before .before .before .check-live .ensures)
+returns-2 c = phandles-lower (sym (c .before .before .before .before .before .before .before .before .before .before .before .sets-overlay-in .ensures _) ∙ c .before .before .before .before .before .before .before .before .before .before .if1 .left) (c .before .before .before .before .check-few .ensures)
+
+slice-aggregate-check-live : tie.Need-slice-aggregate-check-live
+slice-aggregate-check-live c = search needs
+
+check-live-requires : tie.Need-check-live-requires
+check-live-requires c κs = zeros-room 65536 _ _ refl (count-most (c .before .before .before .before .before .before .before .before .before .before .before .args .out .now))
+
+same-length-4 : tie.Need-same-length-4
+same-length-4 c = search needs
+
+same-length-5 : tie.Need-same-length-5
+same-length-5 c = search needs
+
+returns-3 : tie.Need-returns-3
+returns-3 c = phandles-lower (sym (c .before .before .before .before .before .before .before .before .before .before .before .before .before .sets-overlay-in .ensures _) ∙ c .before .before .before .before .before .before .before .before .before .before .before .before .if1 .left) (c .before .before .before .before .before .check-live .ensures)
 
 pub check-phandles-spec : {M : Type 1} → statement M
 check-phandles-spec =
@@ -36,8 +56,14 @@ check-phandles-spec =
     sets-overlay-in-requires
     same-length
     returns
-    slice-aggregate-check-live
-    check-live-requires
+    log-count-requires
+    cast-if2
+    check-few-requires
     same-length-2
     same-length-3
-    returns-2)
+    returns-2
+    slice-aggregate-check-live
+    check-live-requires
+    same-length-4
+    same-length-5
+    returns-3)
