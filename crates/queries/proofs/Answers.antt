@@ -13,7 +13,7 @@ use Rattle.log.specs.Record.{firstDef}
 use Rattle.log.specs.ReadBack.{chainOf, defAt, readDefs}
 use Rattle.log.specs.Sound.{Soundness, sound, broken, soundness}
 use Rattle.queries.specs.Live.{containsNode}
-use Rattle.queries.specs.Query.{liveNumbers, historyNumbers, Answered, soundAnswer, goodAnswer, listAnswer, soundOut, queryAnswer, queryOut, liveAnswers, historyAnswers, containsAnswer}
+use Rattle.queries.specs.Query.{liveNumbers, historyNumbers, Answered, soundAnswer, goodAnswer, countAnswer, listAnswer, soundOut, queryAnswer, queryOut, liveAnswers, historyAnswers, containsAnswer}
 use Rattle.queries.specs.Table.{fitted}
 use Rattle.queries.specs.Answer.{refusal}
 
@@ -55,42 +55,12 @@ module _ (w b p list answers : List ℕ) (r : Answered) (e : r ≡ refusal w b p
   unfolding refusal queryOut
   refused-out n = out-refused-by (soundness w b) (goodPath p) r _ list e n
 
-  -- row 10
-  pub short-answer : (count : ℕ) → r .number ≡ 0 → count ≡ length answers → length list < count
-      → record { number = 10; returned = count } ≡ queryAnswer w b p (length list) answers
+  -- row 10, of a list that has as much room as the one that was lent
+  pub listed-answer : (a : Answered) (room count : ℕ) → r .number ≡ 0 → count ≡ length answers → room ≡ length list → a ≡ countAnswer room count
+      → a ≡ queryAnswer w b p (length list) answers
   unfolding refusal queryAnswer
-  short-answer count n c h =
-      listed ∙ answered-by (soundness w b) (goodPath p) (listAnswer (length list) answers) r e n
-    where
-      listed : record { number = 10; returned = count } ≡ listAnswer (length list) answers
-      listed = rw (lt-leb (length answers) (length list) (omega (arith, c, h)), c) refl
-
-  pub short-out : (count : ℕ) → r .number ≡ 0 → count ≡ length answers → length list < count → list ≡ queryOut w b p list answers
-  unfolding refusal queryOut
-  short-out count n c h =
-      kept ∙ out-answered-by (soundness w b) (goodPath p) r (cond (leb (length answers) (length list)) (written list 0 answers) list) list e n
-    where
-      kept : list ≡ cond (leb (length answers) (length list)) (written list 0 answers) list
-      kept = rw (lt-leb (length answers) (length list) (omega (arith, c, h))) refl
-
-  -- the answers fit
-  pub full-answer : (count : ℕ) → r .number ≡ 0 → count ≡ length answers → count ≤ length list
-      → record { number = 0; returned = count } ≡ queryAnswer w b p (length list) answers
-  unfolding refusal queryAnswer
-  full-answer count n c h =
-      listed ∙ answered-by (soundness w b) (goodPath p) (listAnswer (length list) answers) r e n
-    where
-      listed : record { number = 0; returned = count } ≡ listAnswer (length list) answers
-      listed = rw (le-leb (length answers) (length list) (omega (arith, c, h)), c) refl
-
-  pub full-out : (count : ℕ) (out : List ℕ) → r .number ≡ 0 → count ≡ length answers → count ≤ length list → out ≡ written list 0 answers
-      → out ≡ queryOut w b p list answers
-  unfolding refusal queryOut
-  full-out count out n c h d =
-      filled ∙ out-answered-by (soundness w b) (goodPath p) r (cond (leb (length answers) (length list)) (written list 0 answers) list) list e n
-    where
-      filled : out ≡ cond (leb (length answers) (length list)) (written list 0 answers) list
-      filled = rw (le-leb (length answers) (length list) (omega (arith, c, h))) d
+  listed-answer a room count n c k h =
+      h ∙ rw (c, k) (answered-by (soundness w b) (goodPath p) (listAnswer (length list) answers) r e n)
 
   -- a list that holds the answers if they fit
   pub fitted-out : (out : List ℕ) → r .number ≡ 0 → out ≡ fitted list answers → out ≡ queryOut w b p list answers

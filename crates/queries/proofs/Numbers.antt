@@ -6,7 +6,7 @@ use mathlib.Core.List.{List, [], _∷_, _++_, map, append-nil, append-assoc}
 use native.Mathlib.Omega.{arith}
 use native.Mathlib.Numerals.{add-one}
 use borrow.Author.Tests.{le-leb, lt-leb}
-use lib.ListN.{length, getD, take, drop, set, length-append, length-drop}
+use lib.ListN.{length, getD, take, drop, set, replicate, length-append, length-drop, length-replicate}
 use lib.Seq.{drop-cons, drop-length, take-all, take-append-seam, set-append-seam}
 use Rattle.paths_numbers.specs.Text.{same, written}
 use Rattle.paths_numbers.proofs.Texts.{by-test}
@@ -107,6 +107,15 @@ live-most def base (r ∷ l) =
     (λ t. rw t (omega (arith, length-append (liveNumbers def base l) (r ∷ []), live-most def base l)))
     (λ t. rw (t, append-nil) (omega (arith, live-most def base l)))
 
+-- a history has no more of them than records either
+pub history-most : (def : ℕ → Def) (defined : Bool) (path l : List ℕ) → length (historyNumbers def defined path l) ≤ length l
+unfolding historyNumbers
+history-most def defined path [] = omega arith
+history-most def defined path (r ∷ l) =
+    let n = history-most def (definedAfter path (def r) defined) path l in
+    rw (history-turn def defined path r l)
+    (by-test (isListed path (def r) defined) (λ t. rw t (omega (arith, n))) (λ t. rw t (omega (arith, n))))
+
 -- there are none behind the last
 pub live-none : (def : ℕ → Def) (base order : List ℕ) → liveNumbers def base (drop (length order) order) ≡ []
 unfolding liveNumbers
@@ -140,6 +149,10 @@ pub written-start : (d s : List ℕ) (n : ℕ) → n ≡ length s → take n (wr
 unfolding written
 written-start d s n e = rw e (take-append-seam s (drop (0 + length s) d))
 
+-- so that part of an array is what was collected in it
+pub collected-part : (d s w : List ℕ) (n : ℕ) → w ≡ written d 0 s → n ≡ length s → take n w ≡ s
+collected-part d s w n e k = rw e (written-start d s n k)
+
 -- a list that has room for the answers, and one that has not
 pub fitted-full : (list answers : List ℕ) → length answers ≤ length list → written list 0 answers ≡ fitted list answers
 unfolding fitted
@@ -148,3 +161,9 @@ fitted-full list answers h = rw (le-leb _ _ h) refl
 pub fitted-short : (list answers : List ℕ) → length list < length answers → list ≡ fitted list answers
 unfolding fitted
 fitted-short list answers h = rw (lt-leb _ _ h) refl
+
+-- an array of zeros has room for as many
+pub zeros-room : (m k : ℕ) (array : List ℕ) → array ≡ replicate m 0 → k ≤ m → k ≤ length array
+zeros-room m k array e h =
+    let n : length (replicate {A = ℕ} m 0) ≡ m = length-replicate m 0 in
+    rw e (omega arith)

@@ -15,7 +15,7 @@ use Rattle.paths_numbers.proofs.Texts.{by-test, both, not-both, is-false, same-
 use Rattle.log.specs.Meaning.{DefValue, node, property, deletedNode, deletedProperty, version, plugin, Def}
 use Rattle.queries.specs.Kind.{isDeletedNode, isOfProperty, any}
 use Rattle.queries.specs.Live.{overwrites}
-use Rattle.queries.specs.Table.{hashFrom, fewHeads, manyHeads, placeOf, slotOf, canTake, slotAt, inList, firstOf, Linked, ended, more, Holds, Table, deletedAt, Deleted, Room}
+use Rattle.queries.specs.Table.{hashFrom, leastHeads, fewHeads, manyHeads, placeOf, slotOf, canTake, slotAt, inList, firstOf, Linked, ended, more, Holds, Table, deletedAt, Deleted, Room}
 
 -- the first is among them
 first-most : (def : ℕ → Def) (test : Def → Bool) (l : List ℕ) → firstOf def test l ≤ length l
@@ -116,28 +116,33 @@ overwrite-listed base room path u d t =
     let h = both (isOfProperty (d .value)) _ t in
     rw (not-both-kinds (d .value) (h .0), h .0, same-true (d .path) path (h .1), u) (eq-eqb (slotOf room false (hashFrom 0 path)) _ refl)
 
--- a place is small
+-- a place is small, and there is a head for every slot
+place-within : (room h : ℕ) → (placeOf room h < 32768) × (leastHeads ≤ room → placeOf room h * 2 + 1 < room)
+unfolding placeOf
+place-within room h =
+    let j : h % 512 < 512 = mod-lt h (omega arith) in
+    let k : h % 4096 < 4096 = mod-lt h (omega arith) in
+    let l : h % 32768 < 32768 = mod-lt h (omega arith) in
+    by-test (ltb room fewHeads)
+    (λ s. rw s (omega arith, λ m. omega arith))
+    (λ s.
+    let f = ltb-false room fewHeads s in
+    by-test (ltb room manyHeads)
+    (λ t. rw (s, t) (omega arith, λ m. omega arith))
+    (λ t. let n = ltb-false room manyHeads t in rw (s, t) (l, λ m. omega arith)))
+
 pub place-small : (room h : ℕ) → placeOf room h < 32768
-unfolding placeOf
-place-small room h =
-    let k : h % 4096 < 4096 = mod-lt h (omega arith) in
-    let l : h % 32768 < 32768 = mod-lt h (omega arith) in
-    by-test (ltb room manyHeads) (λ t. rw t (omega arith)) (λ t. rw t l)
+place-small room h = place-within room h .0
 
--- there is a head for every slot
-place-most : (room h : ℕ) → fewHeads ≤ room → placeOf room h * 2 + 1 < room
-unfolding placeOf
-place-most room h m =
-    let k : h % 4096 < 4096 = mod-lt h (omega arith) in
-    let l : h % 32768 < 32768 = mod-lt h (omega arith) in
-    by-test (ltb room manyHeads) (λ t. rw t (omega arith)) (λ t. let n = ltb-false room manyHeads t in rw t (omega arith))
+place-most : (room h : ℕ) → leastHeads ≤ room → placeOf room h * 2 + 1 < room
+place-most room h m = place-within room h .1 m
 
-pub slot-most : (room : ℕ) (deleted : Bool) (h : ℕ) → fewHeads ≤ room → slotOf room deleted h < room
+pub slot-most : (room : ℕ) (deleted : Bool) (h : ℕ) → leastHeads ≤ room → slotOf room deleted h < room
 unfolding slotOf
 slot-most room true h m = place-most room h m
 slot-most room false h m = omega (arith, place-most room h m)
 
-module _ (def : ℕ → Def) (base : List ℕ) (heads links later : List ℕ) (m : fewHeads ≤ length heads) (t : Table def base (length heads) heads links later) where
+module _ (def : ℕ → Def) (base : List ℕ) (heads links later : List ℕ) (m : leastHeads ≤ length heads) (t : Table def base (length heads) heads links later) where
   -- so a table finds every deleted node
   pub deleted-held : Deleted def heads links later
   deleted-held =
@@ -225,7 +230,7 @@ table-start def base heads links z = record { headed = z; linked = λ slot. ende
 
 -- arrays of zeros have room
 pub room-zeros : (m n : ℕ) (order heads links live : List ℕ) → order ≡ replicate m 0 → heads ≡ replicate m 0 → links ≡ replicate m 0 → live ≡ replicate m 0
-    → fewHeads ≤ m → m ≤ 65536 → n ≤ m → Room n order heads links live
+    → leastHeads ≤ m → m ≤ 65536 → n ≤ m → Room n order heads links live
 room-zeros m n order heads links live o h l v few most fits =
     let k : length (replicate {A = ℕ} m 0) ≡ m = length-replicate m 0 in
     record {

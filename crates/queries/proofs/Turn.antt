@@ -14,7 +14,7 @@ use Rattle.log.specs.Record.{kindOf, firstText, propertyKind, deletedNodeKind, 
 use Rattle.log.specs.ReadBack.{defAt}
 use Rattle.queries.specs.Kind.{any}
 use Rattle.queries.specs.Live.{deletes, overwrites, gone, isLive}
-use Rattle.queries.specs.Table.{hashFrom, fewHeads, slotOf, canTake, slotAt, Table}
+use Rattle.queries.specs.Table.{hashFrom, leastHeads, slotOf, canTake, slotAt, Table}
 use Rattle.queries.proofs.Table.{slot-most, table-passed, table-entered}
 use Rattle.queries.proofs.Records.{path-at, property-kind, deleted-node-kind, deleted-property-kind}
 
@@ -42,7 +42,7 @@ module _ (words bytes : List ℕ) (r : ℕ) where
 
 -- by its kind and path, with the table of what comes later
 module _ (words bytes : List ℕ) (r : ℕ) (base heads links later : List ℕ) (k : ℕ) (e : k ≡ kindOf words r) (p : List ℕ) (f : p ≡ firstText words bytes r)
-    (m : fewHeads ≤ length heads) (n : length later < length links) (t : Table (defAt words bytes) base (length heads) heads links later) where
+    (m : leastHeads ≤ length heads) (n : length later < length links) (t : Table (defAt words bytes) base (length heads) heads links later) where
   -- a definition that is entered, with this hash: what heads and links are then
   entered : (deleted : Bool) → canTake base (defAt words bytes r) ≡ true → eqb k deletedNodeKind ≡ deleted → (hash : ℕ) → hash ≡ hashFrom 0 p
       → (heads' links' : List ℕ) → heads' ≡ set heads (slotOf (length heads) deleted hash) (length later + 1)

@@ -45,9 +45,11 @@ soundAnswer sound a = a
 soundAnswer (broken r) a = record { number = 8; returned = r }
 
 -- row 10: "more answers than the list holds … their count"; else number 0 and the count
+abbrev pub countAnswer : ℕ → ℕ → Answered
+countAnswer room count = cond (leb count room) (record { number = 0; returned = count }) (record { number = 10; returned = count })
+
 abbrev pub listAnswer : ℕ → List ℕ → Answered
-listAnswer room answers =
-    cond (leb (length answers) room) (record { number = 0; returned = length answers }) (record { number = 10; returned = length answers })
+listAnswer room answers = countAnswer room (length answers)
 
 -- the answer of a query that fills a list of so many places
 unfoldable pub queryAnswer : List ℕ → List ℕ → List ℕ → ℕ → List ℕ → Answered

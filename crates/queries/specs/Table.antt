@@ -21,7 +21,10 @@ unfoldable pub hashFrom : ℕ → List ℕ → ℕ
 hashFrom h [] = h
 hashFrom h (b ∷ s) = hashFrom (mixed h b) s
 
--- how many heads the smaller and the larger table have
+-- how many heads the three tables have
+abbrev pub leastHeads : ℕ
+leastHeads = 1024
+
 abbrev pub fewHeads : ℕ
 fewHeads = 8192
 
@@ -30,7 +33,7 @@ manyHeads = 65536
 
 -- the place of a hash in either half of so many heads, and its slot: the odd ones are for deleted nodes
 unfoldable pub placeOf : ℕ → ℕ → ℕ
-placeOf room h = cond (ltb room manyHeads) (h % 4096) (h % 32768)
+placeOf room h = cond (ltb room fewHeads) (h % 512) (cond (ltb room manyHeads) (h % 4096) (h % 32768))
 
 unfoldable pub slotOf : ℕ → Bool → ℕ → ℕ
 slotOf room deleted h = placeOf room h * 2 + cond deleted 1 0
@@ -84,7 +87,7 @@ pub record Deleted (def : ℕ → Def) (heads links later : List ℕ) : Type 0 w
 -- that there is room for n definitions in order, for a table of zeros and for the answers
 pub record Room (n : ℕ) (order heads links live : List ℕ) : Type 0 where
   pub forOrder : n ≤ length order
-  pub forHeads : fewHeads ≤ length heads
+  pub forHeads : leastHeads ≤ length heads
   pub forLinks : n ≤ length links
   pub forLive : n ≤ length live
   pub most : length links ≤ 65536

@@ -13,11 +13,13 @@ ghost use Rattle.paths_numbers.specs.Path.{root};
 ghost use Rattle.log.specs.ReadBack.{defAt};
 ghost use Rattle.queries.specs.Kind.{any};
 ghost use Rattle.queries.specs.Live.{deletes};
-ghost use Rattle.queries.specs.Table.{mixed, hashFrom, fewHeads, placeOf, slotOf, Holds, deletedAt, takesAt, Deleted};
+ghost use Rattle.queries.specs.Table.{mixed, hashFrom, leastHeads, placeOf, slotOf, Holds, deletedAt, takesAt, Deleted};
 use crate::definition::is_deleted_at;
 use crate::definition::overwrites_at;
 
-// How many heads the smaller and the larger table have.
+// How many heads the three tables have.
+pub const LEAST: usize = 1024;
+
 pub const FEW: usize = 8192;
 
 pub const MANY: usize = 65536;
@@ -27,7 +29,7 @@ const ROOT_HASH: u32 = 47;
 
 // Enters a definition with a path, behind which so many are later, into its list.
 pub fn enter_at(heads: &mut [u32], links: &mut [u32], deleted: bool, path: &[u8], later: usize)
-    requires { ⌜ (fewHeads ≤ length (now heads)) × (later < length (now links)) × (length (now links) ≤ 65536) ⌝ }
+    requires { ⌜ (leastHeads ≤ length (now heads)) × (later < length (now links)) × (length (now links) ≤ 65536) ⌝ }
     ensures { λ _. ⌜ now (heads .exit) ≡ set (now (heads .entry)) (slotOf (length (now (heads .entry))) deleted (hashFrom 0 (now (path .entry)))) (later + 1) ⌝ }
     ensures { λ _. ⌜ now (links .exit) ≡ set (now (links .entry)) later (getD (now (heads .entry)) (slotOf (length (now (heads .entry))) deleted (hashFrom 0 (now (path .entry)))) 0) ⌝ }
 {
@@ -36,7 +38,7 @@ pub fn enter_at(heads: &mut [u32], links: &mut [u32], deleted: bool, path: &[u8]
 
 // The same, with the path's hash.
 pub fn enter(heads: &mut [u32], links: &mut [u32], deleted: bool, hash: u32, later: usize)
-    requires { ⌜ (fewHeads ≤ length (now heads)) × (later < length (now links)) × (length (now links) ≤ 65536) ⌝ }
+    requires { ⌜ (leastHeads ≤ length (now heads)) × (later < length (now links)) × (length (now links) ≤ 65536) ⌝ }
     ensures { λ _. ⌜ now (heads .exit) ≡ set (now (heads .entry)) (slotOf (length (now (heads .entry))) deleted hash) (later + 1) ⌝ }
     ensures { λ _. ⌜ now (links .exit) ≡ set (now (links .entry)) later (getD (now (heads .entry)) (slotOf (length (now (heads .entry))) deleted hash) 0) ⌝ }
 {
@@ -60,6 +62,9 @@ fn slot_of(heads: usize, deleted: bool, hash: u32) -> usize
 fn place_of(heads: usize, hash: u32) -> usize
     ensures { λ p. ⌜ p ≡ placeOf heads hash ⌝ }
 {
+    if heads < FEW {
+        return (hash % 512) as usize;
+    }
     if heads < MANY {
         return (hash % 4096) as usize;
     }
@@ -79,7 +84,7 @@ pub fn holds(
     hash: u32,
 ) -> bool
     requires { ⌜ Holds (defAt (now words) (now bytes)) (takesAt deleted (now path)) (now links) (now later) (getD (now heads) (slotOf (length (now heads)) deleted hash) 0) ⌝ }
-    requires { ⌜ (fewHeads ≤ length (now heads)) × (length (now later) ≤ length (now links)) ⌝ }
+    requires { ⌜ (leastHeads ≤ length (now heads)) × (length (now later) ≤ length (now links)) ⌝ }
     ensures { λ t. ⌜ t ≡ any (takesAt deleted (now (path .entry))) (map (defAt (now (words .entry)) (now (bytes .entry))) (now (later .entry))) ⌝ }
 {
     let slot = slot_of(heads.len(), deleted, hash);
@@ -135,7 +140,7 @@ pub fn look_above(
     path: &[u8],
 ) -> Above
     requires { ⌜ Deleted (defAt (now words) (now bytes)) (now heads) (now links) (now later) ⌝ }
-    requires { ⌜ (fewHeads ≤ length (now heads)) × (length (now later) ≤ length (now links)) ⌝ }
+    requires { ⌜ (leastHeads ≤ length (now heads)) × (length (now later) ≤ length (now links)) ⌝ }
     ensures { λ a. ⌜ a ≡ record { deleted = any (deletes (now (path .entry))) (map (defAt (now (words .entry)) (now (bytes .entry))) (now (later .entry))); hash = hashFrom 0 (now (path .entry)) } ⌝ }
 {
     let mut deleted = root_deleted(words, bytes, later, heads, links, path);
@@ -164,7 +169,7 @@ fn root_deleted(
     path: &[u8],
 ) -> bool
     requires { ⌜ Deleted (defAt (now words) (now bytes)) (now heads) (now links) (now later) ⌝ }
-    requires { ⌜ (fewHeads ≤ length (now heads)) × (length (now later) ≤ length (now links)) ⌝ }
+    requires { ⌜ (leastHeads ≤ length (now heads)) × (length (now later) ≤ length (now links)) ⌝ }
     ensures { λ t. ⌜ t ≡ cond (startsWith slash (now (path .entry))) (any (deletedAt root) (map (defAt (now (words .entry)) (now (bytes .entry))) (now (later .entry)))) false ⌝ }
 {
     if path.len() == 0 {
@@ -197,7 +202,7 @@ fn or_deleted(
     found: bool,
 ) -> bool
     requires { ⌜ Deleted (defAt (now words) (now bytes)) (now heads) (now links) (now later) ⌝ }
-    requires { ⌜ (fewHeads ≤ length (now heads)) × (length (now later) ≤ length (now links)) ⌝ }
+    requires { ⌜ (leastHeads ≤ length (now heads)) × (length (now later) ≤ length (now links)) ⌝ }
     requires { ⌜ hash ≡ hashFrom 0 (now path) ⌝ }
     ensures { λ t. ⌜ t ≡ cond found true (any (deletedAt (now (path .entry))) (map (defAt (now (words .entry)) (now (bytes .entry))) (now (later .entry)))) ⌝ }
 {

@@ -9,17 +9,19 @@ ghost use Rattle.log.specs.Record.{logCount};
 ghost use Rattle.log.specs.ReadBack.{chainOf, defAt};
 ghost use Rattle.queries.specs.Live.{isLive};
 ghost use Rattle.queries.specs.Query.{liveNumbers};
-ghost use Rattle.queries.specs.Table.{fewHeads, Table, Room, fitted};
+ghost use Rattle.queries.specs.Table.{leastHeads, fewHeads, Table, Room, fitted};
 use crate::definition::DELETED_NODE;
 use crate::definition::DELETED_PROPERTY;
 use crate::definition::PROPERTY;
 use crate::definition::goes_on;
 use crate::later::FEW;
+use crate::later::LEAST;
 use crate::later::MANY;
 use crate::later::enter;
 use crate::later::enter_at;
 use crate::later::holds;
 use crate::later::look_above;
+use crate::list::fit;
 use log::record::first_text;
 use log::record::kind_of;
 use log::record::log_count;
@@ -27,12 +29,15 @@ use log::record::next_of;
 use paths_numbers::mir::lies_under;
 
 // How many definitions of a chain are live under a base. Their record numbers are written to the
-// start of a list, latest first, if it has room for them. Each call sets up four arrays: 1 MB, or
-// 128 KB for a log of at most 8,192 records.
+// start of a list, latest first, if it has room for them. Each call sets up four arrays: 1 MB, 128 KB
+// for a log of at most 8,192 records, or 16 KB for one of at most 1,024.
 pub fn live_list(words: &[u32], bytes: &[u8], first: u32, base: &[u8], list: &mut [u32]) -> u32
     ensures { λ n. ⌜ n ≡ length (liveNumbers (defAt (now (words .entry)) (now (bytes .entry))) (now (base .entry)) (chainOf (now (words .entry)) first)) ⌝ }
     ensures { λ _. ⌜ now (list .exit) ≡ fitted (now (list .entry)) (liveNumbers (defAt (now (words .entry)) (now (bytes .entry))) (now (base .entry)) (chainOf (now (words .entry)) first)) ⌝ }
 {
+    if log_count(words) as usize <= LEAST {
+        return live_list_least(words, bytes, first, base, list);
+    }
     if log_count(words) as usize <= FEW {
         return live_list_few(words, bytes, first, base, list);
     }
@@ -76,6 +81,29 @@ fn live_list_few(words: &[u32], bytes: &[u8], first: u32, base: &[u8], list: &mu
     )
 }
 
+// The same of a log of the fewest records.
+fn live_list_least(words: &[u32], bytes: &[u8], first: u32, base: &[u8], list: &mut [u32]) -> u32
+    requires { ⌜ logCount (now words) ≤ leastHeads ⌝ }
+    ensures { λ n. ⌜ n ≡ length (liveNumbers (defAt (now (words .entry)) (now (bytes .entry))) (now (base .entry)) (chainOf (now (words .entry)) first)) ⌝ }
+    ensures { λ _. ⌜ now (list .exit) ≡ fitted (now (list .entry)) (liveNumbers (defAt (now (words .entry)) (now (bytes .entry))) (now (base .entry)) (chainOf (now (words .entry)) first)) ⌝ }
+{
+    let mut order = [0u32; LEAST];
+    let mut heads = [0u32; LEAST];
+    let mut links = [0u32; LEAST];
+    let mut live = [0u32; LEAST];
+    live_list_by(
+        words,
+        bytes,
+        first,
+        base,
+        list,
+        &mut order,
+        &mut heads,
+        &mut links,
+        &mut live,
+    )
+}
+
 // The same, with room for the chain in order, for a table of zeros and for the answers.
 fn live_list_by(
     words: &[u32],
@@ -94,11 +122,7 @@ fn live_list_by(
 {
     let n = chain_order(words, first, order);
     let count = live_of(words, bytes, base, &order[..n], heads, links, live);
-    if list.len() < count {
-        return count as u32;
-    }
-    copy(list, &live[..count]);
-    count as u32
+    fit(list, &live[..count])
 }
 
 // Writes the record numbers of a chain to the start of a list, and returns how many there are.
@@ -159,7 +183,7 @@ fn pass(
     links: &mut [u32],
 ) -> bool
     requires { ⌜ Table (defAt (now words) (now bytes)) (now base) (length (now heads)) (now heads) (now links) (now later) ⌝ }
-    requires { ⌜ (fewHeads ≤ length (now heads)) × (length (now later) < length (now links)) × (length (now links) ≤ 65536) ⌝ }
+    requires { ⌜ (leastHeads ≤ length (now heads)) × (length (now later) < length (now links)) × (length (now links) ≤ 65536) ⌝ }
     ensures { λ t. ⌜ t ≡ isLive (now (base .entry)) (defAt (now (words .entry)) (now (bytes .entry)) r) (map (defAt (now (words .entry)) (now (bytes .entry))) (now (later .entry))) ⌝ }
     ensures { λ _. ⌜ Table (defAt (now (words .entry)) (now (bytes .entry))) (now (base .entry)) (length (now (heads .exit))) (now (heads .exit)) (now (links .exit)) (r ∷ now (later .entry)) ⌝ }
 {
@@ -186,16 +210,4 @@ fn pass(
         return false;
     }
     !overwritten
-}
-
-// Writes numbers to the start of a list.
-fn copy(list: &mut [u32], numbers: &[u32])
-    requires { ⌜ length (now numbers) ≤ length (now list) ⌝ }
-    ensures { λ _. ⌜ now (list .exit) ≡ written (now (list .entry)) 0 (now (numbers .entry)) ⌝ }
-{
-    let mut i = 0;
-    while i < numbers.len() {
-        list[i] = numbers[i];
-        i += 1;
-    }
 }

@@ -3,31 +3,25 @@
 ghost use mathlib.Core.Path.{_≡_};
 ghost use mathlib.Core.Bool.{true, false};
 ghost use mathlib.Core.List.{List};
-ghost use Prim.Native.Nat.{ℕ, _≤_};
-ghost use lib.ListN.{length};
-ghost use Rattle.paths_numbers.specs.Text.{written};
+ghost use Prim.Native.Nat.{ℕ};
 ghost use Rattle.paths_numbers.specs.Path.{joined};
-ghost use Rattle.log.specs.ReadBack.{chainOf, defAt, readDefs};
+ghost use Rattle.log.specs.ReadBack.{defAt, readDefs};
 ghost use Rattle.queries.specs.Kind.{any, setsOverlay};
 ghost use Rattle.queries.specs.Live.{deletes, live, nodeAt, containsNode};
 ghost use Rattle.queries.specs.Labels.{hasLabelAt};
-ghost use Rattle.queries.specs.Query.{historyNumbers};
-ghost use Rattle.queries.specs.Pass.{foundAfter, isListed, definedAfter};
+ghost use Rattle.queries.specs.Pass.{foundAfter};
 use crate::definition::PLUGIN;
-use crate::definition::defined_by;
 use crate::definition::deletes_above;
 use crate::definition::deletes_above_path;
 use crate::definition::goes_on;
 use crate::definition::has_label_at;
 use crate::definition::is_node_at;
 use crate::definition::is_node_at_path;
-use log::record::first_text;
 use log::record::kind_of;
 use log::record::log_count;
 use log::record::next_of;
 use paths_numbers::dt_node::lies_under_path;
 use paths_numbers::mir::lies_under;
-use paths_numbers::text::equals;
 
 // Whether a chain has a live node at a path.
 pub fn contains_node_in(words: &[u32], bytes: &[u8], first: u32, path: &[u8]) -> bool
@@ -131,76 +125,6 @@ fn unbinds_in(words: &[u32], bytes: &[u8], first: u32, label: &[u8], path: &[u8]
         left -= 1;
     }
     found
-}
-
-// How many definitions of a chain a path's history has.
-pub fn history_count(words: &[u32], bytes: &[u8], first: u32, path: &[u8]) -> u32
-    ensures { λ n. ⌜ n ≡ length (historyNumbers (defAt (now (words .entry)) (now (bytes .entry))) false (now (path .entry)) (chainOf (now (words .entry)) first)) ⌝ }
-{
-    let mut count: u32 = 0;
-    let mut defined = false;
-    let mut r = first;
-    let mut left = log_count(words);
-    while goes_on(words, r, left) {
-        let passed = history_at(words, bytes, r, path, defined);
-        if passed.listed {
-            count += 1;
-        }
-        defined = passed.defined;
-        r = next_of(words, r);
-        left -= 1;
-    }
-    count
-}
-
-// Writes the record numbers of a path's history to the start of a list, earliest first.
-pub(crate) fn history_fill(words: &[u32], bytes: &[u8], first: u32, path: &[u8], list: &mut [u32])
-    requires { ⌜ length (historyNumbers (defAt (now words) (now bytes)) false (now path) (chainOf (now words) first)) ≤ length (now list) ⌝ }
-    ensures { λ _. ⌜ now (list .exit) ≡ written (now (list .entry)) 0 (historyNumbers (defAt (now (words .entry)) (now (bytes .entry))) false (now (path .entry)) (chainOf (now (words .entry)) first)) ⌝ }
-{
-    let mut count = 0;
-    let mut defined = false;
-    let mut r = first;
-    let mut left = log_count(words);
-    while goes_on(words, r, left) {
-        let passed = history_at(words, bytes, r, path, defined);
-        if passed.listed {
-            list[count] = r;
-            count += 1;
-        }
-        defined = passed.defined;
-        r = next_of(words, r);
-        left -= 1;
-    }
-}
-
-// What becomes of a path's history at a definition.
-struct Passed {
-    listed: bool,
-    defined: bool,
-}
-
-// Whether a definition is in a path's history, and whether the path is defined after it.
-fn history_at(words: &[u32], bytes: &[u8], r: u32, path: &[u8], defined: bool) -> Passed
-    ensures { λ p. ⌜ p ≡ record { listed = isListed (now (path .entry)) (defAt (now (words .entry)) (now (bytes .entry)) r) defined; defined = definedAfter (now (path .entry)) (defAt (now (words .entry)) (now (bytes .entry)) r) defined } ⌝ }
-{
-    if equals(first_text(words, bytes, r), path) {
-        return Passed {
-            listed: true,
-            defined: defined_by(words, bytes, r, defined),
-        };
-    }
-    if !defined {
-        return Passed {
-            listed: false,
-            defined: false,
-        };
-    }
-    let deleted = deletes_above(words, bytes, r, path);
-    Passed {
-        listed: deleted,
-        defined: !deleted,
-    }
 }
 
 // Whether a live node at a path is found after a definition.

@@ -2,12 +2,11 @@
 ghost use mathlib.Core.Path.{_≡_};
 ghost use lib.ListN.{length};
 ghost use Rattle.paths_numbers.specs.Path.{goodPath};
-ghost use Rattle.queries.specs.Query.{goodAnswer, queryAnswer, queryOut, liveAnswers, historyAnswers, containsAnswer};
+ghost use Rattle.queries.specs.Query.{goodAnswer, countAnswer, queryAnswer, queryOut, liveAnswers, historyAnswers, containsAnswer};
 ghost use Rattle.queries.specs.Answer.{told, refusal};
+use crate::history::history_list;
 use crate::live::live_list;
 use crate::mir::contains_node_in;
-use crate::mir::history_count;
-use crate::mir::history_fill;
 use log::record::out_field;
 use log::sound::Soundness;
 use log::sound::check_log;
@@ -30,16 +29,7 @@ pub fn iter_live_defs_under(words: &[u32], bytes: &[u8], base: &[u8], list: &mut
     }
     let first = out_field(words, 0, 1);
     let count = live_list(words, bytes, first, base, list);
-    if list.len() < count as usize {
-        return Answer {
-            number: 10,
-            returned: count,
-        };
-    }
-    Answer {
-        number: 0,
-        returned: count,
-    }
+    list_answer(list.len(), count)
 }
 
 // The history of a path, earliest first, by record numbers.
@@ -52,14 +42,20 @@ pub fn history(words: &[u32], bytes: &[u8], path: &[u8], list: &mut [u32]) -> An
         return refusal;
     }
     let first = out_field(words, 0, 1);
-    let count = history_count(words, bytes, first, path);
-    if list.len() < count as usize {
+    let count = history_list(words, bytes, first, path, list);
+    list_answer(list.len(), count)
+}
+
+// Row 10: how many answers there are, and whether a list with this room holds them.
+fn list_answer(room: usize, count: u32) -> Answer
+    ensures { λ r. ⌜ told r ≡ countAnswer room count ⌝ }
+{
+    if room < count as usize {
         return Answer {
             number: 10,
             returned: count,
         };
     }
-    history_fill(words, bytes, first, path, list);
     Answer {
         number: 0,
         returned: count,

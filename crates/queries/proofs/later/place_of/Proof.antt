@@ -1,4 +1,4 @@
--- By whether there are many heads.
+-- By how many heads there are.
 use mathlib.Core.Path.{refl}
 use borrow.Author.Tests.{lt-ltb, le-ltb}
 use Rattle.queries.specs.Table.{placeOf}
@@ -18,7 +18,14 @@ cast-result-2 c = search needs
 
 returns-2 : tie.Need-returns-2
 unfolding placeOf
-returns-2 c = rw (le-ltb _ _ (c .if1 .left)) refl
+returns-2 c = rw (le-ltb _ _ (c .before .if1 .left), lt-ltb _ _ (c .if2 .taken)) refl
+
+cast-result-3 : tie.Need-cast-result-3
+cast-result-3 c = search needs
+
+returns-3 : tie.Need-returns-3
+unfolding placeOf
+returns-3 c = rw (le-ltb _ _ (c .before .if1 .left), le-ltb _ _ (c .if2 .left)) refl
 
 pub place-of-spec : {M : Type 1} → statement M
-place-of-spec = tie.close (tie.spec cast-result returns cast-result-2 returns-2)
+place-of-spec = tie.close (tie.spec cast-result returns cast-result-2 returns-2 cast-result-3 returns-3)

@@ -1,15 +1,15 @@
--- The chain in order is the part of its array that is lent on; the answers are written if they fit (Numbers).
+-- The chain in order is the part of its array that is lent on; the answers are collected in another, whose part is fitted into the list (Numbers: collected-part).
 use mathlib.Core.Path.{sym, ap, _∙_}
 use native.Mathlib.Omega.{arith}
 use lib.ListN.{length, take}
 use lib.Seq.{length-take-le}
-use Rattle.paths_numbers.specs.Text.{written}
 use Rattle.log.specs.Record.{logCount}
 use Rattle.log.specs.ReadBack.{chainOf, defAt}
 use Rattle.queries.specs.Query.{liveNumbers}
+use Rattle.queries.specs.Table.{fitted}
 use Rattle.queries.proofs.Chain.{count-most, chain-most}
 use Rattle.queries.proofs.Table.{room-part}
-use Rattle.queries.proofs.Numbers.{live-most, written-start, fitted-full, fitted-short}
+use Rattle.queries.proofs.Numbers.{live-most, written-start, collected-part}
 use borrow.Author.Needs.{needs}
 use Rattle.queries.proofs.live.live_list_by.Statement.{statement}
 use Rattle.queries.proofs.live.live_list_by.Tie as tie
@@ -42,17 +42,38 @@ live-of-requires c κs =
     let e = ap (take (o .result)) (o .ensures .1) ∙ written-start (a .order .now) (chainOf (a .words .now) (a .first)) (o .result) (o .ensures .0) in
     room-part (logCount (a .words .now)) (a .order .now) (a .heads .now) (a .links .now) (a .live .now) _ p (omega (arith, n, ap length e))
 
-cast-result : tie.Need-cast-result
-cast-result c =
-    let a = c .before .before .before .before .before .before .before .before .before .before .before .before .before .before .before .before .before .before .before .before .before .before .before .before .args in
-    let p = c .before .before .before .before .before .before .before .before .before .before .before .before .before .before .before .before .before .before .before .before .before .before .before .before .pre in
+slice-reshare-prefix-fit : tie.Need-slice-reshare-prefix-fit
+slice-reshare-prefix-fit c =
+    let s = c .before .before .before .before .before .before .before .before .before .before .before .before .before .before .before .before .before .before .before .before .before .before .before .before in
+    let a = s .args in
     let o = c .before .before .before .before .before .before .before .before .before .before .before .before .before .before .chain-order in
-    let n = chain-most (a .words .now) (a .first) in
-    let e = ap (take (o .result)) (o .ensures .1) ∙ written-start (a .order .now) (chainOf (a .words .now) (a .first)) (o .result) (o .ensures .0) in
-    let q = rw e at (c .before .before .before .before .before .before .before .live-of .ensures) in
+    let v = c .before .before .before .before .before .before .before .live-of in
+    let q = rw (collected-part (a .order .now) (chainOf (a .words .now) (a .first)) _ (o .result) (o .ensures .1) (o .ensures .0)) at (v .ensures) in
     let m = live-most (defAt (a .words .now) (a .bytes .now)) (a .base .now) (chainOf (a .words .now) (a .first)) in
-    let k = count-most (a .words .now) in
-    omega (arith, q .0, m, n, k)
+    let n = chain-most (a .words .now) (a .first) in
+    omega (arith, q .0, m, n, v .kept .1 .1 .1 .1 .1 .1 .0, s .pre .forLive)
+
+slice-aggregate-fit : tie.Need-slice-aggregate-fit
+slice-aggregate-fit c =
+    let s = c .before .before .before .before .before .before .before .before .before .before .before .before .before .before .before .before .before .before .before .before .before .before .before .before .before in
+    let a = s .args in
+    let o = c .before .before .before .before .before .before .before .before .before .before .before .before .before .before .before .chain-order in
+    let v = c .before .before .before .before .before .before .before .before .live-of in
+    let q = rw (collected-part (a .order .now) (chainOf (a .words .now) (a .first)) _ (o .result) (o .ensures .1) (o .ensures .0)) at (v .ensures) in
+    let m = live-most (defAt (a .words .now) (a .bytes .now)) (a .base .now) (chainOf (a .words .now) (a .first)) in
+    let n = chain-most (a .words .now) (a .first) in
+    sym (length-take-le _ _ (omega (arith, q .0, m, n, v .kept .1 .1 .1 .1 .1 .1 .0, s .pre .forLive)))
+
+fit-requires : tie.Need-fit-requires
+fit-requires c κs =
+    let s = c .before .before .before .before .before .before .before .before .before .before .before .before .before .before .before .before .before .before .before .before .before .before .before .before .before in
+    let a = s .args in
+    let o = c .before .before .before .before .before .before .before .before .before .before .before .before .before .before .before .chain-order in
+    let v = c .before .before .before .before .before .before .before .before .live-of in
+    let q = rw (collected-part (a .order .now) (chainOf (a .words .now) (a .first)) _ (o .result) (o .ensures .1) (o .ensures .0)) at (v .ensures) in
+    let m = live-most (defAt (a .words .now) (a .bytes .now)) (a .base .now) (chainOf (a .words .now) (a .first)) in
+    let n = chain-most (a .words .now) (a .first) in
+    omega (arith, m, n, count-most (a .words .now), ap length (collected-part (a .live .now) (liveNumbers (defAt (a .words .now) (a .bytes .now)) (a .base .now) (chainOf (a .words .now) (a .first))) _ (v .result) (q .1) (q .0)))
 
 same-length : tie.Need-same-length
 same-length c = search needs
@@ -66,92 +87,18 @@ same-length-3 c = search needs
 same-length-4 : tie.Need-same-length-4
 same-length-4 c = search needs
 
-returns : tie.Need-returns
-returns c =
-    let a = c .before .before .before .before .before .before .before .before .before .before .before .before .before .before .before .before .before .before .before .before .before .before .before .before .args in
-    let p = c .before .before .before .before .before .before .before .before .before .before .before .before .before .before .before .before .before .before .before .before .before .before .before .before .pre in
-    let o = c .before .before .before .before .before .before .before .before .before .before .before .before .before .before .chain-order in
-    let n = chain-most (a .words .now) (a .first) in
-    let e = ap (take (o .result)) (o .ensures .1) ∙ written-start (a .order .now) (chainOf (a .words .now) (a .first)) (o .result) (o .ensures .0) in
-    let q = rw e at (c .before .before .before .before .before .before .before .live-of .ensures) in
-    let m = live-most (defAt (a .words .now) (a .bytes .now)) (a .base .now) (chainOf (a .words .now) (a .first)) in
-    let k = count-most (a .words .now) in
-    (q .0, fitted-short (a .list .now) (liveNumbers (defAt (a .words .now) (a .bytes .now)) (a .base .now) (chainOf (a .words .now) (a .first))) (omega (arith, q .0)))
-
-slice-reshare-prefix-copy : tie.Need-slice-reshare-prefix-copy
-slice-reshare-prefix-copy c =
-    let a = c .before .before .before .before .before .before .before .before .before .before .before .before .before .before .before .before .before .before .before .before .before .before .before .before .before .args in
-    let p = c .before .before .before .before .before .before .before .before .before .before .before .before .before .before .before .before .before .before .before .before .before .before .before .before .before .pre in
-    let o = c .before .before .before .before .before .before .before .before .before .before .before .before .before .before .before .chain-order in
-    let n = chain-most (a .words .now) (a .first) in
-    let e = ap (take (o .result)) (o .ensures .1) ∙ written-start (a .order .now) (chainOf (a .words .now) (a .first)) (o .result) (o .ensures .0) in
-    let q = rw e at (c .before .before .before .before .before .before .before .before .live-of .ensures) in
-    let m = live-most (defAt (a .words .now) (a .bytes .now)) (a .base .now) (chainOf (a .words .now) (a .first)) in
-    let k = count-most (a .words .now) in
-    omega (arith, q .0, m, n, c .before .before .before .before .before .before .before .before .live-of .kept .1 .1 .1 .1 .1 .1 .0, p .forLive)
-
-slice-aggregate-copy : tie.Need-slice-aggregate-copy
-slice-aggregate-copy c =
-    let a = c .before .before .before .before .before .before .before .before .before .before .before .before .before .before .before .before .before .before .before .before .before .before .before .before .before .before .args in
-    let p = c .before .before .before .before .before .before .before .before .before .before .before .before .before .before .before .before .before .before .before .before .before .before .before .before .before .before .pre in
-    let o = c .before .before .before .before .before .before .before .before .before .before .before .before .before .before .before .before .chain-order in
-    let n = chain-most (a .words .now) (a .first) in
-    let e = ap (take (o .result)) (o .ensures .1) ∙ written-start (a .order .now) (chainOf (a .words .now) (a .first)) (o .result) (o .ensures .0) in
-    let q = rw e at (c .before .before .before .before .before .before .before .before .before .live-of .ensures) in
-    let m = live-most (defAt (a .words .now) (a .bytes .now)) (a .base .now) (chainOf (a .words .now) (a .first)) in
-    let k = count-most (a .words .now) in
-    sym (length-take-le _ _ (omega (arith, q .0, m, n, c .before .before .before .before .before .before .before .before .before .live-of .kept .1 .1 .1 .1 .1 .1 .0, p .forLive)))
-
-copy-requires : tie.Need-copy-requires
-copy-requires c κs =
-    let a = c .before .before .before .before .before .before .before .before .before .before .before .before .before .before .before .before .before .before .before .before .before .before .before .before .before .before .args in
-    let p = c .before .before .before .before .before .before .before .before .before .before .before .before .before .before .before .before .before .before .before .before .before .before .before .before .before .before .pre in
-    let o = c .before .before .before .before .before .before .before .before .before .before .before .before .before .before .before .before .chain-order in
-    let n = chain-most (a .words .now) (a .first) in
-    let e = ap (take (o .result)) (o .ensures .1) ∙ written-start (a .order .now) (chainOf (a .words .now) (a .first)) (o .result) (o .ensures .0) in
-    let q = rw e at (c .before .before .before .before .before .before .before .before .before .live-of .ensures) in
-    let m = live-most (defAt (a .words .now) (a .bytes .now)) (a .base .now) (chainOf (a .words .now) (a .first)) in
-    let k = count-most (a .words .now) in
-    omega (arith, q .0, ap length (ap (take (c .before .before .before .before .before .before .before .before .before .live-of .result)) (q .1) ∙ written-start (a .live .now) (liveNumbers (defAt (a .words .now) (a .bytes .now)) (a .base .now) (chainOf (a .words .now) (a .first))) (c .before .before .before .before .before .before .before .before .before .live-of .result) (q .0)))
-
-cast-result-2 : tie.Need-cast-result-2
-cast-result-2 c =
-    let a = c .before .before .before .before .before .before .before .before .before .before .before .before .before .before .before .before .before .before .before .before .before .before .before .before .before .before .before .before .before .args in
-    let p = c .before .before .before .before .before .before .before .before .before .before .before .before .before .before .before .before .before .before .before .before .before .before .before .before .before .before .before .before .before .pre in
-    let o = c .before .before .before .before .before .before .before .before .before .before .before .before .before .before .before .before .before .before .before .chain-order in
-    let n = chain-most (a .words .now) (a .first) in
-    let e = ap (take (o .result)) (o .ensures .1) ∙ written-start (a .order .now) (chainOf (a .words .now) (a .first)) (o .result) (o .ensures .0) in
-    let q = rw e at (c .before .before .before .before .before .before .before .before .before .before .before .before .live-of .ensures) in
-    let m = live-most (defAt (a .words .now) (a .bytes .now)) (a .base .now) (chainOf (a .words .now) (a .first)) in
-    let k = count-most (a .words .now) in
-    omega (arith, q .0, m, n, k)
-
 same-length-5 : tie.Need-same-length-5
 same-length-5 c = search needs
 
-same-length-6 : tie.Need-same-length-6
-same-length-6 c = search needs
-
-same-length-7 : tie.Need-same-length-7
-same-length-7 c = search needs
-
-same-length-8 : tie.Need-same-length-8
-same-length-8 c = search needs
-
-same-length-9 : tie.Need-same-length-9
-same-length-9 c = search needs
-
-returns-2 : tie.Need-returns-2
-returns-2 c =
-    let a = c .before .before .before .before .before .before .before .before .before .before .before .before .before .before .before .before .before .before .before .before .before .before .before .before .before .before .before .before .before .args in
-    let p = c .before .before .before .before .before .before .before .before .before .before .before .before .before .before .before .before .before .before .before .before .before .before .before .before .before .before .before .before .before .pre in
-    let o = c .before .before .before .before .before .before .before .before .before .before .before .before .before .before .before .before .before .before .before .chain-order in
-    let n = chain-most (a .words .now) (a .first) in
-    let e = ap (take (o .result)) (o .ensures .1) ∙ written-start (a .order .now) (chainOf (a .words .now) (a .first)) (o .result) (o .ensures .0) in
-    let q = rw e at (c .before .before .before .before .before .before .before .before .before .before .before .before .live-of .ensures) in
-    let m = live-most (defAt (a .words .now) (a .bytes .now)) (a .base .now) (chainOf (a .words .now) (a .first)) in
-    let k = count-most (a .words .now) in
-    (q .0, c .before .before .copy .ensures ∙ ap (written (a .list .now) 0) (ap (take (c .before .before .before .before .before .before .before .before .before .before .before .before .live-of .result)) (q .1) ∙ written-start (a .live .now) (liveNumbers (defAt (a .words .now) (a .bytes .now)) (a .base .now) (chainOf (a .words .now) (a .first))) _ (q .0)) ∙ fitted-full (a .list .now) (liveNumbers (defAt (a .words .now) (a .bytes .now)) (a .base .now) (chainOf (a .words .now) (a .first))) (omega (arith, q .0)))
+returns : tie.Need-returns
+returns c =
+    let a = c .before .before .before .before .before .before .before .before .before .before .before .before .before .before .before .before .before .before .before .before .before .before .before .before .before .before .before .before .args in
+    let o = c .before .before .before .before .before .before .before .before .before .before .before .before .before .before .before .before .before .before .chain-order in
+    let v = c .before .before .before .before .before .before .before .before .before .before .before .live-of in
+    let q = rw (collected-part (a .order .now) (chainOf (a .words .now) (a .first)) _ (o .result) (o .ensures .1) (o .ensures .0)) at (v .ensures) in
+    let e = collected-part (a .live .now) (liveNumbers (defAt (a .words .now) (a .bytes .now)) (a .base .now) (chainOf (a .words .now) (a .first))) _ (v .result) (q .1) (q .0) in
+    let f = c .before .before .fit in
+    (f .ensures .0 ∙ ap length e, f .ensures .1 ∙ ap (fitted (a .list .now)) e)
 
 pub live-list-by-spec : {M : Type 1} → statement M
 live-list-by-spec =
@@ -161,19 +108,12 @@ live-list-by-spec =
     slice-reshare-prefix-live-of
     slice-aggregate-live-of
     live-of-requires
-    cast-result
+    slice-reshare-prefix-fit
+    slice-aggregate-fit
+    fit-requires
     same-length
     same-length-2
     same-length-3
     same-length-4
-    returns
-    slice-reshare-prefix-copy
-    slice-aggregate-copy
-    copy-requires
-    cast-result-2
     same-length-5
-    same-length-6
-    same-length-7
-    same-length-8
-    same-length-9
-    returns-2)
+    returns)

@@ -1,10 +1,9 @@
 -- Rows 8 and 9 first, then row 10 (Answers).
 use mathlib.Core.Path.{ap, _∙_}
-use native.Mathlib.Omega.{arith}
 use lib.ListN.{length}
 use Rattle.queries.specs.Query.{liveAnswers}
 use Rattle.queries.specs.Table.{fitted}
-use Rattle.queries.proofs.Answers.{refused-answer, refused-out, short-answer, full-answer, fitted-out, live-of}
+use Rattle.queries.proofs.Answers.{refused-answer, refused-out, listed-answer, fitted-out, live-of}
 use borrow.Author.Needs.{needs}
 use Rattle.queries.proofs.query.iter_live_defs_under.Statement.{statement}
 use Rattle.queries.proofs.query.iter_live_defs_under.Tie as tie
@@ -14,12 +13,10 @@ refused-requires c κs = search needs
 
 returns : tie.Need-returns
 returns c =
-    let a = c .before .before .before .before .before .before .before .args in (
-      refused-answer (a .words .now) (a .bytes .now) (a .base .now) (a .list .now) (liveAnswers (a .words .now) (a .bytes .now) (a .base .now)) _
-          (c .before .before .refused .ensures) (c .if1 .taken),
-      refused-out (a .words .now) (a .bytes .now) (a .base .now) (a .list .now) (liveAnswers (a .words .now) (a .bytes .now) (a .base .now)) _
-          (c .before .before .refused .ensures) (c .if1 .taken),
-    )
+    let a = c .before .before .before .before .before .before .before .args in
+    let x = liveAnswers (a .words .now) (a .bytes .now) (a .base .now) in
+    let e = c .before .before .refused .ensures in
+    (refused-answer (a .words .now) (a .bytes .now) (a .base .now) (a .list .now) x _ e (c .if1 .taken), refused-out (a .words .now) (a .bytes .now) (a .base .now) (a .list .now) x _ e (c .if1 .taken))
 
 out-field-requires : tie.Need-out-field-requires
 out-field-requires c κs = search needs
@@ -27,8 +24,8 @@ out-field-requires c κs = search needs
 live-list-requires : tie.Need-live-list-requires
 live-list-requires c κs = search needs
 
-cast-if2 : tie.Need-cast-if2
-cast-if2 c = search needs
+list-answer-requires : tie.Need-list-answer-requires
+list-answer-requires c κs = search needs
 
 same-length : tie.Need-same-length
 same-length c = search needs
@@ -37,27 +34,11 @@ returns-2 : tie.Need-returns-2
 returns-2 c =
     let a = c .before .before .before .before .before .before .before .before .before .before .before .before .before .args in
     let of = live-of (a .words .now) (a .bytes .now) (a .base .now) _ (c .before .before .before .before .before .out-field .ensures) in
-    let l = c .before .before .before .live-list .ensures in
-    let k = c .before .before .before .live-list .kept .1 .1 .1 .1 .0 in (
-      short-answer (a .words .now) (a .bytes .now) (a .base .now) (a .list .now) _ _
-          (c .before .before .before .before .before .before .before .before .refused .ensures) _ (c .before .before .before .before .before .before .if1 .left) (l .0 ∙ ap length of) (omega arith),
-      fitted-out (a .words .now) (a .bytes .now) (a .base .now) (a .list .now) _ _
-          (c .before .before .before .before .before .before .before .before .refused .ensures) _ (c .before .before .before .before .before .before .if1 .left) (l .1 ∙ ap (fitted (a .list .now)) of),
-    )
-
-same-length-2 : tie.Need-same-length-2
-same-length-2 c = search needs
-
-returns-3 : tie.Need-returns-3
-returns-3 c =
-    let a = c .before .before .before .before .before .before .before .before .before .before .before .before .before .args in
-    let of = live-of (a .words .now) (a .bytes .now) (a .base .now) _ (c .before .before .before .before .before .out-field .ensures) in
-    let l = c .before .before .before .live-list .ensures in
-    let k = c .before .before .before .live-list .kept .1 .1 .1 .1 .0 in (
-      full-answer (a .words .now) (a .bytes .now) (a .base .now) (a .list .now) _ _
-          (c .before .before .before .before .before .before .before .before .refused .ensures) _ (c .before .before .before .before .before .before .if1 .left) (l .0 ∙ ap length of) (omega arith),
-      fitted-out (a .words .now) (a .bytes .now) (a .base .now) (a .list .now) _ _
-          (c .before .before .before .before .before .before .before .before .refused .ensures) _ (c .before .before .before .before .before .before .if1 .left) (l .1 ∙ ap (fitted (a .list .now)) of),
+    let e = c .before .before .before .before .before .before .before .before .refused .ensures in
+    let n = c .before .before .before .before .before .before .if1 .left in
+    let l = c .before .before .before .live-list in (
+      listed-answer (a .words .now) (a .bytes .now) (a .base .now) (a .list .now) _ _ e _ _ _ n (l .ensures .0 ∙ ap length of) (l .kept .1 .1 .1 .1 .0) (c .list-answer .ensures),
+      fitted-out (a .words .now) (a .bytes .now) (a .base .now) (a .list .now) _ _ e _ n (l .ensures .1 ∙ ap (fitted (a .list .now)) of),
     )
 
 pub iter-live-defs-under-spec : {M : Type 1} → statement M
@@ -68,8 +49,6 @@ iter-live-defs-under-spec =
     returns
     out-field-requires
     live-list-requires
-    cast-if2
+    list-answer-requires
     same-length
-    returns-2
-    same-length-2
-    returns-3)
+    returns-2)

@@ -11,8 +11,8 @@ use Rattle.queries.specs.Live.{deletes}
 use Rattle.queries.specs.Pass.{isListed, definedAfter}
 use Rattle.queries.proofs.Records.{path-at}
 use borrow.Author.Needs.{needs}
-use Rattle.queries.proofs.mir.history_at.Statement.{statement}
-use Rattle.queries.proofs.mir.history_at.Tie as tie
+use Rattle.queries.proofs.history.history_at.Statement.{statement}
+use Rattle.queries.proofs.history.history_at.Tie as tie
 
 first-text-requires : tie.Need-first-text-requires
 first-text-requires c κs = search needs

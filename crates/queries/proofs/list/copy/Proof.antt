@@ -7,8 +7,8 @@ use Rattle.paths_numbers.specs.Text.{written}
 use Rattle.paths_numbers.proofs.Written.{written-nil}
 use Rattle.queries.proofs.Numbers.{written-next}
 use borrow.Author.Needs.{needs}
-use Rattle.queries.proofs.live.copy.Statement.{statement}
-use Rattle.queries.proofs.live.copy.Tie as tie
+use Rattle.queries.proofs.list.copy.Statement.{statement}
+use Rattle.queries.proofs.list.copy.Tie as tie
 
 abbrev Inv-loop : tie.InvT-loop
 Inv-loop list₀ numbers i₀ list i = (i ≤ length numbers) × (length list ≡ length list₀) × (written list₀ 0 numbers ≡ written list i (drop i numbers))

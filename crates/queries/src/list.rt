@@ -1,0 +1,32 @@
+// The list that a caller lends for the answers.
+ghost use Prim.Native.Nat.{_≤_};
+ghost use mathlib.Core.Path.{_≡_};
+ghost use lib.ListN.{length};
+ghost use Rattle.paths_numbers.specs.Text.{written};
+ghost use Rattle.queries.specs.Table.{fitted};
+
+// Writes numbers to the start of a list if it has room for them, and returns how many there are.
+pub fn fit(list: &mut [u32], numbers: &[u32]) -> u32
+    requires { ⌜ length (now numbers) ≤ 65536 ⌝ }
+    ensures { λ n. ⌜ n ≡ length (now (numbers .entry)) ⌝ }
+    ensures { λ _. ⌜ now (list .exit) ≡ fitted (now (list .entry)) (now (numbers .entry)) ⌝ }
+{
+    let count = numbers.len() as u32;
+    if list.len() < numbers.len() {
+        return count;
+    }
+    copy(list, numbers);
+    count
+}
+
+// Writes numbers to the start of a list.
+fn copy(list: &mut [u32], numbers: &[u32])
+    requires { ⌜ length (now numbers) ≤ length (now list) ⌝ }
+    ensures { λ _. ⌜ now (list .exit) ≡ written (now (list .entry)) 0 (now (numbers .entry)) ⌝ }
+{
+    let mut i = 0;
+    while i < numbers.len() {
+        list[i] = numbers[i];
+        i += 1;
+    }
+}
