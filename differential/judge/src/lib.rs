@@ -16,6 +16,7 @@ pub mod library;
 pub mod listing_input;
 pub mod logs;
 pub mod measure;
+pub mod memory;
 pub mod notation;
 pub mod numbers;
 pub mod ours;

@@ -4,24 +4,10 @@ use std::{env, fs, io::Write, process::ExitCode};
 
 use judge::{
     answer::{Answer, Query},
-    by_01,
-    coverage::Coverage,
-    damaged, definitions, generate, listing_input, logs, notation, ours, panics, parts, recorded,
+    by_01, definitions, generate, listing_input, logs, memory, notation, ours, panics, parts, recorded,
     records::{self, RECORD, Records},
     speed, text_form, trees, worked,
 };
-
-/// Descriptions compared when no number is given.
-const CASES: u64 = 200_000;
-
-/// Damaged descriptions compared when no number is given.
-const DAMAGED: u64 = 100_000;
-
-/// Pairs of runs tried when no number is given, one in two to meet the premises of demand 3.
-const PAIRS: u64 = 40_000;
-
-/// Logs for which queries are compared when no number is given, as made and damaged.
-const LOGS: u64 = 120_000;
 
 /// Where the recorded sample is.
 const RECORDED: &str = concat!(env!("CARGO_MANIFEST_DIR"), "/../../crates/replay/data");
@@ -53,20 +39,20 @@ fn main() -> ExitCode {
 /// What the words ask for.
 fn command(words: &[&str]) -> Result<(), String> {
     match *words {
-        [] | ["all"] => all(CASES),
+        [] | ["all"] => all(parts::CASES),
         ["all", cases] => number(cases).and_then(all),
         ["worked", file] => worked::run(file),
         ["numbers"] => parts::closing(parts::numbers(), 0),
         ["small"] => parts::small(ours::library().as_ref()).and_then(|counts| parts::closing(counts, 0)),
         ["trees", from, cases] => part(descriptions, from, cases),
-        ["damaged"] => damaged_part(0, DAMAGED).and_then(|counts| parts::closing(counts, 0)),
+        ["damaged"] => damaged_part(0, parts::DAMAGED).and_then(|counts| parts::closing(counts, 0)),
         ["damaged", from, cases] => part(damaged_part, from, cases),
-        ["pairs"] => pairs_part(0, PAIRS).and_then(|counts| parts::closing(counts, 0)),
+        ["pairs"] => pairs_part(0, parts::PAIRS).and_then(|counts| parts::closing(counts, 0)),
         ["pairs", from, cases] => part(pairs_part, from, cases),
-        ["queries"] => queries_part(0, LOGS).and_then(|counts| parts::closing(counts, 0)),
+        ["queries"] => queries_part(0, parts::LOGS).and_then(|counts| parts::closing(counts, 0)),
         ["queries", from, logs] => part(queries_part, from, logs),
-        ["sample", from, logs] => number(from).and_then(|from| sample(from, number(logs)?)),
-        ["built"] => built(),
+        ["memory", program] => memory::run(program, None),
+        ["memory", program, cases] => number(cases).and_then(|cases| memory::run(program, Some(cases))),
         ["speed"] => speed_part(),
         ["planted"] => planted_part(),
         ["ask", description] => ask(description),
@@ -104,10 +90,10 @@ fn all(cases: u64) -> Result<(), String> {
     let mut counts =
         vec![parts::numbers(), parts::small(ours.as_ref())?, descriptions(0, cases)?, parts::sentences()];
     if let Some(ours) = &ours {
-        counts.push(parts::damaged(ours, 0, DAMAGED)?);
-        counts.push(parts::pairs(ours, 0, PAIRS)?);
+        counts.push(parts::damaged(ours, 0, parts::DAMAGED)?);
+        counts.push(parts::pairs(ours, 0, parts::PAIRS)?);
     }
-    counts.push(queries_part(0, LOGS)?);
+    counts.push(queries_part(0, parts::LOGS)?);
     planted_part()?;
     println!("{}", recorded::check(RECORDED)?);
     let sum = |total: parts::Counts, part: &parts::Counts| (total.0 + part.0, total.1 + part.1);
@@ -137,28 +123,6 @@ fn queries_part(from: u64, logs: u64) -> Result<parts::Counts, String> {
         return Ok((0, 0));
     };
     parts::queries(&ours, from, logs)
-}
-
-/// A sample of the same without the reports, for `memory`: lowering good, damaged and short of room.
-fn sample(from: u64, logs: u64) -> Result<(), String> {
-    let ours = ours::queries().ok_or(NO_QUERIES)?;
-    let counts = logs::compare(&ours, from, logs, &mut logs::wanted());
-    println!("{}", counts.line());
-    let Some(ours) = ours::library() else {
-        println!("{NO_LOWERING}: it is not looked at");
-        return parts::closing((counts.calls, counts.different), 0);
-    };
-    let lowered = trees::compare(Some(&ours), from, logs / 4, &mut Coverage::empty());
-    println!("{} descriptions lowered, {} different", lowered.lowered, lowered.lowered_different);
-    let damaged = damaged::compare(&ours, from, logs, &mut Coverage::empty());
-    println!("{}", damaged.line());
-    let different = counts.different + lowered.lowered_different + damaged.different;
-    parts::closing((counts.calls + lowered.lowered + damaged.inputs, different), 0)
-}
-
-/// Whether the program was built with our queries.
-fn built() -> Result<(), String> {
-    ours::queries().map(|_| ()).ok_or(NO_QUERIES.to_owned())
 }
 
 /// The tables of queries, and those of lowering if it is there.

@@ -14,6 +14,18 @@ use crate::{
 /// How many were compared, and how many differ.
 pub type Counts = (u64, u64);
 
+/// Descriptions compared when no number is given.
+pub const CASES: u64 = 200_000;
+
+/// Damaged descriptions compared when no number is given.
+pub const DAMAGED: u64 = 100_000;
+
+/// Pairs of runs tried when no number is given, one in two to meet the premises of demand 3.
+pub const PAIRS: u64 = 40_000;
+
+/// Logs for which queries are compared when no number is given, as made and damaged.
+pub const LOGS: u64 = 120_000;
+
 /// Descriptions for which 01's sentences are compared as a whole side.
 const BY_01: u64 = 4_000;
 
@@ -23,10 +35,10 @@ pub fn closing((compared, different): Counts, aside: u64) -> Result<(), String> 
     if different == 0 { Ok(()) } else { Err("there are differences".to_owned()) }
 }
 
-/// Prints a coverage report; fails if something never came up.
-fn reported(coverage: &Coverage, of: &str) -> Result<(), String> {
+/// Prints a coverage report and what was counted, at one go; fails if something never came up.
+fn reported(coverage: &Coverage, of: &str, counted: &str) -> Result<(), String> {
     let (report, missing) = coverage.report();
-    print!("{report}");
+    println!("{report}{counted}");
     if missing.is_empty() { Ok(()) } else { Err(format!("never came up in {of}: {}", missing.join(", "))) }
 }
 
@@ -68,15 +80,15 @@ pub fn descriptions(side: Option<&Library>, from: u64, cases: u64) -> Result<Cou
     println!("descriptions, the Rust against {against}:");
     let mut coverage = Coverage::of_descriptions();
     let counts = trees::compare(side, from, cases, &mut coverage);
-    let complete = reported(&coverage, &format!("{cases} cases"));
-    println!(
+    let mut counted = format!(
         "{} descriptions with {} records and {} queries, {} different; {} diagnostics by 01's rule (codes 9, 24 to 26)",
         counts.compared, counts.records, counts.queries, counts.different, counts.by_rule
     );
     if side.is_some() {
-        println!("{} of them lowered by ours, {} different", counts.lowered, counts.lowered_different);
+        let (lowered, different) = (counts.lowered, counts.lowered_different);
+        counted += &format!("\n{lowered} of them lowered by ours, {different} different");
     }
-    complete?;
+    reported(&coverage, &format!("{cases} cases"), &counted)?;
     Ok((counts.compared + counts.lowered, counts.different + counts.lowered_different))
 }
 
@@ -101,8 +113,7 @@ pub fn damaged(side: &Library, from: u64, inputs: u64) -> Result<Counts, String>
     println!("damaged descriptions, rows 1 to 7 against our lowering:");
     let mut coverage = damaged::wanted();
     let counts = damaged::compare(side, from, inputs, &mut coverage);
-    let complete = reported(&coverage, &format!("{inputs} descriptions"));
-    println!("{}", counts.line());
+    let complete = reported(&coverage, &format!("{inputs} descriptions"), &counts.line());
     let (further, further_different) = limits(side);
     complete?;
     Ok((counts.inputs + further, counts.different + further_different))
@@ -127,9 +138,7 @@ pub fn pairs(side: &Library, from: u64, cases: u64) -> Result<Counts, String> {
     println!("demand 3, pairs of runs of our lowering:");
     let mut coverage = pairs::wanted();
     let counts = pairs::compare(side, from, cases, &mut coverage);
-    let complete = reported(&coverage, &format!("{cases} cases"));
-    println!("{}", counts.line());
-    complete?;
+    reported(&coverage, &format!("{cases} cases"), &counts.line())?;
     Ok((counts.alike, counts.different))
 }
 
@@ -138,9 +147,7 @@ pub fn queries(side: &library::Queries, from: u64, logs: u64) -> Result<Counts, 
     println!("queries of lent logs, the Rust and rows 8 to 10 against our library:");
     let mut coverage = logs::wanted();
     let counts = logs::compare(side, from, logs, &mut coverage);
-    let complete = reported(&coverage, &format!("{logs} logs"));
-    println!("{}", counts.line());
-    complete?;
+    reported(&coverage, &format!("{logs} logs"), &counts.line())?;
     Ok((counts.calls, counts.different))
 }
 
@@ -150,7 +157,12 @@ pub fn planted() -> Result<(), String> {
     if ours::library().is_some() {
         found.extend(planted::found());
     }
-    for (name, difference) in &found {
+    all_found(&found)
+}
+
+/// Prints how each planted fault was found; fails if one was not.
+pub fn all_found(found: &[(&str, Option<String>)]) -> Result<(), String> {
+    for (name, difference) in found {
         println!("{name}: {}", difference.as_deref().unwrap_or("not found"));
     }
     let missed = found.iter().filter(|(_, difference)| difference.is_none()).count();

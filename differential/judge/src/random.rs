@@ -1,4 +1,20 @@
-//! Random numbers that are the same for the same seed (xorshift64*).
+//! Random numbers that are the same for the same seed (xorshift64*), and the seeds of a part.
+
+use std::{cell::Cell, iter};
+
+thread_local! {
+    static AT_HAND: Cell<Option<u64>> = const { Cell::new(None) };
+}
+
+/// So many seeds from one on. Each is at hand until the next is taken, and none behind the last.
+pub fn seeds(from: u64, count: u64) -> impl Iterator<Item = u64> {
+    (from..from + count).map(Some).chain(iter::once(None)).inspect(|seed| AT_HAND.set(*seed)).flatten()
+}
+
+/// The seed that this thread is at.
+pub fn seed_at_hand() -> Option<u64> {
+    AT_HAND.get()
+}
 
 pub struct Random(u64);
 

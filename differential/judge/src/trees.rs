@@ -9,7 +9,7 @@ use crate::{
     judge::judge,
     library::Library,
     notation,
-    random::Random,
+    random::{self, Random},
     records::{RECORD, read},
     shrink::shrunk,
     text_form::text_form,
@@ -86,7 +86,7 @@ pub struct Counts {
 /// Compares the Rust with 01's sentences on `cases` descriptions, and with a side if there is one.
 pub fn compare(side: Option<&Library>, from: u64, cases: u64, coverage: &mut Coverage) -> Counts {
     let mut counts = Counts::default();
-    for seed in from..from + cases {
+    for seed in random::seeds(from, cases) {
         let judged = judged(seed, size_of_case(seed), 40);
         assert_eq!(read(&judged.case.records), judged.case.top, "seed {seed}: records and tree differ");
         assert_eq!(by_01::rows::refusal(&judged.case.records), None, "seed {seed}: refused");

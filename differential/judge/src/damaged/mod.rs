@@ -19,7 +19,7 @@ use crate::{
     generate::{Size, generate},
     library::Library,
     output::RECORD,
-    random::Random,
+    random::{self, Random},
     records::{self, Records},
     room::Room,
     whole::{self, Due},
@@ -45,7 +45,7 @@ impl Counts {
 /// Compares a side with 01's table on as many descriptions.
 pub fn compare(side: &Library, from: u64, inputs: u64, coverage: &mut Coverage) -> Counts {
     let mut counts = Counts::default();
-    for seed in from..from + inputs {
+    for seed in random::seeds(from, inputs) {
         if let Err(fault) = compare_seed(side, seed, &mut counts, coverage) {
             counts.different += 1;
             if counts.different <= 3 {

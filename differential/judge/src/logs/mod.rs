@@ -17,7 +17,7 @@ use crate::{
     by_01::row_8::{self, Chain, Refusal, Rule},
     coverage::Coverage,
     library::Queries,
-    random::Random,
+    random::{self, Random},
     trees::{judged, size_of_case},
 };
 
@@ -46,7 +46,7 @@ impl Counts {
 /// lowerings of generated descriptions, and on as many damaged ones.
 pub fn compare(side: &Queries, from: u64, logs: u64, coverage: &mut Coverage) -> Counts {
     let mut counts = Counts::default();
-    for seed in from..from + logs {
+    for seed in random::seeds(from, logs) {
         for fault in compare_seed(side, seed, &mut counts, coverage) {
             counts.different += 1;
             if counts.different <= 3 {

@@ -3,12 +3,14 @@
 //! `leaves` puts the exported functions of the lowest crate into a table, if there was a static
 //! library with them when the judge was built (see build.rs). A function that is missing in the
 //! table is not compared. `queries` does the same for the queries, which have a library of their own,
-//! and `library` for lowering and the queries together, if that library has lowering too.
+//! and `library` for lowering and the queries together, if that library has lowering too. `served` has
+//! both in a program of its own under valgrind.
 
 #[cfg(ours_queries)]
 mod definition_log;
 #[cfg(ours)]
 mod paths_numbers;
+pub mod served;
 
 use crate::{
     answer::Target,

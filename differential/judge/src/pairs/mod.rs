@@ -20,7 +20,7 @@ use crate::{
     library::Library,
     notation,
     output::RECORD,
-    random::Random,
+    random::{self, Random},
     records::{self, Layout, MOST_RECORDS, Order, Records},
     room::Room,
     tree::{self, Rec},
@@ -48,7 +48,7 @@ impl Counts {
 /// Compares pairs of runs of a side.
 pub fn compare(side: &Library, from: u64, cases: u64, coverage: &mut Coverage) -> Counts {
     let mut counts = Counts::default();
-    for seed in from..from + cases {
+    for seed in random::seeds(from, cases) {
         if let Err(fault) = compare_seed(side, seed, &mut counts, coverage) {
             counts.different += 1;
             if counts.different <= 3 {

@@ -1,0 +1,149 @@
+//! The comparison with our library under valgrind, which must find nothing: descriptions, damaged ones,
+//! pairs of runs and queries of lent logs. `differential/memory` starts it.
+
+use std::{env, iter, process::Stdio, slice::Iter, sync::Mutex, thread};
+
+use crate::{
+    coverage::Coverage,
+    damaged,
+    library::Library,
+    logs,
+    ours::served::{self, FAULTS, FOUND, Served},
+    pairs,
+    parts::{self, Counts},
+    trees,
+};
+
+/// A part: its name, all of it, and so many cases of it without a report.
+struct Part {
+    name: &'static str,
+    all: fn(&Library) -> Result<Counts, String>,
+    some: fn(&Library, u64) -> Counts,
+}
+
+/// The parts, those that take longest first.
+static PARTS: [Part; 4] = [
+    Part {
+        name: "descriptions",
+        all: |side| parts::descriptions(Some(side), 0, parts::CASES),
+        some: |side, cases| {
+            let counts = trees::compare(Some(side), 0, cases, &mut Coverage::empty());
+            println!("{} descriptions lowered, {} different", counts.lowered, counts.lowered_different);
+            (counts.lowered, counts.lowered_different)
+        },
+    },
+    Part {
+        name: "queries",
+        all: |side| parts::queries(&side.queries, 0, parts::LOGS),
+        some: |side, cases| {
+            let counts = logs::compare(&side.queries, 0, cases, &mut Coverage::empty());
+            println!("{}", counts.line());
+            (counts.calls, counts.different)
+        },
+    },
+    Part {
+        name: "pairs",
+        all: |side| parts::pairs(side, 0, parts::PAIRS),
+        some: |side, cases| {
+            let counts = pairs::compare(side, 0, cases, &mut Coverage::empty());
+            println!("{}", counts.line());
+            (counts.alike, counts.different)
+        },
+    },
+    Part {
+        name: "damaged",
+        all: |side| parts::damaged(side, 0, parts::DAMAGED),
+        some: |side, cases| {
+            let counts = damaged::compare(side, 0, cases, &mut Coverage::empty());
+            println!("{}", counts.line());
+            (counts.inputs, counts.different)
+        },
+    },
+];
+
+/// How many parts run at once, unless MEMORY_PROCESSES says.
+const PROCESSES: usize = 2;
+
+/// The stack of a thread that runs parts, as large as a program's.
+const STACK: usize = 8 << 20;
+
+/// What parts counted, and the calls that went through.
+type Total = (Counts, u64);
+
+/// Runs all parts, or so many cases of each, and prints the closing line.
+pub fn run(program: &str, cases: Option<u64>) -> Result<(), String> {
+    planted(program)?;
+    let processes = processes()?;
+    let left = Mutex::new(PARTS.iter());
+    let totals = thread::scope(|scope| {
+        let start = |_| {
+            let thread = thread::Builder::new().stack_size(STACK);
+            thread.spawn_scoped(scope, || some_parts(program, cases, &left)).expect("a thread")
+        };
+        let threads: Vec<_> = (0..processes).map(start).collect();
+        threads.into_iter().map(|thread| thread.join().expect("an end")).collect::<Result<Vec<Total>, _>>()
+    })?;
+    let (counts, calls) = totals.into_iter().fold(Total::default(), sum);
+    println!("valgrind: {calls} calls, 0 errors");
+    parts::closing(counts, 0)
+}
+
+fn processes() -> Result<usize, String> {
+    let Ok(text) = env::var("MEMORY_PROCESSES") else {
+        return Ok(PROCESSES);
+    };
+    let number = text.parse().ok().filter(|number| *number > 0);
+    number.ok_or_else(|| format!("MEMORY_PROCESSES is {text}, which is no number of processes"))
+}
+
+/// Runs one part after the other, as long as some are left.
+fn some_parts(program: &str, cases: Option<u64>, left: &Mutex<Iter<Part>>) -> Result<Total, String> {
+    let next = || left.lock().expect("nothing fails with the lock").next();
+    iter::from_fn(next).try_fold(Total::default(), |total, part| {
+        let side = &served::LIBRARY;
+        let (counts, calls) = served::serving(program, part.name, || match cases {
+            None => (part.all)(side),
+            Some(cases) => Ok((part.some)(side, cases)),
+        })?;
+        println!("{}: {calls} calls under valgrind", part.name);
+        Ok(sum(total, (counts?, calls)))
+    })
+}
+
+fn sum((one, calls): Total, (other, more): Total) -> Total {
+    ((one.0 + other.0, one.1 + other.1), calls + more)
+}
+
+/// The faults that the program can make, in its order. All but the last are valgrind's to find.
+const PLANTED: [&str; 7] = [
+    "a word read before the words",
+    "a byte read behind the text",
+    "a byte written behind the bytes",
+    "a byte not written",
+    "an answer by what the words held before",
+    "a text read after its call",
+    "a word changed that is only to be read",
+];
+
+/// Fails unless each fault that the program can make is found.
+fn planted(program: &str) -> Result<(), String> {
+    let faults = PLANTED.into_iter().zip(FAULTS..);
+    let found = faults.map(|(name, function)| Ok((name, found(program, function)?)));
+    parts::all_found(&found.collect::<Result<Vec<_>, String>>()?)
+}
+
+/// How a fault is found, if it is. It is asked for twice: one of them shows only then.
+fn found(program: &str, function: u64) -> Result<Option<String>, String> {
+    let mut served = Served::start(program, "planted", Stdio::piped())?;
+    let mut ask = |_| {
+        let (words, bytes) = (&mut [7; 64], &mut [7; 9]);
+        served.ask(function, &[&[1; 64], b"text"], &mut [words, bytes])
+    };
+    let fault = (0..2).find_map(|time| ask(time).err());
+    let (status, said) = served.end().map_err(|error| error.to_string())?;
+    Ok(match status.code() {
+        Some(0) => fault,
+        Some(FOUND) => said.lines().next().and_then(|line| Some(line.split_once("== ")?.1.to_owned())),
+        _ => None,
+    })
+}
