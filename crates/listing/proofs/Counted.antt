@@ -20,9 +20,9 @@ use Rattle.input.specs.Tree.{Tree, Trees, tree, empty, more, firstOf, nodeKind,
 use Rattle.input.specs.Name.{fullName, labelsOf}
 use Rattle.input.specs.Phandle.{lowerPhandle}
 use Rattle.post_checks.specs.Resolve.{Resolution, reaches, missing, resolve}
-use Rattle.lowering.specs.Unbind.{bindsLabelOf, without, unbind}
-use Rattle.lowering.specs.Lower.{Place, at, aside, discarded, nowhere, placeOf, nodeDef, opened, lowerPlaced, lowerNode, namedProperty, lowerProperty, deleteNode, deleteResolved, deleteTarget, deleteReferenced, deleteNamed, lowerDeleteNode, deletePropertyNamed, lowerDirective, lowerAs, lowerItem, lowerItems, lowered}
-use Rattle.lowering.proofs.Labelled.{diags-append}
+use Rattle.items.specs.Unbind.{bindsLabelOf, without, unbind}
+use Rattle.items.specs.Lower.{Place, at, aside, discarded, nowhere, placeOf, nodeDef, opened, lowerPlaced, lowerNode, namedProperty, lowerProperty, deleteNode, deleteResolved, deleteTarget, deleteReferenced, deleteNamed, lowerDeleteNode, deletePropertyNamed, lowerDirective, lowerAs, lowerItem, lowerItems, lowered}
+use Rattle.items.proofs.Labelled.{diags-append}
 
 -- the records and bytes of definitions and their parts
 unfoldable pub defsRecords : List Def → ℕ

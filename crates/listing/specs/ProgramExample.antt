@@ -10,7 +10,7 @@ use Rattle.queries.specs.Kind.{any, setsOverlay}
 use Rattle.queries.specs.Live.{live, isLive, gone}
 use Rattle.input.specs.Tree.{firstOf, has}
 use Rattle.input.specs.Name.{nameOrMacro, fullName, nodeNameSpan, labelsOf}
-use Rattle.lowering.specs.Lower.{lowered, lowerItem, lowerItems, lowerNode, lowerDirective, placeOf, opened, labelTexts}
+use Rattle.items.specs.Lower.{lowered, lowerItem, lowerItems, lowerNode, lowerDirective, placeOf, opened, labelTexts}
 use Rattle.post_checks.specs.Post.{postChecks, checkDirectives, directivesFrom, checkReferences, checkDefs, duplicateLabels, duplicatesOf}
 use Rattle.input.specs.Input.{textAt, secondAt, numberAt, treesAt, chainAt, description}
 use Rattle.lowering.specs.InputExample.{listingWords, listingText, computed}

@@ -17,8 +17,8 @@ use Rattle.input.specs.Name.{fullName, labelsOf}
 use Rattle.input.specs.Phandle.{lowerPhandle}
 use Rattle.post_checks.specs.Resolve.{Resolution, reaches, missing, resolve, unresolved}
 use Rattle.input.specs.Property.{lowerValues}
-use Rattle.lowering.specs.Unbind.{unbind}
-use Rattle.lowering.specs.Lower.{Place, at, aside, discarded, nowhere, placeOf, nodeDef, opened, settled, lowerPlaced, lowerNode, namedProperty, lowerProperty, bare, deleteNode, deleteResolved, deleteTarget, deleteReferenced, deleteNamed, lowerDeleteNode, deletePropertyNamed, lowerDirective, lowerAs, lowerItem, lowerItems}
+use Rattle.items.specs.Unbind.{unbind}
+use Rattle.items.specs.Lower.{Place, at, aside, discarded, nowhere, placeOf, nodeDef, opened, settled, lowerPlaced, lowerNode, namedProperty, lowerProperty, bare, deleteNode, deleteResolved, deleteTarget, deleteReferenced, deleteNamed, lowerDeleteNode, deletePropertyNamed, lowerDirective, lowerAs, lowerItem, lowerItems}
 use Rattle.post_checks.proofs.Lowers.{Grows, define-grows, bind-grows, emit-grows}
 
 -- from one state to another neither count falls

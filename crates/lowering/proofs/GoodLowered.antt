@@ -20,7 +20,7 @@ use Rattle.input.specs.Phandle.{lowerPhandle}
 use Rattle.post_checks.specs.Resolve.{Resolution, reaches, missing, resolve, unresolved}
 use Rattle.input.specs.Property.{lowerValues}
 use Rattle.input.specs.GoodName.{goodNames, goodNamesIn}
-use Rattle.lowering.specs.Lower.{namedProperty, lowerProperty, bare, deleteNode, deleteResolved, deleteTarget, deleteReferenced, deleteNamed, lowerDeleteNode, deletePropertyNamed, lowerDirective, lowerAs, lowerItem, lowerItems, lowered}
+use Rattle.items.specs.Lower.{namedProperty, lowerProperty, bare, deleteNode, deleteResolved, deleteTarget, deleteReferenced, deleteNamed, lowerDeleteNode, deletePropertyNamed, lowerDirective, lowerAs, lowerItem, lowerItems, lowered}
 use Rattle.input.specs.Input.{description}
 use Rattle.input.specs.Place.{items}
 use Rattle.input.specs.Rows.{accepted, verdict}

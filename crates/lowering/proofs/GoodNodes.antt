@@ -20,7 +20,7 @@ use Rattle.input.specs.Name.{nameOrMacro, fullName, nodeNameSpan, labelled, lab
 use Rattle.input.specs.Phandle.{lowerPhandle}
 use Rattle.post_checks.specs.Resolve.{Resolution, reaches, missing, resolve, unresolved}
 use Rattle.input.specs.GoodName.{goodNamesIn}
-use Rattle.lowering.specs.Lower.{Place, at, aside, discarded, nowhere, Placed, byResolution, byTarget, placedAs, byName, byParts, placeOf, nodeDef, opened, settled, lowerPlaced, lowerNode}
+use Rattle.items.specs.Lower.{Place, at, aside, discarded, nowhere, Placed, byResolution, byTarget, placedAs, byName, byParts, placeOf, nodeDef, opened, settled, lowerPlaced, lowerNode}
 use Rattle.input.proofs.GoodNames.{full-plain}
 use Rattle.input.proofs.Spans.{spansIn, own-span, child-spans, chain-spans, first-spans, node-span}
 use Rattle.lowering.proofs.GoodLists.{all-append}

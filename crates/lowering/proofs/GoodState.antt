@@ -10,7 +10,7 @@ use Rattle.making.specs.State.{State, start, define, bind, emit, apart, dropped
 use Rattle.log.specs.Good.{all, inOrder, pathFits, goodDef, goodExt, goodBinding, goodDiag}
 use Rattle.queries.specs.Kind.{any}
 use Rattle.queries.specs.Live.{isLive, live}
-use Rattle.lowering.specs.Unbind.{bindsLabelOf, without, unbind}
+use Rattle.items.specs.Unbind.{bindsLabelOf, without, unbind}
 use Rattle.lowering.proofs.GoodLists.{all-one, all-append}
 use Rattle.lowering.proofs.GoodReports.{GoodDiags}
 

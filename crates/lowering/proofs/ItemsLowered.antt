@@ -11,7 +11,7 @@ use Rattle.making.specs.State.{State, emit}
 use Rattle.making.specs.Represents.{Context, withPlace, Represents}
 use Rattle.input.specs.Tree.{Tree, Trees, tree, empty, more, nodeKind, propertyKind, directiveKind, preprocessorKind}
 use Rattle.input.specs.Report.{report}
-use Rattle.lowering.specs.Lower.{lowerNode, lowerProperty, lowerDirective, lowerItem, lowerItems}
+use Rattle.items.specs.Lower.{lowerNode, lowerProperty, lowerDirective, lowerItem, lowerItems}
 use Rattle.input.specs.Input.{recordCount, kindAt, nextAt, childAt, secondAt, numberAt, spanAt, chainAt, recordAt}
 use Rattle.input.specs.GoodName.{goodNames, goodNamesIn}
 use Rattle.input.specs.Linked.{Linked, RecordIn, ChainIn}

@@ -15,7 +15,7 @@ use Rattle.queries.specs.Query.{Answered}
 use Rattle.input.specs.Tree.{Trees, firstOf, has}
 use Rattle.input.specs.Name.{nameOrMacro, fullName, nodeNameSpan, labelsOf}
 use Rattle.making.specs.State.{State, define, bind, emit, bindingsBytes, diagsBytes, textsBytes}
-use Rattle.lowering.specs.Lower.{lowered, lowerItem, lowerItems, lowerNode, lowerDirective, placeOf, opened, labelTexts}
+use Rattle.items.specs.Lower.{lowered, lowerItem, lowerItems, lowerNode, lowerDirective, placeOf, opened, labelTexts}
 use Rattle.post_checks.specs.Post.{postChecks, checkDirectives, directivesFrom, checkReferences, checkDefs, duplicateLabels, duplicatesOf}
 use Rattle.input.specs.Input.{description}
 use Rattle.lowering.specs.Lowered.{logOf, recordsMade, bytesMade, fitsIn, meaning, Lowered, done}

@@ -12,7 +12,7 @@ use Rattle.making.specs.Represents.{Place, Represents, atStart, inChecks, check
 use Rattle.making.proofs.InHand.{top-place, forget-place}
 use Rattle.queries.specs.Query.{Answered}
 use Rattle.input.specs.Input.{childAt, chainAt, description}
-use Rattle.lowering.specs.Lower.{lowerItems, lowered}
+use Rattle.items.specs.Lower.{lowerItems, lowered}
 use Rattle.post_checks.specs.Post.{postChecks}
 use Rattle.post_checks.specs.Lowers.{Lowers, LowersAt}
 use Rattle.input.specs.Rows.{accepted, verdict}

@@ -11,8 +11,8 @@ use Rattle.queries.specs.Live.{live, isLive, gone}
 use Rattle.input.specs.Tree.{Tree, Trees, tree, empty, more, firstOf, has}
 use Rattle.input.specs.Name.{nameOrMacro, fullName, nodeNameSpan, labelsOf}
 use Rattle.making.specs.State.{State, define, bind, emit, bindingsBytes, diagsBytes, textsBytes}
-use Rattle.lowering.specs.Unbind.{without, unbind}
-use Rattle.lowering.specs.Lower.{lowered, lowerItem, lowerItems, lowerNode, lowerDirective, placeOf, opened, labelTexts}
+use Rattle.items.specs.Unbind.{without, unbind}
+use Rattle.items.specs.Lower.{lowered, lowerItem, lowerItems, lowerNode, lowerDirective, placeOf, opened, labelTexts}
 use Rattle.post_checks.specs.Post.{postChecks, checkDirectives, directivesFrom, checkReferences, checkDefs, duplicateLabels, duplicatesOf}
 
 abbrev pub span : ℕ → ℕ → Span

@@ -12,7 +12,7 @@ use Rattle.log.specs.Written.{Written}
 use Rattle.queries.specs.Query.{Answered}
 use Rattle.input.specs.Tree.{Trees}
 use Rattle.making.specs.State.{State, diagsBytes}
-use Rattle.lowering.specs.Lower.{lowered}
+use Rattle.items.specs.Lower.{lowered}
 use Rattle.post_checks.specs.Post.{postChecks}
 use Rattle.input.specs.Input.{description}
 use Rattle.input.specs.Rows.{Verdict, accepted, refused, verdict}

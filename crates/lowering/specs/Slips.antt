@@ -15,8 +15,8 @@ use Rattle.input.specs.Name.{nameOrMacro, fullName, nodeNameSpan, labelsOf}
 use Rattle.input.specs.Phandle.{lowerPhandle}
 use Rattle.post_checks.specs.Resolve.{resolve, firstBinding}
 use Rattle.making.specs.State.{define, bind, emit, apart, dropped, extended}
-use Rattle.lowering.specs.Unbind.{unbind, without}
-use Rattle.lowering.specs.Lower.{lowered, lowerItem, lowerItems, lowerNode, lowerDirective, lowerDeleteNode, deleteNode, placeOf, opened, labelTexts}
+use Rattle.items.specs.Unbind.{unbind, without}
+use Rattle.items.specs.Lower.{lowered, lowerItem, lowerItems, lowerNode, lowerDirective, lowerDeleteNode, deleteNode, placeOf, opened, labelTexts}
 use Rattle.lowering.specs.Example.{span, part}
 
 -- a node of this name with the label l and these items

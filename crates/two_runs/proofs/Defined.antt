@@ -20,8 +20,8 @@ use Rattle.input.specs.Phandle.{lowerPhandle}
 use Rattle.post_checks.specs.Resolve.{Resolution, reaches, missing, resolve}
 use Rattle.input.specs.Property.{lowerValues}
 use Rattle.making.specs.State.{State, define, bind, emit, apart, dropped, extended}
-use Rattle.lowering.specs.Unbind.{unbind}
-use Rattle.lowering.specs.Lower.{Place, at, aside, discarded, nowhere, Placed, placeOf, nodeDef, opened, settled, lowerPlaced, lowerNode, namedProperty, lowerProperty, bare, deleteNode, deleteResolved, deleteTarget, deleteReferenced, deleteNamed, lowerDeleteNode, deletePropertyNamed, lowerDirective, lowerAs, lowerItem, lowerItems}
+use Rattle.items.specs.Unbind.{unbind}
+use Rattle.items.specs.Lower.{Place, at, aside, discarded, nowhere, Placed, placeOf, nodeDef, opened, settled, lowerPlaced, lowerNode, namedProperty, lowerProperty, bare, deleteNode, deleteResolved, deleteTarget, deleteReferenced, deleteNamed, lowerDeleteNode, deletePropertyNamed, lowerDirective, lowerAs, lowerItem, lowerItems}
 use Rattle.post_checks.specs.Post.{Headers, atFirst, defined, nextHeaders, headerReport, directivesFrom, checkDirectives}
 
 -- a definition that is no directive is in the log in hand

@@ -17,8 +17,8 @@ use Rattle.input.specs.Tree.{Tree, Trees, empty, more, kindOf, spanOf, children
 use Rattle.input.specs.Report.{Got, Made, andThen}
 use Rattle.input.specs.Name.{nameOrMacro, labelled, labelsOf}
 use Rattle.making.specs.State.{State, define, bind, emit}
-use Rattle.lowering.specs.Unbind.{bindsLabelOf, without, unbind}
-use Rattle.lowering.specs.Lower.{labelTexts, nodeDef, opened, bare, deleteNode}
+use Rattle.items.specs.Unbind.{bindsLabelOf, without, unbind}
+use Rattle.items.specs.Lower.{labelTexts, nodeDef, opened, bare, deleteNode}
 use Rattle.two_runs.proofs.Held.{held, live-held, live-other, held-more, held-new}
 
 -- bindings at or under a path, each held

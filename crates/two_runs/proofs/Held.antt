@@ -12,7 +12,7 @@ use Rattle.queries.specs.Kind.{isProperty, isDeletedNode, isDeletion, any}
 use Rattle.queries.specs.Live.{deletes, overwrites, gone, isLive, live}
 use Rattle.queries.proofs.Lists.{any-append}
 use Rattle.queries.specs.Labels.{labelsIn}
-use Rattle.lowering.specs.Unbind.{bindsLabelOf, without}
+use Rattle.items.specs.Unbind.{bindsLabelOf, without}
 
 -- whether the list holds such a node
 unfoldable pub held : Binding → List Def → Bool

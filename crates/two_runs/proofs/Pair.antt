@@ -19,8 +19,8 @@ use Rattle.input.specs.Report.{Got, Made, report}
 use Rattle.input.specs.Name.{fullName, nodeNameSpan}
 use Rattle.input.specs.Property.{lowerValues}
 use Rattle.making.specs.State.{State, define, emit}
-use Rattle.lowering.specs.Unbind.{unbind}
-use Rattle.lowering.specs.Lower.{Place, at, Placed, placedAs, byName, byParts, placeOf, opened, lowerPlaced, lowerNode, namedProperty, lowerProperty, bare, deleteNode, deleteReferenced, deleteNamed, lowerDeleteNode, deletePropertyNamed, lowerDirective, lowerAs, lowerItem, lowerItems}
+use Rattle.items.specs.Unbind.{unbind}
+use Rattle.items.specs.Lower.{Place, at, Placed, placedAs, byName, byParts, placeOf, opened, lowerPlaced, lowerNode, namedProperty, lowerProperty, bare, deleteNode, deleteReferenced, deleteNamed, lowerDeleteNode, deletePropertyNamed, lowerDirective, lowerAs, lowerItem, lowerItems}
 use Rattle.two_runs.specs.TwoRuns.{plainName, quietDirective, quiet, quietIn, Names, Pair}
 use Rattle.input.specs.GoodName.{goodNames, goodNamesIn}
 use Rattle.two_runs.proofs.Grown.{Grown, grown-none, grown-emit, grown-define, grown-opened, grown-delete, all-unbound}

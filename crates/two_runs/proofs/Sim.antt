@@ -20,8 +20,8 @@ use Rattle.input.specs.Phandle.{lowerPhandle}
 use Rattle.post_checks.specs.Resolve.{firstBinding, Resolution, reaches, missing, liveAt, belowLabel, resolve, unresolved}
 use Rattle.input.specs.Property.{lowerValues}
 use Rattle.making.specs.State.{State, define, bind, emit, apart, dropped, extended}
-use Rattle.lowering.specs.Unbind.{without, unbind}
-use Rattle.lowering.specs.Lower.{Place, at, aside, discarded, nowhere, Placed, byResolution, byTarget, byName, byParts, placeOf, nodeDef, opened, settled, lowerPlaced, lowerNode, namedProperty, lowerProperty, bare, deleteNode, deleteResolved, deleteTarget, deleteReferenced, deleteNamed, lowerDeleteNode, deletePropertyNamed, lowerDirective, lowerAs, lowerItem, lowerItems}
+use Rattle.items.specs.Unbind.{without, unbind}
+use Rattle.items.specs.Lower.{Place, at, aside, discarded, nowhere, Placed, byResolution, byTarget, byName, byParts, placeOf, nodeDef, opened, settled, lowerPlaced, lowerNode, namedProperty, lowerProperty, bare, deleteNode, deleteResolved, deleteTarget, deleteReferenced, deleteNamed, lowerDeleteNode, deletePropertyNamed, lowerDirective, lowerAs, lowerItem, lowerItems}
 
 -- two logs: the same, or with a gap
 pub data Like (new : List ℕ) : Bool → List Def → List Def → Type 0 where

@@ -13,7 +13,7 @@ use Rattle.queries.specs.Live.{live}
 use Rattle.queries.proofs.Gap.{Gap, gap-within, gap-live, gap-overlay, gap-history}
 use Rattle.input.specs.Tree.{Tree, Trees, tree, empty, more, nodeKind}
 use Rattle.making.specs.State.{State, start, emit}
-use Rattle.lowering.specs.Lower.{Place, at, Placed, placeOf, opened, lowerPlaced, lowerNode, lowerItem, lowerItems, lowered}
+use Rattle.items.specs.Lower.{Place, at, Placed, placeOf, opened, lowerPlaced, lowerNode, lowerItem, lowerItems, lowered}
 use Rattle.post_checks.specs.Post.{atFirst, duplicateLabels, referenceReport, checkTarget, checkCell, checkCells, checkValue, checkValues, checkDef, checkDefs, checkReferences, directivesFrom, checkDirectives, postChecks}
 use Rattle.two_runs.specs.TwoRuns.{Pair, Inserted, here, after, within, Alike, TwoRuns}
 use Rattle.input.specs.GoodName.{goodNames, goodNamesIn}

@@ -22,7 +22,7 @@ use Rattle.queries.specs.Live.{live, isLive, deletes}
 use Rattle.queries.specs.History.{historyFrom, history, definedBy}
 use Rattle.queries.specs.Query.{Answered, liveNumbers, historyNumbers, mainChain, liveAnswers, historyAnswers}
 use Rattle.making.specs.State.{State, start}
-use Rattle.lowering.specs.Lower.{lowered}
+use Rattle.items.specs.Lower.{lowered}
 use Rattle.post_checks.specs.Post.{postChecks}
 use Rattle.input.specs.Input.{description}
 use Rattle.input.specs.Rows.{Verdict, accepted, refused, orElse, verdict, wrongSize, rowTwo, rowThree, rowFour, rowFive, rowSix}

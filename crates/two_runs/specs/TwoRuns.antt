@@ -17,7 +17,7 @@ use Rattle.input.specs.GoodName.{goodNamesIn}
 use Rattle.input.specs.Tree.{Tree, Trees, tree, empty, more, kindOf, wOf, childrenOf, firstOf, has, nodeKind, directiveKind, nameKind, unitAddressKind, referenceKind, slashKind}
 use Rattle.input.specs.Name.{fullName}
 use Rattle.making.specs.State.{State, start, emit}
-use Rattle.lowering.specs.Lower.{at, placeOf, opened, lowerItem, lowered}
+use Rattle.items.specs.Lower.{at, placeOf, opened, lowerItem, lowered}
 use Rattle.post_checks.specs.Post.{postChecks}
 
 -- a unit address, where there is one, "that holds one", a name

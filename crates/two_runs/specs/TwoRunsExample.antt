@@ -17,8 +17,8 @@ use Rattle.input.specs.Phandle.{lowerPhandle}
 use Rattle.post_checks.specs.Resolve.{resolve, firstBinding}
 use Rattle.input.specs.Property.{lowerValues}
 use Rattle.making.specs.State.{State, start, define, bind, emit, bindingsBytes, diagsBytes, textsBytes, valuesRecords, valuesBytes, dropped, apart, extended}
-use Rattle.lowering.specs.Unbind.{without, unbind}
-use Rattle.lowering.specs.Lower.{lowered, lowerItem, lowerItems, lowerNode, lowerProperty, lowerDirective, lowerDeleteNode, deleteNode, placeOf, opened, labelTexts}
+use Rattle.items.specs.Unbind.{without, unbind}
+use Rattle.items.specs.Lower.{lowered, lowerItem, lowerItems, lowerNode, lowerProperty, lowerDirective, lowerDeleteNode, deleteNode, placeOf, opened, labelTexts}
 use Rattle.two_runs.specs.TwoRuns.{plainName, quietDirective, quiet, quietIn, Names, Pair, Inserted, here, after, within}
 use Rattle.input.specs.GoodName.{goodNames, goodNamesIn}
 use Rattle.lowering.specs.Example.{span, part}

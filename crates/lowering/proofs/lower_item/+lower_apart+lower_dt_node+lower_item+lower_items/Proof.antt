@@ -6,11 +6,11 @@ use native.Mathlib.Omega.{arith}
 use borrow.Author.Needs.{needs}
 use lib.ListN.{length}
 use Rattle.input.specs.Input.{secondAt, chainAt}
-use Rattle.lowering.specs.Lower.{lowerItems}
+use Rattle.items.specs.Lower.{lowerItems}
 use Rattle.input.proofs.Read.{rank, rank-less, chain-first, some-level, second-in}
 use Rattle.lowering.proofs.CountsGrow.{node-grows}
-use Rattle.lowering.proofs.Short.{short-lowers}
-use Rattle.lowering.proofs.NodeLowered.{enters-apart, node-at, node-aside, node-discarded, node-nowhere}
+use Rattle.items.proofs.Short.{short-lowers}
+use Rattle.items.proofs.NodeLowered.{enters-apart, node-at, node-aside, node-discarded, node-nowhere}
 use Rattle.lowering.proofs.ItemsLowered.{ItemsTo, items-start, items-whole, item-good, items-more, is-node, is-property, is-directive, is-preprocessor, is-other, parts-good, body-good}
 use Prim.Native.Nat.{ℕ, _<_}
 use borrow.Fn.Kinds.{In}
@@ -29,14 +29,14 @@ use Rattle.lowering.proofs.lower_item.lower_items.Kinds as lower-items-
 use Rattle.lowering.proofs.lower_item.+lower_apart+lower_dt_node+lower_item+lower_items.Lts-lower_items as lower-items-lts
 use Rattle.making.proofs.ctx.LowerCtx.enter.Reads as enter-reads
 use Rattle.making.proofs.ctx.LowerCtx.leave_dropped.Reads as leave-dropped-reads
-use Rattle.lowering.proofs.dt_node.place_node.Reads as place-node-reads
-use Rattle.lowering.proofs.dt_node.settle_aside.Reads as settle-aside-reads
+use Rattle.items.proofs.dt_node.place_node.Reads as place-node-reads
+use Rattle.items.proofs.dt_node.settle_aside.Reads as settle-aside-reads
 use Rattle.input.proofs.record.kind_at.Reads as kind-at-reads
 use Rattle.input.proofs.record.next_at.Reads as next-at-reads
 use Rattle.input.proofs.record.second_at.Reads as second-at-reads
-use Rattle.lowering.proofs.report.emit_code.Reads as emit-code-reads
-use Rattle.lowering.proofs.item.handle_dts_directive.Reads as handle-dts-directive-reads
-use Rattle.lowering.proofs.dt_property.lower_dt_property.Reads as lower-dt-property-reads
+use Rattle.items.proofs.report.emit_code.Reads as emit-code-reads
+use Rattle.items.proofs.item.handle_dts_directive.Reads as handle-dts-directive-reads
+use Rattle.items.proofs.dt_property.lower_dt_property.Reads as lower-dt-property-reads
 use Rattle.lowering.proofs.lower_item.+lower_apart+lower_dt_node+lower_item+lower_items.{
   statement,
 }

@@ -1,0 +1,14 @@
+pub mod Unbinding
+pub mod Deleting
+pub mod DeletingBound
+pub mod Directives
+pub mod Labelled
+pub mod Labels
+pub mod Short
+pub mod Opened
+pub mod NodePlaced
+pub mod NodeReferenced
+pub mod NodeLowered
+pub mod Reported
+pub mod Filled
+pub mod PropertyMade

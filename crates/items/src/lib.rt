@@ -1,0 +1,7 @@
+// One item of a description: what properties, directives and deletions add to the log, and where a
+// node goes. Nodes and items call each other a crate above.
+pub mod dt_node;
+pub mod dt_property;
+pub mod item;
+pub mod report;
+pub mod unbind;
