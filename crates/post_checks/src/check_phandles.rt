@@ -42,10 +42,12 @@ const CELL_LIST: u32 = 9;
 
 const REFERENCE: u32 = 12;
 
-// How many definitions a log can have, and one of few records, for which a smaller list is set up sooner.
+// How many definitions a log can have, and smaller ones, for which a smaller list is set up sooner.
 const MOST: usize = 65536;
 
 const FEW: usize = 8192;
+
+const LEAST: usize = 1024;
 
 // Reports references of live properties that lead nowhere, unless the log is an overlay.
 pub fn check_phandles(out: &mut [u32], bytes: &mut [u8], ctx: LowerCtx) -> LowerCtx
@@ -53,6 +55,9 @@ pub fn check_phandles(out: &mut [u32], bytes: &mut [u8], ctx: LowerCtx) -> Lower
 {
     if sets_overlay_in(out, ctx.defs.first) {
         return ctx;
+    }
+    if log_count(out) as usize <= LEAST {
+        return check_least(out, bytes, ctx);
     }
     if log_count(out) as usize <= FEW {
         return check_few(out, bytes, ctx);
@@ -67,6 +72,15 @@ fn check_few(out: &mut [u32], bytes: &mut [u8], ctx: LowerCtx) -> LowerCtx
     ensures { λ d. ⌜ Reports ctx d (now (out .entry)) (now (bytes .entry)) (now (out .exit)) (now (bytes .exit)) [] (checkDefs (said ctx (now (out .entry)) (now (bytes .entry))) (live [] (readDefs (now (out .entry)) (now (bytes .entry)) (ctx .defs .first)))) ⌝ }
 {
     let mut list = [0u32; FEW];
+    check_live(out, bytes, ctx, &mut list)
+}
+
+// The reports on all live definitions of a log of the fewest records.
+fn check_least(out: &mut [u32], bytes: &mut [u8], ctx: LowerCtx) -> LowerCtx
+    requires { ⌜ logCount (now out) ≤ 1024 ⌝ }
+    ensures { λ d. ⌜ Reports ctx d (now (out .entry)) (now (bytes .entry)) (now (out .exit)) (now (bytes .exit)) [] (checkDefs (said ctx (now (out .entry)) (now (bytes .entry))) (live [] (readDefs (now (out .entry)) (now (bytes .entry)) (ctx .defs .first)))) ⌝ }
+{
+    let mut list = [0u32; LEAST];
     check_live(out, bytes, ctx, &mut list)
 }
 
