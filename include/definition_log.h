@@ -10,9 +10,9 @@
  * Every function answers every input: a description or a log that is broken is refused, never followed. None keeps a pointer, none writes anything but the
  * slices named above, and none takes heap.
  *
- * Stack: lowering takes up to about 1.5 MB, a live list up to about 1.2 MB, the other two queries up to about 350 KB (measured; docs/PERFORMANCE.md says
- * how). What lowering takes is bounded whatever it is lent: arrays of fixed sizes, and calls that go down one level for each of the 64 that a description
- * may have.
+ * Stack: lowering takes up to about 1.5 MB, a live list up to about 1.2 MB, a history up to about 600 KB, dl_contains_node up to about 350 KB (measured;
+ * docs/PERFORMANCE.md says how). What lowering takes is bounded whatever it is lent: arrays of fixed sizes, and calls that go down one level for each of
+ * the 64 that a description may have.
  *
  * Link with libdefinition_log_c.a (`rt staticlib definition_log_c`). */
 #ifndef DEFINITION_LOG_H

@@ -3,8 +3,17 @@
 use std::{env, fs, path::Path, path::PathBuf};
 
 /// Our crates that are read, lowest first.
-const CRATES: [&str; 8] =
-    ["paths_numbers", "log", "making", "queries", "input", "post_checks", "lowering", "definition_log_c"];
+const CRATES: [&str; 9] = [
+    "paths_numbers",
+    "log",
+    "making",
+    "queries",
+    "input",
+    "post_checks",
+    "items",
+    "lowering",
+    "definition_log_c",
+];
 
 fn main() {
     println!("cargo::rerun-if-env-changed=OURS_CRATES");

@@ -12,7 +12,8 @@
 //! Lowering and the answers come from a library that is proved: for all words and bytes that are lent,
 //! also broken ones, it answers as 01 says, reads nothing outside of them, writes only the buffers that
 //! it is to write, and ends. What is not proved is this wrapper, which reads records by itself. A live
-//! list takes up to about 1.2 MB of stack, lowering up to about 1.5 MB, the other queries up to about 350 KB.
+//! list takes up to about 1.2 MB of stack, lowering up to about 1.5 MB, a history up to about 600 KB,
+//! `contains_node` up to about 350 KB.
 //!
 //! ```
 //! use definition_log::sample;

@@ -13,11 +13,8 @@ fn within(stack: usize, run: fn()) {
 
 #[test]
 fn calls_take_no_more_stack_than_is_said() {
-    within(384 << 10, || {
-        let log = sample::log();
-        assert_eq!(log.contains_node("/b"), Ok(true));
-        assert_eq!(log.history_into("/b", &mut [0]), Ok(1));
-    });
+    within(384 << 10, || assert_eq!(sample::log().contains_node("/b"), Ok(true)));
+    within(640 << 10, || assert_eq!(sample::log().history_into("/b", &mut [0]), Ok(1)));
     within(1472 << 10, || {
         let mut words = sample::log().words().to_vec();
         words.resize(65_536 * 16, 0);

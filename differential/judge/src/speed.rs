@@ -1,6 +1,6 @@
 //! How long lowering takes: ours through C against docs/src, on the same descriptions, with the same logs.
 
-use std::hint::black_box;
+use std::{cell::RefCell, hint::black_box};
 
 use dt_tools_lowering::{check, database, lower};
 
@@ -82,24 +82,28 @@ impl<'a> Bench<'a> {
         Ok(Self { side, case: judged.case, made })
     }
 
+    /// Lowers into buffers that calls share, so that where they lie in memory makes no difference.
+    fn lower(&self, records: &Records, buffers: &RefCell<(Vec<u32>, Vec<u8>)>) {
+        let (words, bytes) = &mut *buffers.borrow_mut();
+        assert_eq!((self.side.lower)(records, words, bytes), (0, 0));
+    }
+
     /// Ours into buffers with just enough room; clearing is the lowering of an empty description into
     /// them; and rows 1 to 6 are what is left where there is no room at all.
     fn just_enough(&self, mix: &str, size: usize) {
-        let (mut words, mut bytes) = (vec![0; self.made.0 as usize * RECORD], vec![0; self.made.1 as usize]);
-        let (mut cleared, mut clear_bytes) = (words.clone(), bytes.clone());
-        let tree = crate_tree(&self.case.top, 0);
-        let empty = Records { words: vec![0; records::RECORD], text: Vec::new() };
-        let [ours, rust, clearing, rows] = measured([
-            &mut || assert_eq!((self.side.lower)(&self.case.records, &mut words, &mut bytes), (0, 0)),
+        let buffers = RefCell::new((vec![0; self.made.0 as usize * RECORD], vec![0; self.made.1 as usize]));
+        let (tree, empty) = (crate_tree(&self.case.top, 0), empty());
+        let times = measured([
+            &mut || self.lower(&self.case.records, &buffers),
             &mut || {
                 let db = database(tree.root.clone());
                 let lowered = lower(&db);
                 black_box(check(&db, lowered));
             },
-            &mut || assert_eq!((self.side.lower)(&empty, &mut cleared, &mut clear_bytes), (0, 0)),
+            &mut || self.lower(&empty, &buffers),
             &mut || assert_eq!((self.side.lower)(&self.case.records, &mut [], &mut []), (7, 0)),
         ]);
-        self.print(mix, size, [ours, rust, clearing, rows]);
+        self.print(mix, size, times);
     }
 
     fn print(&self, mix: &str, size: usize, [ours, rust, clearing, rows]: [Times; 4]) {
@@ -120,16 +124,19 @@ impl<'a> Bench<'a> {
 
     /// Ours into the largest buffers.
     fn full(&self, mix: &str, size: usize) {
-        let (mut words, mut bytes) = (vec![0; FULL.0], vec![0; FULL.1]);
-        let (mut cleared, mut clear_bytes) = (words.clone(), bytes.clone());
-        let empty = Records { words: vec![0; records::RECORD], text: Vec::new() };
-        let [ours, clearing] = measured([
-            &mut || assert_eq!((self.side.lower)(&self.case.records, &mut words, &mut bytes), (0, 0)),
-            &mut || assert_eq!((self.side.lower)(&empty, &mut cleared, &mut clear_bytes), (0, 0)),
-        ]);
+        let buffers = RefCell::new((vec![0; FULL.0], vec![0; FULL.1]));
+        let empty = empty();
+        let [ours, clearing] = measured([&mut || self.lower(&self.case.records, &buffers), &mut || {
+            self.lower(&empty, &buffers)
+        }]);
         let [ours, clearing] = [ours, clearing].map(|times| times.least / 1e3);
         println!("| {mix} | {size} | {ours:.0} | {clearing:.0} | {:.0} |", ours - clearing);
     }
+}
+
+/// A description of record 0 alone.
+fn empty() -> Records {
+    Records { words: vec![0; records::RECORD], text: Vec::new() }
 }
 
 /// A description of just so many records, record 0 counted.

@@ -40,7 +40,8 @@ const IN_A_FILE: usize = 10;
 const LIMITS: [&str; 4] = ["2048 records", "65536 bytes of text", "64 links", "path of 40 components"];
 
 /// The crates whose definitions are computed through.
-const USED: [&str; 7] = ["paths_numbers", "log", "making", "queries", "input", "post_checks", "lowering"];
+const USED: [&str; 8] =
+    ["paths_numbers", "log", "making", "queries", "input", "post_checks", "items", "lowering"];
 
 /// A description of the sample.
 struct Sample {
