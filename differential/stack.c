@@ -1,7 +1,7 @@
 /* How much stack each call of our library takes; differential/stack compiles and runs it.
  *
- * A call runs in a thread whose stack was painted before, and what is not paint afterwards was touched. The figures hold a little more than the call
- * itself: the thread's start and the copying of nothing else. Lowering is tried on nodes nested as deep as a description may have them. */
+ * A call runs in a thread whose stack was painted before, and what is not paint afterwards was touched; what a thread touches that does nothing is
+ * taken off. Lowering is tried on deeply nested nodes, and the queries on the log that it made. */
 #include <pthread.h>
 #include <stdio.h>
 #include <stdlib.h>
@@ -14,7 +14,7 @@
 #define MOST_RECORDS 65536
 #define MOST_BYTES (1u << 24)
 
-/* The deepest nodes: 62, each with a name, one link for a node and one for its name less than 64. */
+/* Nodes in nodes, each with a slash or a name: the name of the last lies 63 links from record 0. */
 enum { NODES = 62, RECORDS = 1 + 2 * NODES };
 
 static uint32_t words[RECORDS * DL_IN_RECORD_WORDS];
