@@ -1,21 +1,21 @@
--- DEMAND 3, of the code: every two runs of the exported `dl_lower` (src/lib.rt). Its contract is all that is used of it, and it has no `requires`, so
--- that this speaks of every run. Read specs/WholeRuns of two_runs for what is claimed, its specs/TwoRuns for the two items, and the contract for what
--- a run is.
+-- DEMAND 3, of the code: every two runs of the exported `dl_lower` (src/lib.rt). Its contract is all that is used of it, and it has no
+-- `requires`, so that this speaks of every run. Read specs/WholeRuns of two_runs for what is claimed, its specs/TwoRuns for the two items,
+-- and the contract for what a run is.
 --
--- `Learnt` is made from the clauses that `dl_lower` has in its source: what whoever calls it learns of the call. `code-keeps` is the theorem that the
--- code of `dl_lower` keeps them.
+-- `Learnt` is made from the clauses that `dl_lower` has in its source: what whoever calls it learns of the call. `code-keeps` is the
+-- theorem that the code of `dl_lower` keeps them.
 use Prim.Native.Nat.{ℕ}
 use mathlib.Core.Path.{_≡_}
 use mathlib.Core.List.{List, []}
 use contract.Lifetimes.{Lfts}
 use denote.Triple.Clauses.{AtExit}
 use borrow.Fn.Kinds.{Dens, resT, endedOf}
-use Rattle.making.specs.State.{start}
-use Rattle.input.specs.Input.{description}
-use Rattle.two_runs.specs.TwoRuns.{Inserted}
-use Rattle.two_runs.specs.WholeRuns.{Run, AcceptedRun, AlikeRuns, WholeRuns}
+use Rattle.making.specs.meaning.State.{start}
+use Rattle.input.specs.meaning.Input.{description}
+use Rattle.two_runs.specs.meaning.TwoRuns.{Inserted}
+use Rattle.two_runs.specs.meaning.WholeRuns.{Run, AcceptedRun, AlikeRuns, WholeRuns}
 use Rattle.two_runs.proofs.WholeRuns.{whole-runs}
-use Rattle.definition_log_c.specs.Told.{told}
+use Rattle.definition_log_c.specs.meaning.Told.{told}
 use Rattle.definition_log_c.proofs.dl_lower.Kinds.{ps, r}
 use Rattle.definition_log_c.proofs.dl_lower.Reads.{Learnt}
 use Rattle.definition_log_c.proofs.dl_lower.Statement.{statement}

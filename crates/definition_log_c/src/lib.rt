@@ -2,10 +2,10 @@
 // Each calls one function of a crate below and hands its answer over.
 ghost use mathlib.Core.Path.{_≡_};
 ghost use lib.ListN.{length};
-ghost use Rattle.log.specs.Alike.{Words32};
-ghost use Rattle.queries.specs.Query.{queryAnswer, queryOut, liveAnswers, historyAnswers, containsAnswer};
-ghost use Rattle.lowering.specs.Lowered.{Lowered};
-ghost use Rattle.definition_log_c.specs.Told.{told};
+ghost use Rattle.log.specs.meaning.Alike.{Words32};
+ghost use Rattle.queries.specs.meaning.Query.{queryAnswer, queryOut, liveAnswers, historyAnswers, containsAnswer};
+ghost use Rattle.lowering.specs.meaning.Lowered.{Lowered};
+ghost use Rattle.definition_log_c.specs.meaning.Told.{told};
 use lowering::lower::lower;
 use queries::query::contains_node;
 use queries::query::history;
@@ -26,7 +26,8 @@ pub extern "C" fn dl_lower(
     out: &mut [u32],
     bytes: &mut [u8],
 ) -> DlAnswer
-    ensures { λ r. ⌜ Lowered (now (words .entry)) (now (text .entry)) (now (out .entry)) (now (bytes .entry)) (told r) (now (out .exit)) (now (bytes .exit)) ⌝ }
+    ensures { λ r. ⌜ Lowered (now (words .entry)) (now (text .entry)) (now (out .entry)) (now (bytes .entry)) (told r) (now (out .exit))
+        (now (bytes .exit)) ⌝ }
     ensures { λ _. ⌜ Words32 (now (out .exit)) ⌝ }
 {
     let done = lower(words, text, out, bytes);
@@ -44,8 +45,10 @@ pub extern "C" fn dl_iter_live_defs_under(
     base: &[u8],
     list: &mut [u32],
 ) -> DlAnswer
-    ensures { λ r. ⌜ told r ≡ queryAnswer (now (words .entry)) (now (bytes .entry)) (now (base .entry)) (length (now (list .entry))) (liveAnswers (now (words .entry)) (now (bytes .entry)) (now (base .entry))) ⌝ }
-    ensures { λ _. ⌜ now (list .exit) ≡ queryOut (now (words .entry)) (now (bytes .entry)) (now (base .entry)) (now (list .entry)) (liveAnswers (now (words .entry)) (now (bytes .entry)) (now (base .entry))) ⌝ }
+    ensures { λ r. ⌜ told r ≡ queryAnswer (now (words .entry)) (now (bytes .entry)) (now (base .entry)) (length (now (list .entry)))
+        (liveAnswers (now (words .entry)) (now (bytes .entry)) (now (base .entry))) ⌝ }
+    ensures { λ _. ⌜ now (list .exit) ≡ queryOut (now (words .entry)) (now (bytes .entry)) (now (base .entry)) (now (list .entry))
+        (liveAnswers (now (words .entry)) (now (bytes .entry)) (now (base .entry))) ⌝ }
 {
     let live = iter_live_defs_under(words, bytes, base, list);
     DlAnswer {
@@ -57,8 +60,10 @@ pub extern "C" fn dl_iter_live_defs_under(
 // The history of a path, earliest first, by record numbers.
 #[no_mangle]
 pub extern "C" fn dl_history(words: &[u32], bytes: &[u8], path: &[u8], list: &mut [u32]) -> DlAnswer
-    ensures { λ r. ⌜ told r ≡ queryAnswer (now (words .entry)) (now (bytes .entry)) (now (path .entry)) (length (now (list .entry))) (historyAnswers (now (words .entry)) (now (bytes .entry)) (now (path .entry))) ⌝ }
-    ensures { λ _. ⌜ now (list .exit) ≡ queryOut (now (words .entry)) (now (bytes .entry)) (now (path .entry)) (now (list .entry)) (historyAnswers (now (words .entry)) (now (bytes .entry)) (now (path .entry))) ⌝ }
+    ensures { λ r. ⌜ told r ≡ queryAnswer (now (words .entry)) (now (bytes .entry)) (now (path .entry)) (length (now (list .entry)))
+        (historyAnswers (now (words .entry)) (now (bytes .entry)) (now (path .entry))) ⌝ }
+    ensures { λ _. ⌜ now (list .exit) ≡ queryOut (now (words .entry)) (now (bytes .entry)) (now (path .entry)) (now (list .entry))
+        (historyAnswers (now (words .entry)) (now (bytes .entry)) (now (path .entry))) ⌝ }
 {
     let listed = history(words, bytes, path, list);
     DlAnswer {

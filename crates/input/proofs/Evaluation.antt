@@ -1,5 +1,5 @@
--- How an expression's outcome comes from its operands': the operands of a record are its chain of children, and an operation asks for as many as
--- it needs.
+-- How an expression's outcome comes from its operands': the operands of a record are its chain of children, and an operation asks for as
+-- many as it needs.
 use Prim.Native.Nat.{ℕ, zero, suc, _-_, _<_}
 use mathlib.Core.Path.{_≡_, refl, sym, ap, _∙_}
 use mathlib.Core.Bool.{true, false, cond}
@@ -11,15 +11,16 @@ use lib.Dec.{eqb}
 use lib.IntN.{ℤ}
 use types.Run.{OneOf}
 use denote.Enum.Declared.{tagOf}
-use Rattle.paths_numbers.specs.Expression.{evalPrefix, evalInfix, evalRelation, isTrue, ofTruth}
+use Rattle.paths_numbers.specs.meaning.Expression.{evalPrefix, evalInfix, evalRelation, isTrue, ofTruth}
 use Rattle.paths_numbers.proofs.Texts.{by-test, not-both}
-use Rattle.log.specs.Meaning.{Span}
-use Rattle.input.specs.Tree.{macroKind, numberKind, characterKind, prefixKind, parenthesisKind, infixKind}
-use Rattle.input.specs.Expr.{Outcome, value, missing, withValue, evaluated, firstOperand, applied, chosen, prefixOf, infixOf, combined, eval, evals}
-use Rattle.input.specs.Input.{recordCount, kindAt, nextAt, childAt, numberAt, spanAt, textAt, chainAt, recordAt}
-use Rattle.input.specs.Linked.{Linked, At, ChainIn}
-use Rattle.input.specs.Read.{afterAt}
-use Rattle.input.specs.Evaluation.{outcomeOf, decides}
+use Rattle.log.specs.meaning.Contents.{Span}
+use Rattle.input.specs.meaning.Tree.{macroKind, numberKind, characterKind, prefixKind, parenthesisKind, infixKind}
+use Rattle.input.specs.meaning.Expr.{Outcome, value, missing, withValue, evaluated, firstOperand, applied, chosen, prefixOf, infixOf}
+use Rattle.input.specs.meaning.Expr.{combined, eval, evals}
+use Rattle.input.specs.meaning.Input.{recordCount, kindAt, nextAt, childAt, numberAt, spanAt, textAt, chainAt, recordAt}
+use Rattle.input.specs.machine.Linked.{Linked, At, ChainIn}
+use Rattle.input.specs.machine.Read.{afterAt}
+use Rattle.input.specs.machine.Evaluation.{outcomeOf, decides}
 use Rattle.input.specs.declared.expr_eval.Evaluation.{Evaluation}
 use Rattle.input.specs.declared.expr_eval.Evaluation.the-variants as E
 use Rattle.input.proofs.expr_eval.Evaluation.{the-type}
@@ -29,7 +30,8 @@ use Rattle.input.proofs.Read.{after-some, before-some, chain-after}
 -- a failure of an operand is the whole's
 pub failure-passes : (words text : List ℕ) (e : Evaluation) (f : ℤ → Outcome) → OneOf (1 ∷ 2 ∷ 3 ∷ []) (tagOf the-type e)
     → outcomeOf words text e ≡ withValue (outcomeOf words text e) f
-failure-passes words text (E.Value z) f h = ⊎-elim (λ e. absurd (omega arith)) (λ k. ⊎-elim (λ e. absurd (omega arith)) (λ e. absurd (omega arith)) k) h
+failure-passes words text (E.Value z) f h = ⊎-elim (λ e. absurd (omega arith))
+    (λ k. ⊎-elim (λ e. absurd (omega arith)) (λ e. absurd (omega arith)) k) h
 failure-passes words text E.Missing f h = refl
 failure-passes words text (E.Macro r) f h = refl
 failure-passes words text (E.Failed code r) f h = refl
@@ -42,7 +44,8 @@ module _ (words text : List ℕ) (r : ℕ) where
   eval-record = refl
 
   pub eval-kind : (k : ℕ) → kindAt words r ≡ k
-      → combined k (textAt words text r) (numberAt words r) (spanAt words r) (evals (chainAt words text (childAt words r))) ≡ eval (recordAt words text r)
+      → combined k (textAt words text r) (numberAt words r) (spanAt words r) (evals (chainAt words text (childAt words r))) ≡ eval
+      (recordAt words text r)
   eval-kind k e = rw (sym e) (sym eval-record)
 
   pub eval-macro : kindAt words r ≡ macroKind → outcomeOf words text (E.Macro r) ≡ eval (recordAt words text r)
@@ -117,19 +120,25 @@ module _ (words text : List ℕ) (l : Linked words) where
   operands r n a = rw (chain-more words l text r n a) refl
 
   -- y is the operand behind x
-  behind : (x y : ℕ) → y ≡ afterAt words x → (x ≡ 0 → ⊥) → At words x → evals (chainAt words text x) ≡ eval (recordAt words text x) ∷ evals (chainAt words text y)
+  behind : (x y : ℕ) → y ≡ afterAt words x → (x ≡ 0 → ⊥) → At words x
+      → evals (chainAt words text x) ≡ eval (recordAt words text x) ∷ evals (chainAt words text y)
   behind x y e n a =
       operands x n (a n) ∙ ap (λ (k : ℕ). eval (recordAt words text x) ∷ evals (chainAt words text k)) (sym (e ∙ after-some words x n))
 
   -- fewer operands than two, and two
-  pub infix-short : (op : ℕ) (span : Span) (x y : ℕ) → y ≡ afterAt words x → At words x → y ≡ 0 → missing ≡ infixOf op span (evals (chainAt words text x))
+  pub infix-short : (op : ℕ) (span : Span) (x y : ℕ) → y ≡ afterAt words x → At words x → y ≡ 0
+      → missing ≡ infixOf op span (evals (chainAt words text x))
   infix-short op span zero y e a z = rw (no-operands words text) refl
   infix-short op span (suc x) y e a z = rw (behind (suc x) y e (λ q. omega arith) a, z, no-operands words text) refl
 
-  pub infix-two : (op : ℕ) → (op ≡ 0 → ⊥) → (op ≡ 19 → ⊥) → (span : Span) (x y : ℕ) → y ≡ afterAt words x → At words x → At words y → (y ≡ 0 → ⊥)
-      → withValue (eval (recordAt words text x)) (λ a. applied op span a (eval (recordAt words text y))) ≡ infixOf op span (evals (chainAt words text x))
+  pub infix-two : (op : ℕ) → (op ≡ 0 → ⊥) → (op ≡ 19 → ⊥) → (span : Span) (x y : ℕ) → y ≡ afterAt words x → At words x → At words y
+      → (y ≡ 0 → ⊥)
+      → withValue (eval (recordAt words text x)) (λ a. applied op span a (eval (recordAt words text y))) ≡ infixOf op span
+      (evals (chainAt words text x))
   infix-two op n m span x y e a b k =
-      rw (behind x y e (before-some words text x y e k) a, operands y k (b k)) (sym (two-operands op n m span (eval (recordAt words text x)) (eval (recordAt words text y)) (evals (chainAt words text (nextAt words y)))))
+      rw (behind x y e (before-some words text x y e k) a, operands y k (b k))
+      (sym (two-operands op n m span (eval (recordAt words text x)) (eval (recordAt words text y))
+      (evals (chainAt words text (nextAt words y)))))
 
   -- fewer than three, and three
   pub conditional-short : (span : Span) (x y z : ℕ) → y ≡ afterAt words x → z ≡ afterAt words y → At words x → At words y → z ≡ 0
@@ -139,7 +148,8 @@ module _ (words text : List ℕ) (l : Linked words) where
   conditional-short span (suc x) (suc y) z e f a b q =
       rw (behind (suc x) (suc y) e (λ q. omega arith) a, behind (suc y) z f (λ q. omega arith) b, q, no-operands words text) refl
 
-  pub conditional-three : (span : Span) (x y z : ℕ) → y ≡ afterAt words x → z ≡ afterAt words y → At words x → At words y → At words z → (z ≡ 0 → ⊥)
+  pub conditional-three : (span : Span) (x y z : ℕ) → y ≡ afterAt words x → z ≡ afterAt words y → At words x → At words y → At words z
+      → (z ≡ 0 → ⊥)
       → chosen (eval (recordAt words text x)) (eval (recordAt words text y)) (eval (recordAt words text z))
       ≡ infixOf 19 span (evals (chainAt words text x))
   conditional-three span x y z e f a b c n =
@@ -151,7 +161,8 @@ module _ (words text : List ℕ) (l : Linked words) where
   first-is r n a = rw (operands r n a) refl
 
   -- x is the first operand, evaluated to v
-  module _ (span : Span) (level x : ℕ) (h : ChainIn words text x level) (v : Evaluation) (q : outcomeOf words text v ≡ eval (recordAt words text x)) where
+  module _ (span : Span) (nesting x : ℕ) (h : ChainIn words text x nesting) (v : Evaluation)
+      (q : outcomeOf words text v ≡ eval (recordAt words text x)) where
     -- its value
     operand-value : (a : ℤ) → v ≡ E.Value a → eval (recordAt words text x) ≡ value a
     operand-value a e = sym q ∙ ap (outcomeOf words text) e
@@ -159,16 +170,19 @@ module _ (words text : List ℕ) (l : Linked words) where
     -- y is the operand behind it, and not the last for ?:
     module _ (y : ℕ) (e : y ≡ afterAt words x) where
       second-at : At words y
-      second-at = chain-after words text x y e l level h .at
+      second-at = chain-after words text x y e l nesting h .at
 
       module _ (op : ℕ) (n : op ≡ 0 → ⊥) (m : op ≡ 19 → ⊥) (k : y ≡ 0 → ⊥) where
-        two : withValue (eval (recordAt words text x)) (λ a. applied op span a (eval (recordAt words text y))) ≡ infixOf op span (evals (chainAt words text x))
+        two : withValue (eval (recordAt words text x)) (λ a. applied op span a (eval (recordAt words text y))) ≡ infixOf op span
+            (evals (chainAt words text x))
         two = infix-two op n m span x y e (h .at) second-at k
 
-        pub binary-fails : OneOf (1 ∷ 2 ∷ 3 ∷ []) (tagOf the-type v) → outcomeOf words text v ≡ infixOf op span (evals (chainAt words text x))
+        pub binary-fails : OneOf (1 ∷ 2 ∷ 3 ∷ []) (tagOf the-type v)
+            → outcomeOf words text v ≡ infixOf op span (evals (chainAt words text x))
         binary-fails o = failure-passes words text v (λ a. applied op span a (eval (recordAt words text y))) o ∙ rw q two
 
-        pub binary-value : (a : ℤ) → v ≡ E.Value a → applied op span a (eval (recordAt words text y)) ≡ infixOf op span (evals (chainAt words text x))
+        pub binary-value : (a : ℤ) → v ≡ E.Value a → applied op span a (eval (recordAt words text y)) ≡ infixOf op span
+            (evals (chainAt words text x))
         binary-value a w = rw (operand-value a w) at two
 
       module _ (z : ℕ) (f : z ≡ afterAt words y) (k : z ≡ 0 → ⊥) where
@@ -176,9 +190,10 @@ module _ (words text : List ℕ) (l : Linked words) where
             ≡ infixOf 19 span (evals (chainAt words text x))
         three =
             conditional-three span x y z e f (h .at) second-at
-            (chain-after words text y z f l level (chain-after words text x y e l level h) .at) k
+            (chain-after words text y z f l nesting (chain-after words text x y e l nesting h) .at) k
 
-        pub conditional-fails : OneOf (1 ∷ 2 ∷ 3 ∷ []) (tagOf the-type v) → outcomeOf words text v ≡ infixOf 19 span (evals (chainAt words text x))
+        pub conditional-fails : OneOf (1 ∷ 2 ∷ 3 ∷ []) (tagOf the-type v)
+            → outcomeOf words text v ≡ infixOf 19 span (evals (chainAt words text x))
         conditional-fails o =
             failure-passes words text v (λ a. cond (isTrue a) (eval (recordAt words text y)) (eval (recordAt words text z))) o ∙ rw q three
 

@@ -7,16 +7,17 @@ use mathlib.Core.Option.{Option, some, none}
 use native.Mathlib.Omega.{arith}
 use borrow.Author.Tests.{not-true}
 use lib.Dec.{eqb}
-use Rattle.paths_numbers.specs.Byte.{slash, atSign}
-use Rattle.paths_numbers.specs.Text.{same, isEmpty}
-use Rattle.paths_numbers.specs.Path.{root, join, withUnit, atOrUnder}
+use Rattle.paths_numbers.specs.meaning.Byte.{slash, atSign}
+use Rattle.paths_numbers.specs.meaning.Text.{same, isEmpty}
+use Rattle.paths_numbers.specs.meaning.Path.{root, join, withUnit, atOrUnder}
 use Rattle.paths_numbers.proofs.Texts.{by-test, not-both, both}
 use Rattle.paths_numbers.proofs.Good.{withoutSlash, plain-not-root, unit-filled, unit-plain}
 use Rattle.paths_numbers.proofs.Under.{under-trans, under-join}
-use Rattle.queries.specs.Kind.{any}
-use Rattle.input.specs.Tree.{Tree, Trees, tree, empty, more, kindOf, textOf, childrenOf, firstOf, has, nameKind, unitAddressKind, macroKind}
-use Rattle.input.specs.Name.{nameOr, nameOrMacro, withAddress, addressed, fullName}
-use Rattle.input.specs.GoodName.{goodName, goodNames, goodNamesIn}
+use Rattle.paths_numbers.specs.meaning.Lists.{any}
+use Rattle.input.specs.meaning.Tree.{Tree, Trees, tree, empty, more, kindOf, textOf, childrenOf, firstOf, has, nameKind}
+use Rattle.input.specs.meaning.Tree.{unitAddressKind, macroKind}
+use Rattle.input.specs.meaning.Name.{nameOr, nameOrMacro, withAddress, addressed, fullName}
+use Rattle.input.specs.meaning.GoodName.{goodName, goodNames, goodNamesIn}
 
 -- nothing is both there and not
 pub never : {A : Type 0} {B : Type 0} {a : A} → none ≡ some a → B
@@ -46,15 +47,18 @@ unfolding goodNames
 good-below (tree k text w span parts second) g =
     both (goodNamesIn parts) (goodNamesIn second) (both (cond (eqb k nameKind) (goodName text) true) _ g .1) .0
 
-pub good-second : (k : ℕ) (text : List ℕ) (w : ℕ) (span : _) (parts second : Trees) → goodNames (tree k text w span parts second) ≡ true → goodNamesIn second ≡ true
+pub good-second : (k : ℕ) (text : List ℕ) (w : ℕ) (span : _) (parts second : Trees) → goodNames (tree k text w span parts second) ≡ true
+    → goodNamesIn second ≡ true
 unfolding goodNames
 good-second k text w span parts second g =
     both (goodNamesIn parts) (goodNamesIn second) (both (cond (eqb k nameKind) (goodName text) true) _ g .1) .1
 
-pub good-parts : (k : ℕ) (text : List ℕ) (w : ℕ) (span : _) (parts second : Trees) → goodNames (tree k text w span parts second) ≡ true → goodNamesIn parts ≡ true
+pub good-parts : (k : ℕ) (text : List ℕ) (w : ℕ) (span : _) (parts second : Trees) → goodNames (tree k text w span parts second) ≡ true
+    → goodNamesIn parts ≡ true
 good-parts k text w span parts second g = good-below (tree k text w span parts second) g
 
-pub first-good : (ts : Trees) (t : Tree) (k : ℕ) → goodNamesIn ts ≡ true → firstOf k ts ≡ some t → (goodNames t ≡ true) × (eqb (kindOf t) k ≡ true)
+pub first-good : (ts : Trees) (t : Tree) (k : ℕ) → goodNamesIn ts ≡ true → firstOf k ts ≡ some t
+    → (goodNames t ≡ true) × (eqb (kindOf t) k ≡ true)
 unfolding goodNamesIn firstOf
 first-good empty t k g e = never e
 first-good (more x ts) t k g e =

@@ -1,14 +1,14 @@
--- Links that go up: following more of them in a row than there are records changes nothing, so that a chain is its first record and the chain
--- from its next, with no bound on what is followed in sight.
+-- Links that go up: following more of them in a row than there are records changes nothing, so that a chain is its first record and the
+-- chain from its next, with no bound on what is followed in sight.
 use Prim.Native.Nat.{ℕ, zero, suc, _+_, _≤_, _<_}
 use mathlib.Core.Path.{_≡_, refl, sym, _∙_}
 use mathlib.Core.List.{List, [], _∷_, _++_}
 use native.Mathlib.Omega.{arith}
-use Rattle.input.specs.Tree.{empty, more}
-use Rattle.input.specs.Input.{recordCount, kindAt, nextAt, childAt, secondAt, treesAt, chainAt, recordAt}
-use Rattle.input.specs.Place.{InputPlace, childPlace, secondPlace}
-use Rattle.input.specs.Linked.{Link, Linked, At}
-use Rattle.input.specs.Rows.{visits, visitsFrom}
+use Rattle.input.specs.meaning.Tree.{empty, more}
+use Rattle.input.specs.meaning.Input.{recordCount, kindAt, nextAt, childAt, secondAt, treesAt, chainAt, recordAt}
+use Rattle.input.specs.meaning.Place.{InputPlace, childPlace, secondPlace}
+use Rattle.input.specs.machine.Linked.{Link, Linked, At}
+use Rattle.input.specs.meaning.Rows.{visits, visitsFrom}
 
 -- as many links as can be followed in a row from record r on
 abbrev pub Enough : ℕ → List ℕ → ℕ → Type 0
@@ -42,13 +42,17 @@ trees-same (suc f) (suc g) words text (suc r) l a ef eg =
     let hf = ef (λ e. omega arith) in
     let hg = eg (λ e. omega arith) in
     rw (
-      trees-same f g words text (childAt words (suc r)) l (k .child .within) (enough f words _ _ (k .child) hf) (enough g words _ _ (k .child) hg),
-      trees-same f g words text (secondAt words (suc r)) l (k .second .within) (enough f words _ _ (k .second) hf) (enough g words _ _ (k .second) hg),
-      trees-same f g words text (nextAt words (suc r)) l (k .next .within) (enough f words _ _ (k .next) hf) (enough g words _ _ (k .next) hg),
+      trees-same f g words text (childAt words (suc r)) l (k .child .within) (enough f words _ _ (k .child) hf)
+          (enough g words _ _ (k .child) hg),
+      trees-same f g words text (secondAt words (suc r)) l (k .second .within) (enough f words _ _ (k .second) hf)
+          (enough g words _ _ (k .second) hg),
+      trees-same f g words text (nextAt words (suc r)) l (k .next .within) (enough f words _ _ (k .next) hf)
+          (enough g words _ _ (k .next) hg),
     )
     refl
 
-pub visits-same : (f g : ℕ) (words : List ℕ) (place : InputPlace) (depth r : ℕ) → Linked words → At words r → Enough f words r → Enough g words r
+pub visits-same : (f g : ℕ) (words : List ℕ) (place : InputPlace) (depth r : ℕ) → Linked words → At words r → Enough f words r
+    → Enough g words r
     → visits f words place depth r ≡ visits g words place depth r
 unfolding visits
 visits-same zero g words place depth zero l a ef eg = no-visits zero words place depth ∙ sym (no-visits g words place depth)
@@ -60,9 +64,12 @@ visits-same (suc f) (suc g) words place depth (suc r) l a ef eg =
     let hf = ef (λ e. omega arith) in
     let hg = eg (λ e. omega arith) in
     rw (
-      visits-same f g words (childPlace (kindAt words (suc r))) (suc depth) (childAt words (suc r)) l (k .child .within) (enough f words _ _ (k .child) hf) (enough g words _ _ (k .child) hg),
-      visits-same f g words (secondPlace (kindAt words (suc r))) (suc depth) (secondAt words (suc r)) l (k .second .within) (enough f words _ _ (k .second) hf) (enough g words _ _ (k .second) hg),
-      visits-same f g words place depth (nextAt words (suc r)) l (k .next .within) (enough f words _ _ (k .next) hf) (enough g words _ _ (k .next) hg),
+      visits-same f g words (childPlace (kindAt words (suc r))) (suc depth) (childAt words (suc r)) l (k .child .within)
+          (enough f words _ _ (k .child) hf) (enough g words _ _ (k .child) hg),
+      visits-same f g words (secondPlace (kindAt words (suc r))) (suc depth) (secondAt words (suc r)) l (k .second .within)
+          (enough f words _ _ (k .second) hf) (enough g words _ _ (k .second) hg),
+      visits-same f g words place depth (nextAt words (suc r)) l (k .next .within) (enough f words _ _ (k .next) hf)
+          (enough g words _ _ (k .next) hg),
     )
     refl
 
@@ -79,11 +86,14 @@ module _ (words : List ℕ) (l : Linked words) where
   -- one more link in a row than there are records is as good
   chain-more-links : (text : List ℕ) (r : ℕ) → At words r → treesAt (suc (recordCount words)) words text r ≡ chainAt words text r
   unfolding chainAt
-  chain-more-links text r a = trees-same (suc (recordCount words)) (recordCount words) words text r l a (λ n. omega arith) (λ n. omega arith)
+  chain-more-links text r a = trees-same (suc (recordCount words)) (recordCount words) words text r l a (λ n. omega arith)
+      (λ n. omega arith)
 
-  visits-more-links : (place : InputPlace) (depth r : ℕ) → At words r → visits (suc (recordCount words)) words place depth r ≡ visitsFrom words place depth r
+  visits-more-links : (place : InputPlace) (depth r : ℕ) → At words r
+      → visits (suc (recordCount words)) words place depth r ≡ visitsFrom words place depth r
   unfolding visitsFrom
-  visits-more-links place depth r a = visits-same (suc (recordCount words)) (recordCount words) words place depth r l a (λ n. omega arith) (λ n. omega arith)
+  visits-more-links place depth r a = visits-same (suc (recordCount words)) (recordCount words) words place depth r l a (λ n. omega arith)
+      (λ n. omega arith)
 
   -- a chain is its first record and the chain from its next
   pub chain-more : (text : List ℕ) (r : ℕ) → (r ≡ 0 → ⊥) → r < recordCount words

@@ -14,3 +14,4 @@ pub mod RowsStands
 pub mod RowsFound
 pub mod RowsLoops
 pub mod ValueRead
+pub mod Refusals

@@ -6,17 +6,17 @@ use mathlib.Core.List.{List, [], _∷_}
 use mathlib.Core.Option.{Option, some, none}
 use borrow.Author.Tests.{le-leb, lt-leb}
 use native.Mathlib.Omega.{arith}
-use Rattle.paths_numbers.specs.Text.{isEmpty}
-use Rattle.paths_numbers.specs.Path.{join, withUnit, joined}
+use Rattle.paths_numbers.specs.meaning.Text.{isEmpty}
+use Rattle.paths_numbers.specs.meaning.Path.{join, withUnit, joined}
 use Rattle.paths_numbers.proofs.Texts.{by-test, not-both}
-use Rattle.log.specs.Meaning.{Span}
-use Rattle.input.specs.Tree.{firstOf, nameKind, unitAddressKind, referenceKind, macroKind, slashKind}
-use Rattle.input.specs.Report.{Got, found, failed, undefinedMacro}
-use Rattle.input.specs.Name.{nameOrMacro, withAddress, fullName, spanTo, slashSpan, ownSpan, nodeNameSpan, propertyNameSpan}
-use Rattle.input.specs.Input.{childAt, textAt, spanEndAt, spanAt, chainAt, recordAt}
-use Rattle.input.specs.GoodName.{goodName, goodNamesIn}
-use Rattle.input.specs.Read.{optional, FirstOf}
-use Rattle.input.specs.NameRead.{nameRead, nameText, isThere, fullRead, FullNameRead}
+use Rattle.log.specs.meaning.Contents.{Span}
+use Rattle.input.specs.meaning.Tree.{firstOf, nameKind, unitAddressKind, referenceKind, macroKind, slashKind}
+use Rattle.input.specs.meaning.Report.{Got, found, failed, undefinedMacro}
+use Rattle.input.specs.meaning.Name.{nameOrMacro, withAddress, fullName, spanTo, slashSpan, ownSpan, nodeNameSpan, propertyNameSpan}
+use Rattle.input.specs.meaning.Input.{childAt, textAt, spanEndAt, spanAt, chainAt, recordAt}
+use Rattle.input.specs.meaning.GoodName.{goodName, goodNamesIn}
+use Rattle.input.specs.machine.Read.{optional, FirstOf}
+use Rattle.input.specs.machine.NameRead.{nameRead, nameText, isThere, fullRead, FullNameRead}
 use Rattle.input.specs.declared.name.NameOrMacro.{NameOrMacro}
 use Rattle.input.specs.declared.name.NameOrMacro.the-variants.{Name, Macro, Nothing}
 use Rattle.input.specs.declared.name.FullName.{FullName}
@@ -52,7 +52,8 @@ module _ (words text : List ℕ) (u : ℕ) (span : Span) where
   pub to-none : u ≡ 0 → span ≡ spanTo span (optional words text u)
   to-none e = rw (e, optional-none words text) refl
 
-  pub to-later : (u ≡ 0 → ⊥) → span .to ≤ spanEndAt words u → record { from = span .from; to = spanEndAt words u } ≡ spanTo span (optional words text u)
+  pub to-later : (u ≡ 0 → ⊥) → span .to ≤ spanEndAt words u → record { from = span .from; to = spanEndAt words u } ≡ spanTo span
+      (optional words text u)
   unfolding recordAt
   to-later n h = rw (optional-some words text u n) (simp (le-leb (span .to) (spanEndAt words u) h))
 
@@ -62,7 +63,8 @@ module _ (words text : List ℕ) (u : ℕ) (span : Span) where
 
 -- a node's name span by its parts
 module _ (words : List ℕ) (parts : ℕ) (text : List ℕ) (span : Span) where
-  pub reference-span : (r : ℕ) → FirstOf words parts referenceKind r → (r ≡ 0 → ⊥) → spanAt words r ≡ nodeNameSpan (chainAt words text parts) span
+  pub reference-span : (r : ℕ) → FirstOf words parts referenceKind r → (r ≡ 0 → ⊥)
+      → spanAt words r ≡ nodeNameSpan (chainAt words text parts) span
   unfolding nodeNameSpan recordAt
   reference-span r f n = rw (first-there words parts referenceKind r f text n) refl
 
@@ -73,7 +75,8 @@ module _ (words : List ℕ) (parts : ℕ) (text : List ℕ) (span : Span) where
 
   module _ (n : ℕ) (f : FirstOf words parts nameKind n) where
     pub name-span : (u : ℕ) → FirstOf words parts unitAddressKind u → (n ≡ 0 → ⊥)
-        → spanTo (spanAt words n) (optional words text u) ≡ ownSpan (firstOf nameKind (chainAt words text parts)) (chainAt words text parts) span
+        → spanTo (spanAt words n) (optional words text u) ≡ ownSpan (firstOf nameKind (chainAt words text parts)) (chainAt words text parts)
+        span
     unfolding recordAt
     name-span u g k = rw (first-there words parts nameKind n f text k, g .tree text) refl
 
@@ -86,7 +89,8 @@ module _ (words : List ℕ) (parts : ℕ) (text : List ℕ) (span : Span) where
     property-span = rw (f .tree text) refl
 
 -- a full name from what its two parts give
-module _ (words : List ℕ) (first : ℕ) (name : NameOrMacro) (e : (text : List ℕ) → nameRead words text name ≡ nameOrMacro (chainAt words text first))
+module _ (words : List ℕ) (first : ℕ) (name : NameOrMacro) (e : (text : List ℕ)
+    → nameRead words text name ≡ nameOrMacro (chainAt words text first))
     (u : ℕ) (f : FirstOf words first unitAddressKind u)
   where
     pub full-alone : u ≡ 0 → FullNameRead words first (record { name = name; addressed = false; unit = Nothing })
@@ -98,13 +102,16 @@ module _ (words : List ℕ) (first : ℕ) (name : NameOrMacro) (e : (text : List
           unitGood = λ text r g k. let z : _≡_ {A = ℕ} 0 1 = cc in absurd (omega arith);
         }
 
-    module _ (n : u ≡ 0 → ⊥) (unit : NameOrMacro) (g : (text : List ℕ) → nameRead words text unit ≡ nameOrMacro (chainAt words text (childAt words u))) where
+    module _ (n : u ≡ 0 → ⊥) (unit : NameOrMacro) (g : (text : List ℕ)
+        → nameRead words text unit ≡ nameOrMacro (chainAt words text (childAt words u))) where
       -- the names below the unit address are good
-      unit-names : (text : List ℕ) → goodNamesIn (chainAt words text first) ≡ true → goodNamesIn (chainAt words text (childAt words u)) ≡ true
+      unit-names : (text : List ℕ) → goodNamesIn (chainAt words text first) ≡ true
+          → goodNamesIn (chainAt words text (childAt words u)) ≡ true
       unfolding recordAt
       unit-names text h =
           good-below (recordAt words text u)
-          (first-good (chainAt words text first) (recordAt words text u) unitAddressKind h (first-there words first unitAddressKind u f text n) .0)
+          (first-good (chainAt words text first) (recordAt words text u) unitAddressKind h
+          (first-there words first unitAddressKind u f text n) .0)
 
       pub full-addressed : FullNameRead words first (record { name = name; addressed = true; unit = unit })
       unfolding fullRead fullName recordAt
@@ -121,7 +128,8 @@ module _ (words : List ℕ) (first : ℕ) (name : NameOrMacro) (e : (text : List
 module _ (words text : List ℕ) (f : FullName) where
   pub not-named : isThere (nameRead words text (f .name) .result) ≡ false → isThere (fullRead words text f .result) ≡ false
   unfolding fullRead
-  not-named h = by-test (f .addressed) (λ q. rw q (go (nameRead words text (f .name) .result) (nameRead words text (f .unit) .result) h)) (λ q. rw q h)
+  not-named h = by-test (f .addressed) (λ q. rw q (go (nameRead words text (f .name) .result) (nameRead words text (f .unit) .result) h))
+      (λ q. rw q h)
     where
       go : (n u : Option (List ℕ)) → isThere n ≡ false → isThere (withAddress n u) ≡ false
       go none u k = refl
@@ -156,7 +164,8 @@ full-text words text (Name a) unit false n e h k = rw (h refl) (cc)
 full-text words text (Macro a) unit false n e h k = never e
 full-text words text Nothing unit false n e h k = never e
 
-pub full-joined : (words text : List ℕ) (first : ℕ) (f : FullName) → FullNameRead words first f → goodNamesIn (chainAt words text first) ≡ true
+pub full-joined : (words text : List ℕ) (first : ℕ) (f : FullName) → FullNameRead words first f
+    → goodNamesIn (chainAt words text first) ≡ true
     → (parent n : List ℕ) → fullName (chainAt words text first) .result ≡ some n
     → join parent n ≡ joined parent (nameText words text (f .name)) (nameText words text (f .unit))
 unfolding joined

@@ -6,13 +6,13 @@ use mathlib.Core.List.{List, [], _∷_}
 use native.Mathlib.Omega.{arith}
 use borrow.Author.Tests.{ne-eqb}
 use lib.ListN.{length}
-use Rattle.paths_numbers.specs.Text.{isEmpty}
-use Rattle.paths_numbers.specs.Reference.{Target, label, labelPath, path, unreadable, target, kindOf, labelOf, pathOf}
-use Rattle.input.specs.Tree.{macroKind}
-use Rattle.input.specs.Phandle.{readable, plainTarget, lowerPhandle}
-use Rattle.input.specs.Input.{childAt, numberAt, textAt, recordAt}
-use Rattle.input.specs.Read.{FirstOf}
-use Rattle.input.specs.PhandleRead.{labelAt, pathAt, targetOf, phandleRead, readAs}
+use Rattle.paths_numbers.specs.meaning.Text.{isEmpty}
+use Rattle.paths_numbers.specs.meaning.Reference.{Target, label, labelPath, path, unreadable, target, kindOf, labelOf, pathOf}
+use Rattle.input.specs.meaning.Tree.{macroKind}
+use Rattle.input.specs.meaning.Phandle.{readable, plainTarget, lowerPhandle}
+use Rattle.input.specs.meaning.Input.{childAt, numberAt, textAt, recordAt}
+use Rattle.input.specs.machine.Read.{FirstOf}
+use Rattle.input.specs.machine.PhandleRead.{labelAt, pathAt, targetOf, phandleRead, readAs}
 use Rattle.input.specs.declared.phandle.PhandleRead.the-variants.{Macro, Label, Unreadable}
 use Rattle.input.proofs.Read.{first-missing, first-there}
 
@@ -36,7 +36,8 @@ raw-target words text unreadable = refl
 
 module _ (words text : List ℕ) (r : ℕ) where
   -- a reference without a macro
-  pub raw-is : numberAt words r ≡ 1 → phandleRead words text r (readAs (kindOf (target (textAt words text r)))) ≡ plainTarget (recordAt words text r)
+  pub raw-is : numberAt words r ≡ 1 → phandleRead words text r (readAs (kindOf (target (textAt words text r)))) ≡ plainTarget
+      (recordAt words text r)
   unfolding phandleRead labelAt pathAt recordAt
   raw-is e = rw e (raw-target words text (target (textAt words text r)))
 

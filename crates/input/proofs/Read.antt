@@ -8,11 +8,11 @@ use native.Mathlib.Omega.{arith}
 use borrow.Author.Tests.{eq-eqb, ne-eqb, eqb-true, eqb-false}
 use lib.Dec.{eqb}
 use Rattle.paths_numbers.proofs.Texts.{by-test}
-use Rattle.input.specs.Tree.{Tree, Trees, tree, empty, more, kindOf, firstOf, has}
-use Rattle.input.specs.Input.{recordCount, kindAt, nextAt, childAt, secondAt, chainAt, recordAt}
-use Rattle.input.specs.Place.{depthOf, depthsOf}
-use Rattle.input.specs.Linked.{Link, Linked, At, RecordIn, ChainIn}
-use Rattle.input.specs.Read.{afterAt, optional, FirstOf}
+use Rattle.input.specs.meaning.Tree.{Tree, Trees, tree, empty, more, kindOf, firstOf, has}
+use Rattle.input.specs.meaning.Input.{recordCount, kindAt, nextAt, childAt, secondAt, chainAt, recordAt}
+use Rattle.input.specs.meaning.Place.{depthOf, depthsOf}
+use Rattle.input.specs.machine.Linked.{Link, Linked, At, RecordIn, ChainIn}
+use Rattle.input.specs.machine.Read.{afterAt, optional, FirstOf}
 use Rattle.input.proofs.Input.{chain-none, chain-more}
 
 -- how far a chain of links can still go from record r
@@ -50,7 +50,8 @@ pub has-first : (kind : ℕ) (ts : Trees) → firstOf kind ts ≡ none → has k
 unfolding firstOf has
 has-first kind empty e = refl
 has-first kind (more t ts) e =
-    by-test (eqb (kindOf t) kind) (λ q. let z : _≡_ {A = ℕ} 0 1 = cc (rw q at e) in absurd (omega arith)) (λ q. rw q (has-first kind ts (rw q at e)))
+    by-test (eqb (kindOf t) kind) (λ q. let z : _≡_ {A = ℕ} 0 1 = cc (rw q at e) in absurd (omega arith))
+    (λ q. rw q (has-first kind ts (rw q at e)))
 
 pub has-some : (kind : ℕ) (ts : Trees) (t : Tree) → firstOf kind ts ≡ some t → has kind ts ≡ true
 unfolding firstOf has
@@ -85,32 +86,33 @@ module _ (words : List ℕ) (l : Linked words) (r : ℕ) (n : r ≡ 0 → ⊥) (
   first-miss kind e text = rw (chain-more words l text r n a) (simp (ne-eqb (kindAt words r) kind e))
 
   -- the depth of a chain is its first record's or the rest's
-  depths-more : (text : List ℕ) → depthsOf (chainAt words text r) ≡ max (depthOf (recordAt words text r)) (depthsOf (chainAt words text (nextAt words r)))
+  depths-more : (text : List ℕ) → depthsOf (chainAt words text r) ≡ max (depthOf (recordAt words text r))
+      (depthsOf (chainAt words text (nextAt words r)))
   unfolding depthsOf
   depths-more text = rw (chain-more words l text r n a) refl
 
-module _ (words text : List ℕ) (l : Linked words) (r level : ℕ) where
+module _ (words text : List ℕ) (l : Linked words) (r nesting : ℕ) where
   -- the first record of a chain, and what follows it
-  pub chain-first : ChainIn words text r level → (r ≡ 0 → ⊥) → RecordIn words text r level
+  pub chain-first : ChainIn words text r nesting → (r ≡ 0 → ⊥) → RecordIn words text r nesting
   chain-first h n = record { there = h .at n; shallow = omega (arith, depths-more words l r n (h .at n) text, h .shallow) }
 
-  pub chain-next : ChainIn words text r level → (r ≡ 0 → ⊥) → ChainIn words text (nextAt words r) level
+  pub chain-next : ChainIn words text r nesting → (r ≡ 0 → ⊥) → ChainIn words text (nextAt words r) nesting
   chain-next h n =
       record {
         at = l .all r (h .at n) .next .within;
         shallow = omega (arith, depths-more words l r n (h .at n) text, h .shallow);
       }
 
-  -- a level is left for each record, and one less for the chains below it
-  pub some-level : RecordIn words text r level → 1 ≤ level
+  -- a nesting is left for each record, and one less for the chains below it
+  pub some-nesting : RecordIn words text r nesting → 1 ≤ nesting
   unfolding depthOf recordAt
-  some-level h = omega (arith, h .shallow)
+  some-nesting h = omega (arith, h .shallow)
 
-  pub children-in : RecordIn words text r level → ChainIn words text (childAt words r) (level - 1)
+  pub children-in : RecordIn words text r nesting → ChainIn words text (childAt words r) (nesting - 1)
   unfolding depthOf recordAt
   children-in h = record { at = l .all r (h .there) .child .within; shallow = omega (arith, h .shallow) }
 
-  pub second-in : RecordIn words text r level → ChainIn words text (secondAt words r) (level - 1)
+  pub second-in : RecordIn words text r nesting → ChainIn words text (secondAt words r) (nesting - 1)
   unfolding depthOf recordAt
   second-in h = record { at = l .all r (h .there) .second .within; shallow = omega (arith, h .shallow) }
 
@@ -129,9 +131,9 @@ module _ (words text : List ℕ) (x y : ℕ) (e : y ≡ afterAt words x) where
   pub before-some : (y ≡ 0 → ⊥) → x ≡ 0 → ⊥
   before-some n q = n (e ∙ ap (afterAt words) q ∙ after-none words)
 
-  pub chain-after : Linked words → (level : ℕ) → ChainIn words text x level → ChainIn words text y level
-  chain-after l level h = rw e (go x h)
+  pub chain-after : Linked words → (nesting : ℕ) → ChainIn words text x nesting → ChainIn words text y nesting
+  chain-after l nesting h = rw e (go x h)
     where
-      go : (x : ℕ) → ChainIn words text x level → ChainIn words text (afterAt words x) level
+      go : (x : ℕ) → ChainIn words text x nesting → ChainIn words text (afterAt words x) nesting
       go zero h = rw (after-none words) h
-      go (suc x) h = rw (after-some words (suc x) (λ e. omega arith)) (chain-next words text l (suc x) level h (λ e. omega arith))
+      go (suc x) h = rw (after-some words (suc x) (λ e. omega arith)) (chain-next words text l (suc x) nesting h (λ e. omega arith))

@@ -9,20 +9,21 @@ use native.Mathlib.Omega.{arith}
 use borrow.Author.Tests.{eq-eqb, eqb-true, lt-leb}
 use lib.Dec.{eqb, leb}
 use Rattle.paths_numbers.proofs.Texts.{by-test, not-both, is-false, both}
-use Rattle.queries.specs.Kind.{any}
-use Rattle.queries.proofs.Lists.{any-append, any-head, any-front, any-back}
-use Rattle.input.specs.Input.{recordCount, kindAt, nextAt, childAt, secondAt}
-use Rattle.input.specs.Place.{InputPlace, items, childPlace, secondPlace}
-use Rattle.input.specs.Linked.{Links, Linked, At}
-use Rattle.input.specs.Rows.{rowTwo, linksOf, Visit, visits, visitsFrom, reached, lowest, lowestOf}
-use Rattle.input.specs.Rising.{visit, looked, known, finds}
+use Rattle.paths_numbers.specs.meaning.Lists.{any}
+use Rattle.paths_numbers.proofs.Lists.{any-append, any-head, any-front, any-back}
+use Rattle.input.specs.meaning.Input.{recordCount, kindAt, nextAt, childAt, secondAt}
+use Rattle.input.specs.meaning.Place.{InputPlace, items, childPlace, secondPlace}
+use Rattle.input.specs.machine.Linked.{Links, Linked, At}
+use Rattle.input.specs.meaning.Rows.{rowTwo, linksOf, Visit, visits, visitsFrom, reached, lowest, lowestOf}
+use Rattle.input.specs.machine.Rising.{visit, looked, known, finds}
 use Rattle.input.proofs.GoodNames.{never}
 use Rattle.input.proofs.Search.{neither, only, lowest-same, lowest-of-rising}
 use Rattle.input.proofs.Input.{visits-more}
 use Rattle.input.proofs.Rows.{links, Once, linked-once, linked-apart}
 
 -- a record that does not lead to k tells nothing of it
-pub looked-apart : (words : List ℕ) (r k : ℕ) (here before : Option Visit) → any (eqb k) (linksOf words r) ≡ false → looked words r k here before ≡ before
+pub looked-apart : (words : List ℕ) (r k : ℕ) (here before : Option Visit) → any (eqb k) (linksOf words r) ≡ false
+    → looked words r k here before ≡ before
 unfolding any looked
 looked-apart words zero k here before e =
     let a = neither (eqb k (nextAt words 0)) _ e in
@@ -38,11 +39,14 @@ looked-apart words (suc r) k (some v) before e =
 data Told (words : List ℕ) (r k : ℕ) (here before : Option Visit) (v : Visit) : Type 0 where
   by-top : r ≡ 0 → k ≡ childAt words 0 → visit k items 1 ≡ v → Told words r k here before v
   by-next : (u : Visit) → here ≡ some u → k ≡ nextAt words r → visit k (u .place) (u .depth) ≡ v → Told words r k here before v
-  by-child : (u : Visit) → here ≡ some u → k ≡ childAt words r → visit k (childPlace (kindAt words r)) (suc (u .depth)) ≡ v → Told words r k here before v
-  by-second : (u : Visit) → here ≡ some u → k ≡ secondAt words r → visit k (secondPlace (kindAt words r)) (suc (u .depth)) ≡ v → Told words r k here before v
+  by-child : (u : Visit) → here ≡ some u → k ≡ childAt words r → visit k (childPlace (kindAt words r)) (suc (u .depth)) ≡ v
+      → Told words r k here before v
+  by-second : (u : Visit) → here ≡ some u → k ≡ secondAt words r → visit k (secondPlace (kindAt words r)) (suc (u .depth)) ≡ v
+      → Told words r k here before v
   earlier : before ≡ some v → Told words r k here before v
 
-told : (words : List ℕ) (r k : ℕ) (here before : Option Visit) (v : Visit) → looked words r k here before ≡ some v → Told words r k here before v
+told : (words : List ℕ) (r k : ℕ) (here before : Option Visit) (v : Visit) → looked words r k here before ≡ some v
+    → Told words r k here before v
 unfolding looked
 told words zero k here before v e =
     by-test (eqb k (childAt words 0)) (λ q. by-top refl (eqb-true _ _ q) (cc (rw q at e))) (λ q. earlier (rw q at e))
@@ -115,7 +119,8 @@ module _ (words : List ℕ) (e : rowTwo words ≡ none) where
         let t = eq-eqb (secondAt words (suc r)) (secondAt words (suc r)) refl in
         let n = neither (eqb (secondAt words (suc r)) (nextAt words (suc r))) _ (once .second .own z) in
         let c = neither (eqb (secondAt words (suc r)) (childAt words (suc r))) false (n .1) in
-        known-stays (suc r) _ _ _ z (rw (n .0, c .0, t) refl) (own .second .within z) (own .second .up z) (omega arith) (rw (h, n .0, c .0, t) refl)
+        known-stays (suc r) _ _ _ z (rw (n .0, c .0, t) refl) (own .second .within z) (own .second .up z) (omega arith)
+        (rw (h, n .0, c .0, t) refl)
 
   -- the visits of a known record are known, each where its record is looked at
   visits-known : (test : Visit → Bool) (k f : ℕ) (place : InputPlace) (depth r : ℕ) → At words r
@@ -134,7 +139,8 @@ module _ (words : List ℕ) (e : rowTwo words ≡ none) where
       (λ x. visits-known test k f _ _ _ (l .child .within) (known-child r _ b q) x)
       (λ x. by-test (any (only test k) (visits f words (secondPlace (kindAt words (suc r))) (suc depth) (secondAt words (suc r))))
       (λ y. visits-known test k f _ _ _ (l .second .within) (known-second r _ b q) y)
-      (λ y. visits-known test k f place depth (nextAt words (suc r)) (l .next .within) (known-next r _ b q) (rw (o, any-append, x, any-append, y) at t))))
+      (λ y. visits-known test k f place depth (nextAt words (suc r)) (l .next .within) (known-next r _ b q)
+      (rw (o, any-append, x, any-append, y) at t))))
     where
       here : known words (suc r) (suc r) ≡ some (visit (suc r) place depth) → only test k (visit (suc r) place depth) ≡ true
           → finds test (known words k k) ≡ true
@@ -171,8 +177,10 @@ module _ (words : List ℕ) (e : rowTwo words ≡ none) where
 
   -- and what is known is reached, with the visits from there on
   module _ (test : Visit → Bool) (k : ℕ) (v : Visit) (t : any test (visitsFrom words (v .place) (v .depth) k) ≡ true) where
-    led : (r : ℕ) → r < recordCount words → ((u : Visit) → known words r r ≡ some u → any test (visitsFrom words (u .place) (u .depth) r) ≡ true → any test (reached words) ≡ true)
-        → (known words r k ≡ some v → any test (reached words) ≡ true) → Told words r k (known words r r) (known words r k) v → any test (reached words) ≡ true
+    led : (r : ℕ) → r < recordCount words → ((u : Visit) → known words r r ≡ some u
+        → any test (visitsFrom words (u .place) (u .depth) r) ≡ true → any test (reached words) ≡ true)
+        → (known words r k ≡ some v → any test (reached words) ≡ true) → Told words r k (known words r r) (known words r k) v
+        → any test (reached words) ≡ true
     unfolding known reached
     led r b f g (by-top z p q) = rw (← p) (rw (← q) at t)
     led zero b f g (by-next u h p q) = never h
@@ -192,7 +200,8 @@ module _ (words : List ℕ) (e : rowTwo words ≡ none) where
       (told words r k (known words r r) (known words r k) v h)
 
   -- the first top item is known
-  known-top : 0 < recordCount words → (childAt words 0 ≡ 0 → ⊥) → known words (childAt words 0) (childAt words 0) ≡ some (visit (childAt words 0) items 1)
+  known-top : 0 < recordCount words → (childAt words 0 ≡ 0 → ⊥)
+      → known words (childAt words 0) (childAt words 0) ≡ some (visit (childAt words 0) items 1)
   unfolding known looked any
   known-top b z =
       let l = up .all 0 b .child in
@@ -206,7 +215,8 @@ module _ (words : List ℕ) (e : rowTwo words ≡ none) where
   unfolding known
   own-visit test zero v b h t = never h
   own-visit test (suc k) v b h t =
-      let n : v ≡ visit (suc k) (v .place) (v .depth) = ap (λ (x : ℕ). visit x (v .place) (v .depth)) (known-number words (suc k) (suc k) v h) in
+      let n : v ≡ visit (suc k) (v .place) (v .depth) = ap (λ (x : ℕ). visit x (v .place) (v .depth))
+      (known-number words (suc k) (suc k) v h) in
       let o : test (visit (suc k) (v .place) (v .depth)) ≡ true = rw n at t in
       rw (visits-more words up (v .place) (v .depth) (suc k) (λ z. omega arith) b)
       (any-head (only test (suc k)) _ _ (rw (eq-eqb (suc k) (suc k) refl) o))
@@ -216,7 +226,8 @@ module _ (words : List ℕ) (e : rowTwo words ≡ none) where
   unfolding reached visitsFrom
   found-alike test k b =
       by-test (any (only test k) (reached words))
-      (λ t. t ∙ sym (visits-known test k (recordCount words) items 1 (childAt words 0) (up .all 0 (omega arith) .child .within) (known-top (omega arith)) t))
+      (λ t. t ∙ sym (visits-known test k (recordCount words) items 1 (childAt words 0) (up .all 0 (omega arith) .child .within)
+      (known-top (omega arith)) t))
       (λ t. t ∙ sym (go (known words k k) refl t))
     where
       go : (o : Option Visit) → known words k k ≡ o → any (only test k) (reached words) ≡ false → finds test o ≡ false
@@ -224,7 +235,8 @@ module _ (words : List ℕ) (e : rowTwo words ≡ none) where
       go (some v) q t = is-false (test v) (λ y. not-both (known-reached (only test k) k k v (omega arith) q (own-visit test k v b q y)) t)
 
   -- all visits are of records that there are
-  visits-within : (f : ℕ) (place : InputPlace) (depth r : ℕ) → At words r → any (λ (v : Visit). leb (recordCount words) (v .number)) (visits f words place depth r) ≡ false
+  visits-within : (f : ℕ) (place : InputPlace) (depth r : ℕ) → At words r
+      → any (λ (v : Visit). leb (recordCount words) (v .number)) (visits f words place depth r) ≡ false
   unfolding visits any
   visits-within zero place depth r a = refl
   visits-within (suc f) place depth zero a = refl

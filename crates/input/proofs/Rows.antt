@@ -1,4 +1,5 @@
--- What an accepted input keeps: its links go up, its texts lie inside, and its description has good names, fit places and at most 64 levels.
+-- What an accepted input keeps: its links go up, its texts lie inside, and its description has good names, fit places and at most 64
+-- nestings.
 use Prim.Native.Nat.{ℕ, zero, suc, _+_, _*_, _≤_, _<_}
 use mathlib.Core.Path.{_≡_, refl, sym, _∙_}
 use mathlib.Core.Bool.{Bool, true, false, cond}
@@ -10,13 +11,16 @@ use borrow.Author.Tests.{not-false, ltb-false, leb-true, leb-false, eqb-true, ne
 use lib.Dec.{eqb, leb}
 use lib.ListN.{length}
 use Rattle.paths_numbers.proofs.Texts.{by-test, not-both, both}
-use Rattle.queries.specs.Kind.{any}
-use Rattle.input.specs.Tree.{nameKind}
-use Rattle.input.specs.Input.{recordWords, recordCount, kindAt, nextAt, childAt, textStartAt, textLengthAt, spanAt, textAt, secondAt, numberAt, treesAt, chainAt, description}
-use Rattle.input.specs.Place.{InputPlace, items, fitsAlone, fitsPlaces, depthsOf}
-use Rattle.input.specs.Linked.{Link, Links, Linked, ChainIn}
-use Rattle.input.specs.Rows.{Verdict, accepted, refused, mostRecords, mostText, mostLinks, wrongSize, linksOf, linkedBelow, badLink, badLinks, rowTwo, badText, rowThree, Visit, visits, visitsFrom, reached, lowestOf, unfit, badHead, rowFour, badName, rowFive, tooDeep, rowSix, orElse, verdict}
-use Rattle.input.specs.GoodName.{goodName, goodNamesIn}
+use Rattle.paths_numbers.specs.meaning.Lists.{any}
+use Rattle.input.specs.meaning.Tree.{nameKind}
+use Rattle.input.specs.meaning.Input.{recordWords, recordCount, kindAt, nextAt, childAt, textStartAt, textLengthAt, spanAt, textAt}
+use Rattle.input.specs.meaning.Input.{secondAt, numberAt, treesAt, chainAt, description}
+use Rattle.input.specs.meaning.Place.{InputPlace, items, fitsAlone, fitsPlaces, depthsOf}
+use Rattle.input.specs.machine.Linked.{Link, Links, Linked, ChainIn}
+use Rattle.input.specs.meaning.Rows.{Verdict, accepted, refused, mostRecords, mostText, mostLinks, wrongSize, linksOf, linkedBelow}
+use Rattle.input.specs.meaning.Rows.{badLink, badLinks, rowTwo, badText, rowThree, Visit, visits, visitsFrom, reached, lowestOf}
+use Rattle.input.specs.meaning.Rows.{unfit, badHead, rowFour, badName, rowFive, tooDeep, rowSix, orElse, verdict}
+use Rattle.input.specs.meaning.GoodName.{goodName, goodNamesIn}
 use Rattle.input.proofs.GoodNames.{never}
 use Rattle.input.proofs.Search.{neither, none-of, lowest-none, lowest-of-none}
 
@@ -167,7 +171,8 @@ module _ (words text : List ℕ) where
   fit-own : (v : Visit) → unfit words v ≡ false
       → fitsAlone (v .place) (kindAt words (v .number)) (numberAt words (v .number)) (spanAt words (v .number)) ≡ true
   unfolding unfit
-  fit-own v e = both (fitsAlone (v .place) (kindAt words (v .number)) (numberAt words (v .number)) (spanAt words (v .number))) _ (not-false _ e) .0
+  fit-own v e = both (fitsAlone (v .place) (kindAt words (v .number)) (numberAt words (v .number)) (spanAt words (v .number))) _
+      (not-false _ e) .0
 
   fit-trees : (f : ℕ) (place : InputPlace) (depth r : ℕ) → any (unfit words) (visits f words place depth r) ≡ false
       → fitsPlaces place (treesAt f words text r) ≡ true
@@ -243,7 +248,8 @@ module _ (words text : List ℕ) where
   accepted-depth e =
       omega (
         arith,
-        shallow-trees (recordCount words) items 1 (childAt words 0) (omega arith) (lowest-of-none tooDeep _ (accepted-rows words text e .six)),
+        shallow-trees (recordCount words) items 1 (childAt words 0) (omega arith)
+            (lowest-of-none tooDeep _ (accepted-rows words text e .six)),
       )
 
   pub accepted-linked : verdict words text ≡ accepted → Linked words

@@ -9,13 +9,14 @@ use native.Mathlib.Omega.{arith}
 use borrow.Author.Tests.{ne-eqb}
 use lib.Dec.{eqb}
 use lib.ListN.{getD}
-use Rattle.queries.specs.Kind.{any}
-use Rattle.input.specs.Input.{recordCount}
-use Rattle.input.specs.Rows.{refused, wrongSize, rowTwo, linksOf, rowThree, Visit, rowFour, rowFive, rowSix, reached, lowest, lowestOf, verdict}
-use Rattle.input.specs.Rising.{known, finds}
-use Rattle.input.specs.RowsPass.{standOf, Stands, breaks, faultBy, firstFault, rowsFrom, laterRows}
+use Rattle.paths_numbers.specs.meaning.Lists.{any}
+use Rattle.input.specs.meaning.Input.{recordCount}
+use Rattle.input.specs.meaning.Rows.{refused, wrongSize, rowTwo, linksOf, rowThree, Visit, rowFour, rowFive, rowSix, reached, lowest}
+use Rattle.input.specs.meaning.Rows.{lowestOf, verdict}
+use Rattle.input.specs.machine.Rising.{known, finds}
+use Rattle.input.specs.machine.RowsPass.{standOf, Stands, breaks, faultBy, firstFault, rowsFrom, laterRows}
 use Rattle.input.proofs.Search.{lowest-same}
-use Rattle.input.specs.Linked.{Link}
+use Rattle.input.specs.machine.Linked.{Link}
 use Rattle.input.proofs.Rows.{links, sizes}
 use Rattle.input.proofs.Rising.{looked-apart, known-number, rising}
 use Rattle.input.proofs.RowsStands.{stand-some, stand-back}
@@ -56,7 +57,8 @@ module _ (words : List ℕ) (e : rowTwo words ≡ none) where
         h .tell k (omega (arith, h .room)) ∙ ap standOf (known-stays (recordCount words) k (omega arith) n (omega arith))
 
     -- the fault of a reached record
-    fault-known : (row k : ℕ) (o : Option Visit) → (row ≡ 3 → ⊥) → (k ≡ 0 → ⊥) → getD stands k 0 ≡ standOf o → ((v : Visit) → o ≡ some v → v .number ≡ k)
+    fault-known : (row k : ℕ) (o : Option Visit) → (row ≡ 3 → ⊥) → (k ≡ 0 → ⊥) → getD stands k 0 ≡ standOf o
+        → ((v : Visit) → o ≡ some v → v .number ≡ k)
         → faultBy row words text stands k ≡ finds (breaks row words text) o
     unfolding faultBy standOf
     fault-known row k none a n s q = rw (ne-eqb row 3 a, ne-eqb k 0 n, s) refl

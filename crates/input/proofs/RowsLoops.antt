@@ -9,9 +9,9 @@ use native.Mathlib.Numerals.{add-one}
 use native.Mathlib.Omega.{arith}
 use lib.ListN.{length, getD, drop, drop-of-length-le}
 use lib.Seq.{drop-cons}
-use Rattle.queries.specs.Kind.{any}
-use Rattle.input.specs.Rows.{Verdict, accepted, refused, lowest}
-use Rattle.input.specs.RowsPass.{firstFault, rowsFrom}
+use Rattle.paths_numbers.specs.meaning.Lists.{any}
+use Rattle.input.specs.meaning.Rows.{Verdict, accepted, refused, lowest}
+use Rattle.input.specs.machine.RowsPass.{firstFault, rowsFrom}
 
 -- w is whether the list has an element that passes the test, and the invariant says that it is decided by what is left of the list
 module _ (f : ℕ → Bool) (l : List ℕ) (i : ℕ) (w : Bool) (inv : w ≡ any f (drop i l)) where
@@ -59,7 +59,8 @@ module _ (words text stands : List ℕ) (row : ℕ) (x : Verdict) (inv : x ≡ r
   row-here o r h e q = let k : 7 - row ≡ suc (7 - (row + 1)) = omega arith in sym (inv ∙ rw (k, sym e ∙ q) refl)
 
   -- none is
-  pub row-later : (o : Option ℕ) → row ≤ 6 → o ≡ firstFault row words text stands → o ≡ none → x ≡ rowsFrom (7 - (row + 1)) (row + 1) words text stands
+  pub row-later : (o : Option ℕ) → row ≤ 6 → o ≡ firstFault row words text stands → o ≡ none
+      → x ≡ rowsFrom (7 - (row + 1)) (row + 1) words text stands
   unfolding rowsFrom
   row-later o h e q = let k : 7 - row ≡ suc (7 - (row + 1)) = omega arith in inv ∙ rw (k, sym e ∙ q, add-one) refl
 

@@ -10,10 +10,10 @@ use lib.Dec.{eqb}
 use lib.ListN.{length, getD, replicate, length-set, length-replicate, getD-replicate}
 use lib.Seq.{getD-set-same, getD-set-other}
 use Rattle.paths_numbers.proofs.Texts.{by-test}
-use Rattle.queries.specs.Kind.{any}
-use Rattle.input.specs.Input.{recordCount, nextAt, childAt, secondAt}
-use Rattle.input.specs.Rows.{linkedBelow, badLink, badLinks}
-use Rattle.input.specs.RowsPass.{stored, Marks, markLinks}
+use Rattle.paths_numbers.specs.meaning.Lists.{any}
+use Rattle.input.specs.meaning.Input.{recordCount, nextAt, childAt, secondAt}
+use Rattle.input.specs.meaning.Rows.{linkedBelow, badLink, badLinks}
+use Rattle.input.specs.machine.RowsPass.{stored, Marks, markLinks}
 
 -- a number stored
 pub stored-length : (l : List ℕ) (i v : ℕ) → length (stored l i v) ≡ length l
@@ -38,12 +38,14 @@ module _ (words : List ℕ) (r a b : ℕ) (ea : a ≡ nextAt words r) (eb : b �
     unfolding badLinks
     links-second q q' = rw (← ea, ← eb, sym et ∙ q, sym eu ∙ q') refl
 
-    pub links-third : (d : ℕ) (w : Bool) → d ≡ secondAt words r → w ≡ badLink words r (a ∷ b ∷ []) d → t ≡ false → u ≡ false → w ≡ badLinks words r
+    pub links-third : (d : ℕ) (w : Bool) → d ≡ secondAt words r → w ≡ badLink words r (a ∷ b ∷ []) d → t ≡ false → u ≡ false
+        → w ≡ badLinks words r
     unfolding badLinks
     links-third d w ed ew q q' = ew ∙ rw (← ea, ← eb, ← ed, sym et ∙ q, sym eu ∙ q') refl
 
 -- three links marked in order
-pub mark-three : (words : List ℕ) (r : ℕ) (m m' m'' m''' : List ℕ) (a b d : ℕ) → m' ≡ stored m a 1 → m'' ≡ stored m' b 1 → m''' ≡ stored m'' d 1
+pub mark-three : (words : List ℕ) (r : ℕ) (m m' m'' m''' : List ℕ) (a b d : ℕ) → m' ≡ stored m a 1 → m'' ≡ stored m' b 1
+    → m''' ≡ stored m'' d 1
     → a ≡ nextAt words r → b ≡ childAt words r → d ≡ secondAt words r → m''' ≡ markLinks words r m
 unfolding markLinks
 mark-three words r m m' m'' m''' a b d e e' e'' p p' p'' = rw (e'', e', e, p, p', p'') refl

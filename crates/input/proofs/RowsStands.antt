@@ -10,11 +10,11 @@ use borrow.Author.Tests.{ne-eqb}
 use lib.Dec.{eqb}
 use lib.ListN.{length, getD, replicate, length-replicate, getD-replicate}
 use Rattle.paths_numbers.proofs.Texts.{by-test}
-use Rattle.input.specs.Input.{recordCount, kindAt, nextAt, childAt, secondAt}
-use Rattle.input.specs.Place.{InputPlace, childPlace, secondPlace}
-use Rattle.input.specs.Rising.{looked, known}
-use Rattle.input.specs.Rows.{Visit}
-use Rattle.input.specs.RowsPass.{numberOf, stored, standOf, visitAt, below, ledOn, Stands, breaks, faultBy}
+use Rattle.input.specs.meaning.Input.{recordCount, kindAt, nextAt, childAt, secondAt}
+use Rattle.input.specs.meaning.Place.{InputPlace, childPlace, secondPlace}
+use Rattle.input.specs.machine.Rising.{looked, known}
+use Rattle.input.specs.meaning.Rows.{Visit}
+use Rattle.input.specs.machine.RowsPass.{numberOf, stored, standOf, visitAt, below, ledOn, Stands, breaks, faultBy}
 use Rattle.input.proofs.RowsTests.{place-back, in-places}
 use Rattle.input.proofs.RowsMarks.{stored-length, stored-at}
 
@@ -63,7 +63,8 @@ stand-back v k e =
 module _ (words : List ℕ) (r stand : ℕ) (s s' s'' s''' : List ℕ) (kind a b d p q : ℕ) (k : kind ≡ kindAt words r)
     (ea : a ≡ nextAt words r) (eb : b ≡ childAt words r) (ed : d ≡ secondAt words r)
     (ep : p ≡ numberOf (secondPlace kind)) (eq : q ≡ numberOf (childPlace kind)) where
-  pub led-three : (stand ≡ 0 → ⊥) → s' ≡ stored s d ((stand / 16 + 1) * 16 + p) → s'' ≡ stored s' b ((stand / 16 + 1) * 16 + q) → s''' ≡ stored s'' a stand
+  pub led-three : (stand ≡ 0 → ⊥) → s' ≡ stored s d ((stand / 16 + 1) * 16 + p) → s'' ≡ stored s' b ((stand / 16 + 1) * 16 + q)
+      → s''' ≡ stored s'' a stand
       → s''' ≡ ledOn words r stand s
   unfolding ledOn below
   led-three n e e' e'' = rw (e'', e', e, ea, eb, ed, ep, eq, k, ne-eqb stand 0 n) refl
@@ -103,14 +104,16 @@ module _ (words : List ℕ) (r : ℕ) (s : List ℕ) (h : Stands words (suc r) s
   unfolding ledOn
   led-length stand = by-test (eqb stand 0) (λ x. rw x refl) (λ x. rw (x, stored-length, stored-length, stored-length) refl)
 
-  stands-suc : (stand : ℕ) (s' : List ℕ) → stand ≡ getD s (suc r) 0 → suc r < length s → s' ≡ ledOn words (suc r) stand s → Stands words (suc (suc r)) s'
+  stands-suc : (stand : ℕ) (s' : List ℕ) → stand ≡ getD s (suc r) 0 → suc r < length s → s' ≡ ledOn words (suc r) stand s
+      → Stands words (suc (suc r)) s'
   unfolding known
   stands-suc stand s' e b q =
       let long : length s' ≡ length s = rw (q, led-length) refl in
       let own : stand ≡ standOf (known words (suc r) (suc r)) = e ∙ h .tell (suc r) b in
       record { room = rw long (h .room); tell = λ k x. rw (q, own) (led-tell (known words (suc r) (suc r)) k (rw long at x)) }
 
-pub stands-more : (words : List ℕ) (r : ℕ) (s : List ℕ) (stand : ℕ) (s' : List ℕ) → 1 ≤ r → Stands words r s → stand ≡ getD s r 0 → r < length s
+pub stands-more : (words : List ℕ) (r : ℕ) (s : List ℕ) (stand : ℕ) (s' : List ℕ) → 1 ≤ r → Stands words r s → stand ≡ getD s r 0
+    → r < length s
     → s' ≡ ledOn words r stand s → Stands words (r + 1) s'
 stands-more words zero s stand s' n h e b q = absurd (omega arith)
 stands-more words (suc r) s stand s' n h e b q = rw (add-one (suc r)) (stands-suc words r s h stand s' e b q)
@@ -134,7 +137,8 @@ stand-most words zero k = omega arith
 stand-most words (suc r) k = looked-most words r k (known words r r) (known words r k) (stand-most words r r) (stand-most words r k)
 
 -- the fault of a record that is reached
-pub fault-reached : (row : ℕ) (words text stands : List ℕ) (r stand : ℕ) (t : Bool) → (row ≡ 3 → ⊥) → (r ≡ 0 → ⊥) → stand ≡ getD stands r 0 → (stand ≡ 0 → ⊥)
+pub fault-reached : (row : ℕ) (words text stands : List ℕ) (r stand : ℕ) (t : Bool) → (row ≡ 3 → ⊥) → (r ≡ 0 → ⊥) → stand ≡ getD stands r 0
+    → (stand ≡ 0 → ⊥)
     → t ≡ breaks row words text (visitAt r stand) → t ≡ faultBy row words text stands r
 unfolding faultBy
 fault-reached row words text stands r stand t a b e n q = q ∙ rw (ne-eqb row 3 a, ne-eqb r 0 b, ← e, ne-eqb stand 0 n) refl

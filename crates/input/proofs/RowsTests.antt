@@ -7,14 +7,15 @@ use native.Mathlib.Omega.{arith}
 use borrow.Author.Tests.{not-true, not-false, lt-ltb, le-ltb, leb-true, leb-false}
 use lib.Dec.{eqb, leb, ltb}
 use lib.ListN.{length}
-use Rattle.paths_numbers.specs.Text.{isEmpty}
+use Rattle.paths_numbers.specs.meaning.Text.{isEmpty}
 use Rattle.paths_numbers.proofs.Texts.{by-test}
-use Rattle.queries.specs.Kind.{any}
-use Rattle.input.specs.Input.{kindAt, childAt, spanStartAt, spanEndAt, numberAt}
-use Rattle.input.specs.Place.{InputPlace, items, nodeParts, propertyParts, directiveParts, values, cells, expressions, names, macros, noPlace, kindsIn, hasChildren, fitsAlone}
-use Rattle.input.specs.Rows.{unfit, holdsSlash}
-use Rattle.input.specs.GoodName.{goodName}
-use Rattle.input.specs.RowsPass.{numberOf, placeOf, visitAt}
+use Rattle.paths_numbers.specs.meaning.Lists.{any}
+use Rattle.input.specs.meaning.Input.{kindAt, childAt, spanStartAt, spanEndAt, numberAt}
+use Rattle.input.specs.meaning.Place.{InputPlace, items, nodeParts, propertyParts, directiveParts, values, cells, expressions, names}
+use Rattle.input.specs.meaning.Place.{macros, noPlace, kindsIn, hasChildren, fitsAlone}
+use Rattle.input.specs.meaning.Rows.{unfit, holdsSlash}
+use Rattle.input.specs.meaning.GoodName.{goodName}
+use Rattle.input.specs.machine.RowsPass.{numberOf, placeOf, visitAt}
 
 -- the places by number
 

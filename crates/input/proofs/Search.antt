@@ -9,9 +9,9 @@ use native.Mathlib.Omega.{arith}
 use borrow.Author.Tests.{le-leb, lt-leb, leb-false, eqb-true, eqb-false}
 use lib.Dec.{eqb, leb}
 use Rattle.paths_numbers.proofs.Texts.{by-test, not-both}
-use Rattle.queries.specs.Kind.{any}
-use Rattle.queries.proofs.Lists.{any-append}
-use Rattle.input.specs.Rows.{lowest, Visit, smaller, lowestOf}
+use Rattle.paths_numbers.specs.meaning.Lists.{any}
+use Rattle.paths_numbers.proofs.Lists.{any-append}
+use Rattle.input.specs.meaning.Rows.{lowest, Visit, smaller, lowestOf}
 use Rattle.input.proofs.GoodNames.{never}
 
 -- neither of two tests, the second asked only where the first does not hold

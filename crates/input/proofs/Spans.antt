@@ -7,11 +7,12 @@ use native.Mathlib.Omega.{arith}
 use borrow.Author.Tests.{le-leb, leb-true}
 use lib.Dec.{eqb, leb}
 use Rattle.paths_numbers.proofs.Texts.{by-test, both}
-use Rattle.log.specs.Meaning.{Span}
-use Rattle.log.specs.Good.{inOrder}
-use Rattle.input.specs.Tree.{Tree, Trees, tree, empty, more, kindOf, spanOf, childrenOf, secondOf, firstOf, nameKind, unitAddressKind, referenceKind, slashKind}
-use Rattle.input.specs.Name.{spanTo, slashSpan, ownSpan, referenceSpan, nodeNameSpan, propertyNameSpan}
-use Rattle.input.specs.Place.{InputPlace, fits, wFits, childPlace, secondPlace, fitsAlone, fitsPlace, fitsPlaces}
+use Rattle.log.specs.meaning.Contents.{Span}
+use Rattle.log.specs.machine.Good.{inOrder}
+use Rattle.input.specs.meaning.Tree.{Tree, Trees, tree, empty, more, kindOf, spanOf, childrenOf, secondOf, firstOf, nameKind}
+use Rattle.input.specs.meaning.Tree.{unitAddressKind, referenceKind, slashKind}
+use Rattle.input.specs.meaning.Name.{spanTo, slashSpan, ownSpan, referenceSpan, nodeNameSpan, propertyNameSpan}
+use Rattle.input.specs.meaning.Place.{InputPlace, fits, wFits, childPlace, secondPlace, fitsAlone, fitsPlace, fitsPlaces}
 use Rattle.input.proofs.GoodNames.{never}
 
 -- every span of a tree is in order

@@ -6,21 +6,22 @@ use mathlib.Core.Bool.{cond}
 use mathlib.Core.List.{List, []}
 use native.Mathlib.Omega.{arith}
 use borrow.Author.Tests.{ne-eqb}
-use Rattle.paths_numbers.specs.Bytestring.{isOdd, bytesOf, countOf}
+use Rattle.paths_numbers.specs.meaning.Bytestring.{isOdd, bytesOf, countOf}
 use Rattle.paths_numbers.specs.declared.dt_property.BitsSize.{BitsSize}
 use Rattle.paths_numbers.specs.declared.dt_property.ByteCount.{ByteCount}
 use Rattle.paths_numbers.specs.declared.dt_property.ByteCount.the-variants as B
 use Rattle.paths_numbers.proofs.Texts.{by-test}
-use Rattle.log.specs.Meaning.{Span, bytestring}
-use Rattle.making.specs.Recs.{targetMade}
-use Rattle.making.specs.declared.recs.TargetKind.{TargetKind}
-use Rattle.input.specs.Tree.{tree, numberKind, characterKind, expressionKind, referenceKind, macroKind, directiveKind, preprocessorKind, stringKind, cellListKind, bytestringKind}
-use Rattle.input.specs.Report.{one, nothing, andThen}
-use Rattle.input.specs.Phandle.{lowerPhandle}
-use Rattle.input.specs.Property.{referenceCell, lowerCell, lowerCells, countedBytes, referenceValue, lowerValue, lowerValues}
-use Rattle.input.specs.Input.{recordCount, kindAt, nextAt, childAt, secondAt, textAt, numberAt, spanAt, chainAt, recordAt}
-use Rattle.input.specs.Linked.{Linked}
-use Rattle.input.specs.ValueRead.{plainMade}
+use Rattle.log.specs.meaning.Contents.{Span, bytestring}
+use Rattle.log.specs.machine.Parts.{targetMade}
+use Rattle.log.specs.declared.parts.TargetKind.{TargetKind}
+use Rattle.input.specs.meaning.Tree.{tree, numberKind, characterKind, expressionKind, referenceKind, macroKind, directiveKind}
+use Rattle.input.specs.meaning.Tree.{preprocessorKind, stringKind, cellListKind, bytestringKind}
+use Rattle.input.specs.meaning.Report.{one, nothing, andThen}
+use Rattle.input.specs.meaning.Phandle.{lowerPhandle}
+use Rattle.input.specs.meaning.Property.{referenceCell, lowerCell, lowerCells, countedBytes, referenceValue, lowerValue, lowerValues}
+use Rattle.input.specs.meaning.Input.{recordCount, kindAt, nextAt, childAt, secondAt, textAt, numberAt, spanAt, chainAt, recordAt}
+use Rattle.input.specs.machine.Linked.{Linked}
+use Rattle.input.specs.machine.ValueRead.{plainMade}
 use Rattle.input.specs.declared.value_read.PlainValue.{PlainValue}
 use Rattle.input.specs.declared.value_read.PlainValue.the-variants as P
 use Rattle.input.proofs.Input.{chain-none, chain-more}
@@ -28,13 +29,15 @@ use Rattle.input.proofs.Input.{chain-none, chain-more}
 module _ (words text : List ℕ) (r : ℕ) where
   -- a record of a kind
   pub cell-kind : (size : BitsSize) (k : ℕ) → kindAt words r ≡ k
-      → lowerCell size (tree k (textAt words text r) (numberAt words r) (spanAt words r) (chainAt words text (childAt words r)) (chainAt words text (secondAt words r)))
+      → lowerCell size (tree k (textAt words text r) (numberAt words r) (spanAt words r) (chainAt words text (childAt words r))
+      (chainAt words text (secondAt words r)))
       ≡ lowerCell size (recordAt words text r)
   unfolding recordAt
   cell-kind size k e = rw (sym e) refl
 
   pub value-kind : (k : ℕ) → kindAt words r ≡ k
-      → lowerValue (tree k (textAt words text r) (numberAt words r) (spanAt words r) (chainAt words text (childAt words r)) (chainAt words text (secondAt words r)))
+      → lowerValue (tree k (textAt words text r) (numberAt words r) (spanAt words r) (chainAt words text (childAt words r))
+      (chainAt words text (secondAt words r)))
       ≡ lowerValue (recordAt words text r)
   unfolding recordAt
   value-kind k e = rw (sym e) refl
@@ -45,13 +48,16 @@ module _ (words text : List ℕ) (r : ℕ) where
   unfolding lowerCell recordAt
   cell-reference size e = rw e refl
 
-  pub value-reference : kindAt words r ≡ referenceKind → referenceValue (lowerPhandle (recordAt words text r)) ≡ lowerValue (recordAt words text r)
+  pub value-reference : kindAt words r ≡ referenceKind → referenceValue (lowerPhandle (recordAt words text r)) ≡ lowerValue
+      (recordAt words text r)
   unfolding lowerValue recordAt
   value-reference e = rw e refl
 
   -- and of none of these kinds
-  pub cell-other : (size : BitsSize) → (kindAt words r ≡ numberKind → ⊥) → (kindAt words r ≡ characterKind → ⊥) → (kindAt words r ≡ expressionKind → ⊥)
-      → (kindAt words r ≡ referenceKind → ⊥) → (kindAt words r ≡ macroKind → ⊥) → (kindAt words r ≡ directiveKind → ⊥) → (kindAt words r ≡ preprocessorKind → ⊥)
+  pub cell-other : (size : BitsSize) → (kindAt words r ≡ numberKind → ⊥) → (kindAt words r ≡ characterKind → ⊥)
+      → (kindAt words r ≡ expressionKind → ⊥)
+      → (kindAt words r ≡ referenceKind → ⊥) → (kindAt words r ≡ macroKind → ⊥) → (kindAt words r ≡ directiveKind → ⊥)
+      → (kindAt words r ≡ preprocessorKind → ⊥)
       → nothing [] ≡ lowerCell size (recordAt words text r)
   unfolding lowerCell recordAt
   cell-other size a b c d e f g =
@@ -66,7 +72,8 @@ module _ (words text : List ℕ) (r : ℕ) where
       )
 
   pub value-other : (kindAt words r ≡ stringKind → ⊥) → (kindAt words r ≡ cellListKind → ⊥) → (kindAt words r ≡ bytestringKind → ⊥)
-      → (kindAt words r ≡ referenceKind → ⊥) → (kindAt words r ≡ macroKind → ⊥) → (kindAt words r ≡ directiveKind → ⊥) → (kindAt words r ≡ preprocessorKind → ⊥)
+      → (kindAt words r ≡ referenceKind → ⊥) → (kindAt words r ≡ macroKind → ⊥) → (kindAt words r ≡ directiveKind → ⊥)
+      → (kindAt words r ≡ preprocessorKind → ⊥)
       → nothing [] ≡ lowerValue (recordAt words text r)
   unfolding lowerValue recordAt
   value-other a b c d e f g =
@@ -110,12 +117,14 @@ module _ (words text : List ℕ) (r : ℕ) where
   cells-end size e = rw (e, chain-none words text) refl
 
   module _ (l : Linked words) (n : r ≡ 0 → ⊥) (a : r < recordCount words) where
-    pub values-more : andThen (lowerValue (recordAt words text r)) (lowerValues (chainAt words text (nextAt words r))) ≡ lowerValues (chainAt words text r)
+    pub values-more : andThen (lowerValue (recordAt words text r)) (lowerValues (chainAt words text (nextAt words r))) ≡ lowerValues
+        (chainAt words text r)
     unfolding lowerValues
     values-more = rw (chain-more words l text r n a) refl
 
     pub cells-more : (size : BitsSize)
-        → andThen (lowerCell size (recordAt words text r)) (lowerCells size (chainAt words text (nextAt words r))) ≡ lowerCells size (chainAt words text r)
+        → andThen (lowerCell size (recordAt words text r)) (lowerCells size (chainAt words text (nextAt words r))) ≡ lowerCells size
+        (chainAt words text r)
     unfolding lowerCells
     cells-more size = rw (chain-more words l text r n a) refl
 

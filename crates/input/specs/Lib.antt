@@ -1,22 +1,3 @@
--- The description as a tree and what is reported of it, then its parts by 01's sections, then how it is read from words (Input) and rows 1 to 6.
-pub mod Tree
-pub mod GoodName
-pub mod Report
-pub mod Name
-pub mod Phandle
-pub mod Expr
-pub mod Property
-pub mod Input
-pub mod Place
-pub mod Linked
-pub mod Read
-pub mod Evaluation
-pub mod NameRead
-pub mod PhandleRead
-pub mod Reported
-pub mod ValueRead
-pub mod Rows
-pub mod Rising
-pub mod RowsPass
-pub mod RowsAnswer
-pub mod PropertyExample
+pub mod meaning
+pub mod machine
+pub mod examples

@@ -1,15 +1,15 @@
-// The value of an expression (eval of expr_eval.rs). The level, which falls with each link to
+// The value of an expression (eval of expr_eval.rs). The nesting, which falls with each link to
 // operands, is what row 6 leaves.
 ghost use mathlib.Core.Path.{_≡_};
 ghost use mathlib.Core.List.{List};
 ghost use Prim.Native.Nat.{ℕ};
-ghost use Rattle.paths_numbers.specs.Number.{intCode};
-ghost use Rattle.paths_numbers.specs.Expression.{evalPrefix, evalInfix};
-ghost use Rattle.log.specs.Meaning.{Span};
-ghost use Rattle.input.specs.Expr.{withValue, evaluated, literal, firstOperand, applied, prefixOf, infixOf, eval, evals};
-ghost use Rattle.input.specs.Input.{childAt, numberAt, spanAt, chainAt, recordAt};
-ghost use Rattle.input.specs.Linked.{Linked, RecordIn, ChainIn};
-ghost use Rattle.input.specs.Evaluation.{outcomeOf, decides};
+ghost use Rattle.paths_numbers.specs.meaning.Number.{intCode};
+ghost use Rattle.paths_numbers.specs.meaning.Expression.{evalPrefix, evalInfix};
+ghost use Rattle.log.specs.meaning.Contents.{Span};
+ghost use Rattle.input.specs.meaning.Expr.{withValue, evaluated, literal, firstOperand, applied, prefixOf, infixOf, eval, evals};
+ghost use Rattle.input.specs.meaning.Input.{childAt, numberAt, spanAt, chainAt, recordAt};
+ghost use Rattle.input.specs.machine.Linked.{Linked, RecordIn, ChainIn};
+ghost use Rattle.input.specs.machine.Evaluation.{outcomeOf, decides};
 use crate::kinds::CHARACTER;
 use crate::kinds::INFIX;
 use crate::kinds::MACRO;
@@ -21,6 +21,7 @@ use crate::record::child_at;
 use crate::record::kind_at;
 use crate::record::number_at;
 use crate::record::text_at;
+use paths_numbers::codes;
 use paths_numbers::expr_eval::IntErrorKind;
 use paths_numbers::expr_eval::ParsedI64;
 use paths_numbers::expr_eval::parse_int_tok_i64;
@@ -48,55 +49,58 @@ pub enum Evaluation {
 }
 
 // The value of an expression.
-pub fn eval(words: &[u32], text: &[u8], r: u32, level: u32) -> Evaluation
+pub fn eval(words: &[u32], text: &[u8], r: u32, nesting: u32) -> Evaluation
     requires { ⌜ Linked (now words) ⌝ }
-    requires { ⌜ RecordIn (now words) (now text) r level ⌝ }
+    requires { ⌜ RecordIn (now words) (now text) r nesting ⌝ }
     ensures { λ e. ⌜ outcomeOf (now (words .entry)) (now (text .entry)) e ≡ eval (recordAt (now (words .entry)) (now (text .entry)) r) ⌝ }
 {
-    if level == 0 {
+    if nesting == 0 {
         return Evaluation::Missing;
     }
     match kind_at(words, r) {
         MACRO => Evaluation::Macro(r),
         NUMBER => literal_of(r, parse_int_tok_i64(text_at(words, text, r))),
         CHARACTER => Evaluation::Value(number_at(words, r) as i64),
-        PREFIX => eval_prefix_at(words, text, r, level - 1),
-        PARENTHESIS => eval_first(words, text, child_at(words, r), level - 1),
-        INFIX => eval_infix_at(words, text, r, level - 1),
+        PREFIX => eval_prefix_at(words, text, r, nesting - 1),
+        PARENTHESIS => eval_first(words, text, child_at(words, r), nesting - 1),
+        INFIX => eval_infix_at(words, text, r, nesting - 1),
         _ => Evaluation::Missing,
     }
 }
 
 // The value of the first of a chain of operands.
-pub fn eval_first(words: &[u32], text: &[u8], first: u32, level: u32) -> Evaluation
+pub fn eval_first(words: &[u32], text: &[u8], first: u32, nesting: u32) -> Evaluation
     requires { ⌜ Linked (now words) ⌝ }
-    requires { ⌜ ChainIn (now words) (now text) first level ⌝ }
-    ensures { λ e. ⌜ outcomeOf (now (words .entry)) (now (text .entry)) e ≡ firstOperand (evals (chainAt (now (words .entry)) (now (text .entry)) first)) ⌝ }
+    requires { ⌜ ChainIn (now words) (now text) first nesting ⌝ }
+    ensures { λ e. ⌜ outcomeOf (now (words .entry)) (now (text .entry)) e ≡ firstOperand
+        (evals (chainAt (now (words .entry)) (now (text .entry)) first)) ⌝ }
 {
     if first == 0 {
         return Evaluation::Missing;
     }
-    eval(words, text, first, level)
+    eval(words, text, first, nesting)
 }
 
 // The value of a prefix record.
-fn eval_prefix_at(words: &[u32], text: &[u8], r: u32, level: u32) -> Evaluation
+fn eval_prefix_at(words: &[u32], text: &[u8], r: u32, nesting: u32) -> Evaluation
     requires { ⌜ Linked (now words) ⌝ }
-    requires { ⌜ ChainIn (now words) (now text) (childAt (now words) r) level ⌝ }
-    ensures { λ e. ⌜ outcomeOf (now (words .entry)) (now (text .entry)) e ≡ prefixOf (numberAt (now (words .entry)) r) (spanAt (now (words .entry)) r) (evals (chainAt (now (words .entry)) (now (text .entry)) (childAt (now (words .entry)) r))) ⌝ }
+    requires { ⌜ ChainIn (now words) (now text) (childAt (now words) r) nesting ⌝ }
+    ensures { λ e. ⌜ outcomeOf (now (words .entry)) (now (text .entry)) e ≡ prefixOf (numberAt (now (words .entry)) r)
+        (spanAt (now (words .entry)) r) (evals (chainAt (now (words .entry)) (now (text .entry)) (childAt (now (words .entry)) r))) ⌝ }
 {
     let op = number_at(words, r);
     if op == 0 {
         return Evaluation::Missing;
     }
-    prefix_of(op, r, eval_first(words, text, child_at(words, r), level))
+    prefix_of(op, r, eval_first(words, text, child_at(words, r), nesting))
 }
 
 // The value of an infix record.
-fn eval_infix_at(words: &[u32], text: &[u8], r: u32, level: u32) -> Evaluation
+fn eval_infix_at(words: &[u32], text: &[u8], r: u32, nesting: u32) -> Evaluation
     requires { ⌜ Linked (now words) ⌝ }
-    requires { ⌜ ChainIn (now words) (now text) (childAt (now words) r) level ⌝ }
-    ensures { λ e. ⌜ outcomeOf (now (words .entry)) (now (text .entry)) e ≡ infixOf (numberAt (now (words .entry)) r) (spanAt (now (words .entry)) r) (evals (chainAt (now (words .entry)) (now (text .entry)) (childAt (now (words .entry)) r))) ⌝ }
+    requires { ⌜ ChainIn (now words) (now text) (childAt (now words) r) nesting ⌝ }
+    ensures { λ e. ⌜ outcomeOf (now (words .entry)) (now (text .entry)) e ≡ infixOf (numberAt (now (words .entry)) r)
+        (spanAt (now (words .entry)) r) (evals (chainAt (now (words .entry)) (now (text .entry)) (childAt (now (words .entry)) r))) ⌝ }
 {
     let op = number_at(words, r);
     if op == 0 {
@@ -104,48 +108,50 @@ fn eval_infix_at(words: &[u32], text: &[u8], r: u32, level: u32) -> Evaluation
     }
     let x = child_at(words, r);
     if op == CONDITIONAL {
-        return eval_conditional_at(words, text, x, level);
+        return eval_conditional_at(words, text, x, nesting);
     }
-    eval_binary(words, text, r, op, x, level)
+    eval_binary(words, text, r, op, x, nesting)
 }
 
 // The value of an infix record whose operator takes three operands, from the first on.
-fn eval_conditional_at(words: &[u32], text: &[u8], x: u32, level: u32) -> Evaluation
+fn eval_conditional_at(words: &[u32], text: &[u8], x: u32, nesting: u32) -> Evaluation
     requires { ⌜ Linked (now words) ⌝ }
-    requires { ⌜ ChainIn (now words) (now text) x level ⌝ }
-    ensures { λ e. ⌜ ((span : Span) → outcomeOf (now (words .entry)) (now (text .entry)) e ≡ infixOf 19 span (evals (chainAt (now (words .entry)) (now (text .entry)) x))) ⌝ }
+    requires { ⌜ ChainIn (now words) (now text) x nesting ⌝ }
+    ensures { λ e. ⌜ ((span : Span) → outcomeOf (now (words .entry)) (now (text .entry)) e ≡ infixOf 19 span
+        (evals (chainAt (now (words .entry)) (now (text .entry)) x))) ⌝ }
 {
     let y = after(words, x);
     let z = after(words, y);
     if z == 0 {
         return Evaluation::Missing;
     }
-    let e = eval(words, text, x, level);
+    let e = eval(words, text, x, nesting);
     let Evaluation::Value(a) = e else {
         return e;
     };
     if is_true(a) {
-        return eval(words, text, y, level);
+        return eval(words, text, y, nesting);
     }
-    eval(words, text, z, level)
+    eval(words, text, z, nesting)
 }
 
 // The value of an infix record whose operator takes two operands, from the first on.
-fn eval_binary(words: &[u32], text: &[u8], r: u32, op: u32, x: u32, level: u32) -> Evaluation
+fn eval_binary(words: &[u32], text: &[u8], r: u32, op: u32, x: u32, nesting: u32) -> Evaluation
     requires { ⌜ Linked (now words) ⌝ }
-    requires { ⌜ ChainIn (now words) (now text) x level ⌝ }
+    requires { ⌜ ChainIn (now words) (now text) x nesting ⌝ }
     requires { ⌜ (op ≡ 0 → ⊥) × (op ≡ 19 → ⊥) ⌝ }
-    ensures { λ e. ⌜ outcomeOf (now (words .entry)) (now (text .entry)) e ≡ infixOf op (spanAt (now (words .entry)) r) (evals (chainAt (now (words .entry)) (now (text .entry)) x)) ⌝ }
+    ensures { λ e. ⌜ outcomeOf (now (words .entry)) (now (text .entry)) e ≡ infixOf op (spanAt (now (words .entry)) r)
+        (evals (chainAt (now (words .entry)) (now (text .entry)) x)) ⌝ }
 {
     let y = after(words, x);
     if y == 0 {
         return Evaluation::Missing;
     }
-    let e = eval(words, text, x, level);
+    let e = eval(words, text, x, nesting);
     let Evaluation::Value(a) = e else {
         return e;
     };
-    eval_second(words, text, r, op, a, y, level)
+    eval_second(words, text, r, op, a, y, nesting)
 }
 
 // The value of an infix record from its first operand's value and its second operand.
@@ -156,16 +162,17 @@ fn eval_second(
     op: u32,
     a: i64,
     y: u32,
-    level: u32,
+    nesting: u32,
 ) -> Evaluation
     requires { ⌜ Linked (now words) ⌝ }
-    requires { ⌜ RecordIn (now words) (now text) y level ⌝ }
-    ensures { λ e. ⌜ outcomeOf (now (words .entry)) (now (text .entry)) e ≡ applied op (spanAt (now (words .entry)) r) a (eval (recordAt (now (words .entry)) (now (text .entry)) y)) ⌝ }
+    requires { ⌜ RecordIn (now words) (now text) y nesting ⌝ }
+    ensures { λ e. ⌜ outcomeOf (now (words .entry)) (now (text .entry)) e ≡ applied op (spanAt (now (words .entry)) r) a
+        (eval (recordAt (now (words .entry)) (now (text .entry)) y)) ⌝ }
 {
     if first_decides(op, a) {
         return Evaluation::Value(is_true(a) as i64);
     }
-    infix_of(op, r, a, eval(words, text, y, level))
+    infix_of(op, r, a, eval(words, text, y, nesting))
 }
 
 // Whether an infix operator's first operand decides.
@@ -181,7 +188,8 @@ fn first_decides(op: u32, a: i64) -> bool
 
 // A prefix operator of record r on its operand.
 fn prefix_of(op: u32, r: u32, x: Evaluation) -> Evaluation
-    ensures { λ e. ⌜ ((words text : List ℕ) → outcomeOf words text e ≡ withValue (outcomeOf words text x) (λ a. evaluated (spanAt words r) (evalPrefix op a))) ⌝ }
+    ensures { λ e. ⌜ ((words text : List ℕ) → outcomeOf words text e ≡ withValue (outcomeOf words text x)
+        (λ a. evaluated (spanAt words r) (evalPrefix op a))) ⌝ }
 {
     let Evaluation::Value(a) = x else {
         return x;
@@ -191,7 +199,8 @@ fn prefix_of(op: u32, r: u32, x: Evaluation) -> Evaluation
 
 // An infix operator of record r on a value and its second operand.
 fn infix_of(op: u32, r: u32, a: i64, y: Evaluation) -> Evaluation
-    ensures { λ e. ⌜ ((words text : List ℕ) → outcomeOf words text e ≡ withValue (outcomeOf words text y) (λ b. evaluated (spanAt words r) (evalInfix op a b))) ⌝ }
+    ensures { λ e. ⌜ ((words text : List ℕ) → outcomeOf words text e ≡ withValue (outcomeOf words text y)
+        (λ b. evaluated (spanAt words r) (evalInfix op a b))) ⌝ }
 {
     let Evaluation::Value(b) = y else {
         return y;
@@ -205,9 +214,9 @@ fn evaluation_of(r: u32, v: Evaluated) -> Evaluation
 {
     match v {
         Evaluated::Value(z) => Evaluation::Value(z),
-        Evaluated::Outside => Evaluation::Failed(24, r),
-        Evaluated::ZeroDivisor => Evaluation::Failed(25, r),
-        Evaluated::ShiftAmount => Evaluation::Failed(26, r),
+        Evaluated::Outside => Evaluation::Failed(codes::OUTSIDE_64_BITS, r),
+        Evaluated::ZeroDivisor => Evaluation::Failed(codes::ZERO_DIVISOR, r),
+        Evaluated::ShiftAmount => Evaluation::Failed(codes::SHIFT_AMOUNT, r),
         Evaluated::Missing => Evaluation::Missing,
     }
 }
@@ -227,9 +236,9 @@ pub fn int_code(k: IntErrorKind) -> u32
     ensures { λ c. ⌜ c ≡ intCode k ⌝ }
 {
     match k {
-        IntErrorKind::Empty => 16,
-        IntErrorKind::InvalidDigit => 17,
-        IntErrorKind::PosOverflow => 18,
-        IntErrorKind::NegOverflow => 19,
+        IntErrorKind::Empty => codes::NUMBER_EMPTY,
+        IntErrorKind::InvalidDigit => codes::NOT_A_DIGIT,
+        IntErrorKind::PosOverflow => codes::NUMBER_TOO_LARGE,
+        IntErrorKind::NegOverflow => codes::NUMBER_TOO_SMALL,
     }
 }

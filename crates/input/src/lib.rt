@@ -2,6 +2,7 @@
 // read from them.
 pub mod expr_eval;
 pub mod kinds;
+mod layout;
 pub mod name;
 pub mod phandle;
 mod place;

@@ -3,25 +3,26 @@
 ghost use mathlib.Core.Path.{_≡_};
 ghost use mathlib.Core.List.{List};
 ghost use Prim.Native.Nat.{ℕ};
-ghost use Rattle.input.specs.Tree.{nameKind, firstOf};
-ghost use Rattle.input.specs.Name.{nameOrMacro, spanTo, slashSpan, ownSpan, nodeNameSpan, propertyNameSpan};
-ghost use Rattle.input.specs.Input.{chainAt};
-ghost use Rattle.input.specs.Linked.{Linked, At};
-ghost use Rattle.making.specs.Recs.{meant};
-ghost use Rattle.input.specs.Read.{optional};
-ghost use Rattle.input.specs.NameRead.{nameRead, nameText, isThere, fullRead, FullNameRead};
+ghost use Rattle.input.specs.meaning.Tree.{nameKind, firstOf};
+ghost use Rattle.input.specs.meaning.Name.{nameOrMacro, spanTo, slashSpan, ownSpan, nodeNameSpan, propertyNameSpan};
+ghost use Rattle.input.specs.meaning.Input.{chainAt};
+ghost use Rattle.input.specs.machine.Linked.{Linked, At};
+ghost use Rattle.log.specs.machine.Parts.{meant};
+ghost use Rattle.input.specs.machine.Read.{optional};
+ghost use Rattle.input.specs.machine.NameRead.{nameRead, nameText, isThere, fullRead, FullNameRead};
 use crate::kinds::MACRO;
 use crate::kinds::NAME;
 use crate::kinds::REFERENCE;
 use crate::kinds::SLASH;
 use crate::kinds::UNIT_ADDRESS;
+use crate::layout;
 use crate::record::child_at;
 use crate::record::field;
 use crate::record::first_of;
 use crate::record::no_text;
 use crate::record::span_at;
 use crate::record::text_at;
-use making::recs::Span;
+use log::parts::Span;
 
 // The record of a name, or of the macro that stands in its place.
 pub enum NameOrMacro {
@@ -140,7 +141,8 @@ pub fn property_name_span(words: &[u32], parts: u32, span: Span) -> Span
 fn own_span(words: &[u32], parts: u32, span: Span) -> Span
     requires { ⌜ Linked (now words) ⌝ }
     requires { ⌜ At (now words) parts ⌝ }
-    ensures { λ s. ⌜ ((text : List ℕ) → meant s ≡ ownSpan (firstOf nameKind (chainAt (now (words .entry)) text parts)) (chainAt (now (words .entry)) text parts) (meant span)) ⌝ }
+    ensures { λ s. ⌜ ((text : List ℕ) → meant s ≡ ownSpan (firstOf nameKind (chainAt (now (words .entry)) text parts))
+        (chainAt (now (words .entry)) text parts) (meant span)) ⌝ }
 {
     let n = first_of(words, parts, NAME);
     if n == 0 {
@@ -170,7 +172,7 @@ fn span_to(words: &[u32], span: Span, u: u32) -> Span
     if u == 0 {
         return span;
     }
-    let end = field(words, u, 7);
+    let end = field(words, u, layout::SPAN_END);
     if span.to <= end {
         return Span {
             from: span.from,

@@ -1,10 +1,10 @@
 // References read: what lower_phandle of lowering/mod.rs makes of a reference record.
 ghost use mathlib.Core.Path.{_≡_};
 ghost use Prim.Native.Nat.{_<_};
-ghost use Rattle.input.specs.Phandle.{plainTarget, lowerPhandle};
-ghost use Rattle.input.specs.Input.{recordCount, recordAt};
-ghost use Rattle.input.specs.Linked.{Linked};
-ghost use Rattle.input.specs.PhandleRead.{labelAt, pathAt, phandleRead, readAs};
+ghost use Rattle.input.specs.meaning.Phandle.{plainTarget, lowerPhandle};
+ghost use Rattle.input.specs.meaning.Input.{recordCount, recordAt};
+ghost use Rattle.input.specs.machine.Linked.{Linked};
+ghost use Rattle.input.specs.machine.PhandleRead.{labelAt, pathAt, phandleRead, readAs};
 use crate::kinds::MACRO;
 use crate::record::child_at;
 use crate::record::first_of;
@@ -32,7 +32,8 @@ pub enum PhandleRead {
 pub fn lower_phandle(words: &[u32], text: &[u8], r: u32) -> PhandleRead
     requires { ⌜ Linked (now words) ⌝ }
     requires { ⌜ r < recordCount (now words) ⌝ }
-    ensures { λ k. ⌜ phandleRead (now (words .entry)) (now (text .entry)) r k ≡ lowerPhandle (recordAt (now (words .entry)) (now (text .entry)) r) ⌝ }
+    ensures { λ k. ⌜ phandleRead (now (words .entry)) (now (text .entry)) r k ≡ lowerPhandle
+        (recordAt (now (words .entry)) (now (text .entry)) r) ⌝ }
 {
     let m = first_of(words, child_at(words, r), MACRO);
     if m != 0 {
@@ -43,7 +44,8 @@ pub fn lower_phandle(words: &[u32], text: &[u8], r: u32) -> PhandleRead
 
 // What a reference record without a macro names.
 fn plain_target(words: &[u32], text: &[u8], r: u32) -> PhandleRead
-    ensures { λ k. ⌜ phandleRead (now (words .entry)) (now (text .entry)) r k ≡ plainTarget (recordAt (now (words .entry)) (now (text .entry)) r) ⌝ }
+    ensures { λ k. ⌜ phandleRead (now (words .entry)) (now (text .entry)) r k ≡ plainTarget
+        (recordAt (now (words .entry)) (now (text .entry)) r) ⌝ }
 {
     let name = text_at(words, text, r);
     if number_at(words, r) == RAW {

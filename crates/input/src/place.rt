@@ -1,51 +1,30 @@
 // Row 4's rules of one record: which kinds stand where, and what W may be.
 ghost use mathlib.Core.Path.{_≡_};
 ghost use lib.Dec.{eqb};
-ghost use Rattle.queries.specs.Kind.{any};
-ghost use Rattle.input.specs.Input.{linksByW};
-ghost use Rattle.input.specs.Place.{fits, childPlace, secondPlace, hasChildren, isCharacter, wFits, fitsAlone};
-ghost use Rattle.input.specs.RowsPass.{placeOf, valuePlaceOf, numberOf};
-
-// The kinds of input records, by 01's numbers.
-pub const NODE: u32 = 1;
-
-pub const PROPERTY: u32 = 2;
-
-pub const DIRECTIVE: u32 = 3;
-
-pub const PREPROCESSOR: u32 = 4;
-
-pub const NAME: u32 = 5;
-
-pub const UNIT_ADDRESS: u32 = 6;
-
-pub const LABEL: u32 = 7;
-
-pub const REFERENCE: u32 = 8;
-
-pub const MACRO: u32 = 9;
-
-pub const SLASH: u32 = 10;
-
-pub const OMIT: u32 = 11;
-
-pub const STRING: u32 = 12;
-
-pub const CELL_LIST: u32 = 13;
-
-pub const BYTESTRING: u32 = 14;
-
-pub const NUMBER: u32 = 15;
-
-pub const CHARACTER: u32 = 16;
-
-pub const EXPRESSION: u32 = 17;
-
-pub const PREFIX: u32 = 18;
-
-pub const PARENTHESIS: u32 = 19;
-
-pub const INFIX: u32 = 20;
+ghost use Rattle.paths_numbers.specs.meaning.Lists.{any};
+ghost use Rattle.input.specs.meaning.Input.{linksByW};
+ghost use Rattle.input.specs.meaning.Place.{fits, childPlace, secondPlace, hasChildren, isCharacter, wFits, fitsAlone};
+ghost use Rattle.input.specs.machine.RowsPass.{placeOf, valuePlaceOf, numberOf};
+use crate::kinds::BYTESTRING;
+use crate::kinds::CELL_LIST;
+use crate::kinds::CHARACTER;
+use crate::kinds::DIRECTIVE;
+use crate::kinds::EXPRESSION;
+use crate::kinds::INFIX;
+use crate::kinds::LABEL;
+use crate::kinds::MACRO;
+use crate::kinds::NAME;
+use crate::kinds::NODE;
+use crate::kinds::NUMBER;
+use crate::kinds::OMIT;
+use crate::kinds::PARENTHESIS;
+use crate::kinds::PREFIX;
+use crate::kinds::PREPROCESSOR;
+use crate::kinds::PROPERTY;
+use crate::kinds::REFERENCE;
+use crate::kinds::SLASH;
+use crate::kinds::STRING;
+use crate::kinds::UNIT_ADDRESS;
 
 // Where a record stands, by number.
 pub const ITEMS: u32 = 1;

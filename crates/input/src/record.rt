@@ -2,21 +2,23 @@
 ghost use mathlib.Core.Path.{_≡_};
 ghost use mathlib.Core.List.{List, []};
 ghost use Prim.Native.Nat.{ℕ};
-ghost use Rattle.input.specs.Tree.{has};
-ghost use Rattle.input.specs.Input.{field, kindAt, nextAt, childAt, wAt, linksByW, secondAt, numberAt, spanAt, textAt, chainAt};
-ghost use Rattle.input.specs.Linked.{Linked, At};
-ghost use Rattle.making.specs.Recs.{meant};
-ghost use Rattle.input.specs.Read.{afterAt, FirstOf};
+ghost use Rattle.input.specs.meaning.Tree.{has};
+ghost use Rattle.input.specs.meaning.Input.{field, kindAt, nextAt, childAt, wAt, linksByW, secondAt, numberAt, spanAt, textAt};
+ghost use Rattle.input.specs.meaning.Input.{chainAt};
+ghost use Rattle.input.specs.machine.Linked.{Linked, At};
+ghost use Rattle.log.specs.machine.Parts.{meant};
+ghost use Rattle.input.specs.machine.Read.{afterAt, FirstOf};
 use crate::kinds::NODE;
 use crate::kinds::PROPERTY;
+use crate::layout;
+use log::parts::Span;
 use log::record::text_in;
-use making::recs::Span;
 
 // Word i of a record.
 pub fn field(words: &[u32], r: u32, i: u32) -> u32
     ensures { λ v. ⌜ v ≡ field (now (words .entry)) r i ⌝ }
 {
-    let at = (r as usize) * 8 + (i as usize);
+    let at = (r as usize) * layout::RECORD_WORDS + (i as usize);
     if at < words.len() {
         return words[at];
     }
@@ -27,28 +29,28 @@ pub fn field(words: &[u32], r: u32, i: u32) -> u32
 pub fn kind_at(words: &[u32], r: u32) -> u32
     ensures { λ v. ⌜ v ≡ kindAt (now (words .entry)) r ⌝ }
 {
-    field(words, r, 0)
+    field(words, r, layout::KIND)
 }
 
 // The record that follows in its chain, 0 where it is the last.
 pub fn next_at(words: &[u32], r: u32) -> u32
     ensures { λ v. ⌜ v ≡ nextAt (now (words .entry)) r ⌝ }
 {
-    field(words, r, 1)
+    field(words, r, layout::NEXT)
 }
 
 // The first of a record's children, 0 where it has none.
 pub fn child_at(words: &[u32], r: u32) -> u32
     ensures { λ v. ⌜ v ≡ childAt (now (words .entry)) r ⌝ }
 {
-    field(words, r, 2)
+    field(words, r, layout::CHILD)
 }
 
 // A record's W, a link or a number.
 pub fn w_at(words: &[u32], r: u32) -> u32
     ensures { λ v. ⌜ v ≡ wAt (now (words .entry)) r ⌝ }
 {
-    field(words, r, 5)
+    field(words, r, layout::W)
 }
 
 // Whether a record's W is a link.
@@ -87,8 +89,8 @@ pub fn span_at(words: &[u32], r: u32) -> Span
     ensures { λ s. ⌜ meant s ≡ spanAt (now (words .entry)) r ⌝ }
 {
     Span {
-        from: field(words, r, 6),
-        to: field(words, r, 7),
+        from: field(words, r, layout::SPAN_START),
+        to: field(words, r, layout::SPAN_END),
     }
 }
 
@@ -96,7 +98,11 @@ pub fn span_at(words: &[u32], r: u32) -> Span
 pub fn text_at<'a, 'b>(words: &'b [u32], text: &'a [u8], r: u32) -> &'a [u8]
     ensures { λ t. ⌜ now t ≡ textAt (now (words .entry)) (now (text .entry)) r ⌝ }
 {
-    text_in(text, field(words, r, 3), field(words, r, 4))
+    text_in(
+        text,
+        field(words, r, layout::TEXT_START),
+        field(words, r, layout::TEXT_LENGTH),
+    )
 }
 
 // The empty end of a text.

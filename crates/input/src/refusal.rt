@@ -6,13 +6,24 @@ ghost use mathlib.Core.Option.{none};
 ghost use mathlib.Core.Path.{_≡_};
 ghost use lib.Dec.{eqb};
 ghost use lib.ListN.{getD};
-ghost use Rattle.queries.specs.Kind.{any};
-ghost use Rattle.input.specs.Input.{recordCount, field, secondAt, numberAt, textAt};
-ghost use Rattle.input.specs.Rows.{mostRecords, wrongSize, badLink, badLinks, rowTwo, badText, unfit, badHead, holdsSlash, badName, verdict};
-ghost use Rattle.input.specs.RowsAnswer.{told, foundIn};
-ghost use Rattle.input.specs.RowsPass.{stored, Marks, markLinks, visitAt, ledOn, Stands, breaks, faultBy, firstFault, rowsFrom, laterRows};
-ghost use Rattle.input.specs.GoodName.{goodName};
+ghost use Rattle.paths_numbers.specs.meaning.Lists.{any};
+ghost use Rattle.input.specs.meaning.Input.{recordCount, field, secondAt, numberAt, textAt};
+ghost use Rattle.input.specs.meaning.Rows.{mostRecords, wrongSize, badLink, badLinks, rowTwo, badText, unfit, badHead, holdsSlash};
+ghost use Rattle.input.specs.meaning.Rows.{badName, verdict};
+ghost use Rattle.input.specs.meaning.RowsAnswer.{told, foundIn};
+ghost use Rattle.input.specs.machine.RowsPass.{stored, Marks, markLinks, visitAt, ledOn, Stands, breaks, faultBy, firstFault};
+ghost use Rattle.input.specs.machine.RowsPass.{rowsFrom, laterRows};
+ghost use Rattle.input.specs.meaning.GoodName.{goodName};
+use crate::kinds::NAME;
+use crate::kinds::REFERENCE;
+use crate::layout;
 use crate::place;
+use log::answer::REFUSED_DEPTH;
+use log::answer::REFUSED_KIND;
+use log::answer::REFUSED_LINK;
+use log::answer::REFUSED_NAME;
+use log::answer::REFUSED_SIZE;
+use log::answer::REFUSED_TEXT;
 use log::record::text_in;
 
 // The records and the bytes of text that an input may have, and the child, item and value links from record 0.
@@ -21,12 +32,6 @@ const MOST_RECORDS: usize = 2048;
 const MOST_TEXT: usize = 65536;
 
 pub const MOST_LINKS: u32 = 64;
-
-// The last row of an input's refusals.
-const LAST_ROW: u32 = 6;
-
-// The words of a record.
-const RECORD_WORDS: usize = 8;
 
 // How a record stands is one number: this times its depth, and its place's number; 0 where no link has led to it.
 const PLACES: u32 = 16;
@@ -48,12 +53,12 @@ pub fn check_input(words: &[u32], text: &[u8]) -> Checked
     ensures { λ r. ⌜ told r ≡ verdict (now (words .entry)) (now (text .entry)) ⌝ }
 {
     if wrong_size(words, text) {
-        return Checked::Refused(1, 0);
+        return Checked::Refused(REFUSED_SIZE, 0);
     }
     let mut marks = [0u32; MOST_RECORDS];
     let found = first_bad_links(words, &mut marks);
     match found {
-        Found::Record(r) => Checked::Refused(2, r),
+        Found::Record(r) => Checked::Refused(REFUSED_LINK, r),
         Found::Nothing => check_linked(words, text),
     }
 }
@@ -62,8 +67,8 @@ pub fn check_input(words: &[u32], text: &[u8]) -> Checked
 fn wrong_size(words: &[u32], text: &[u8]) -> bool
     ensures { λ t. ⌜ t ≡ wrongSize (now (words .entry)) (now (text .entry)) ⌝ }
 {
-    let n = words.len() / RECORD_WORDS;
-    if words.len() != n * RECORD_WORDS {
+    let n = words.len() / layout::RECORD_WORDS;
+    if words.len() != n * layout::RECORD_WORDS {
         return true;
     }
     if n < 1 {
@@ -99,8 +104,8 @@ fn bad_links(words: &[u32], marks: &[u32], r: u32) -> bool
     requires { ⌜ Marks (now words) r (now marks) ⌝ }
     ensures { λ t. ⌜ t ≡ badLinks (now (words .entry)) r ⌝ }
 {
-    let next = word_at(words, r, 1);
-    let child = word_at(words, r, 2);
+    let next = word_at(words, r, layout::NEXT);
+    let child = word_at(words, r, layout::CHILD);
     if bad_link(words, marks, r, &[], next) {
         return true;
     }
@@ -135,8 +140,8 @@ fn bad_link(words: &[u32], marks: &[u32], r: u32, earlier: &[u32], l: u32) -> bo
 fn mark_links(words: &[u32], marks: &mut [u32], r: u32)
     ensures { λ _. ⌜ now (marks .exit) ≡ markLinks (now (words .entry)) r (now (marks .entry)) ⌝ }
 {
-    store(marks, word_at(words, r, 1), 1);
-    store(marks, word_at(words, r, 2), 1);
+    store(marks, word_at(words, r, layout::NEXT), 1);
+    store(marks, word_at(words, r, layout::CHILD), 1);
     store(marks, second_at(words, r), 1);
 }
 
@@ -156,8 +161,8 @@ fn check_reached(words: &[u32], text: &[u8], stands: &[u32]) -> Checked
     requires { ⌜ recordCount (now words) ≤ mostRecords ⌝ }
     ensures { λ r. ⌜ told r ≡ rowsFrom 4 3 (now (words .entry)) (now (text .entry)) (now (stands .entry)) ⌝ }
 {
-    let mut row: u32 = 3;
-    while row <= LAST_ROW {
+    let mut row: u32 = REFUSED_TEXT;
+    while row <= REFUSED_DEPTH {
         let found = first_fault(row, words, text, stands);
         if let Found::Record(r) = found {
             return Checked::Refused(row, r);
@@ -174,7 +179,11 @@ fn find_stands(words: &[u32], stands: &mut [u32])
     ensures { λ _. ⌜ Stands (now (words .entry)) (recordCount (now (words .entry))) (now (stands .exit)) ⌝ }
 {
     let n = record_count(words);
-    store(stands, word_at(words, 0, 2), PLACES + place::ITEMS);
+    store(
+        stands,
+        word_at(words, 0, layout::CHILD),
+        PLACES + place::ITEMS,
+    );
     let mut r: u32 = 1;
     while r < n {
         lead_on(words, r, number_in(stands, r), stands);
@@ -190,7 +199,7 @@ fn lead_on(words: &[u32], r: u32, stand: u32, stands: &mut [u32])
     if stand == 0 {
         return;
     }
-    let kind = word_at(words, r, 0);
+    let kind = word_at(words, r, layout::KIND);
     let deeper = (stand / PLACES + 1) * PLACES;
     store(
         stands,
@@ -199,10 +208,10 @@ fn lead_on(words: &[u32], r: u32, stand: u32, stands: &mut [u32])
     );
     store(
         stands,
-        word_at(words, r, 2),
+        word_at(words, r, layout::CHILD),
         deeper + place::child_place(kind),
     );
-    store(stands, word_at(words, r, 1), stand);
+    store(stands, word_at(words, r, layout::NEXT), stand);
 }
 
 // The lowest record at fault by a row, of rows 3 to 6.
@@ -225,11 +234,11 @@ fn first_fault(row: u32, words: &[u32], text: &[u8], stands: &[u32]) -> Found
 fn at_fault(row: u32, words: &[u32], text: &[u8], stands: &[u32], r: u32) -> bool
     ensures { λ t. ⌜ t ≡ faultBy row (now (words .entry)) (now (text .entry)) (now (stands .entry)) r ⌝ }
 {
-    if row == 3 {
+    if row == REFUSED_TEXT {
         return bad_text(words, text, r);
     }
     if r == 0 {
-        if row == 4 {
+        if row == REFUSED_KIND {
             return bad_head(words);
         }
         return false;
@@ -245,10 +254,10 @@ fn at_fault(row: u32, words: &[u32], text: &[u8], stands: &[u32], r: u32) -> boo
 fn breaks_row(row: u32, words: &[u32], text: &[u8], stand: u32, r: u32) -> bool
     ensures { λ t. ⌜ t ≡ breaks row (now (words .entry)) (now (text .entry)) (visitAt r stand) ⌝ }
 {
-    if row == 4 {
+    if row == REFUSED_KIND {
         return is_unfit(words, stand, r);
     }
-    if row == 5 {
+    if row == REFUSED_NAME {
         return bad_name(words, text, r);
     }
     MOST_LINKS < stand / PLACES
@@ -258,7 +267,9 @@ fn breaks_row(row: u32, words: &[u32], text: &[u8], stand: u32, r: u32) -> bool
 fn bad_text(words: &[u32], text: &[u8], r: u32) -> bool
     ensures { λ t. ⌜ t ≡ badText (now (words .entry)) (now (text .entry)) r ⌝ }
 {
-    text.len() < (word_at(words, r, 3) as usize) + (word_at(words, r, 4) as usize)
+    text.len()
+        < (word_at(words, r, layout::TEXT_START) as usize)
+            + (word_at(words, r, layout::TEXT_LENGTH) as usize)
 }
 
 // Row 4: whether a word of record 0 but its child is not zero.
@@ -286,34 +297,34 @@ fn any_word(words: &[u32], fields: &[u32]) -> bool
 fn is_unfit(words: &[u32], stand: u32, r: u32) -> bool
     ensures { λ t. ⌜ t ≡ unfit (now (words .entry)) (visitAt r stand) ⌝ }
 {
-    let kind = word_at(words, r, 0);
+    let kind = word_at(words, r, layout::KIND);
     if !place::fits_alone(
         stand % PLACES,
         kind,
         number_at(words, r),
-        word_at(words, r, 6),
-        word_at(words, r, 7),
+        word_at(words, r, layout::SPAN_START),
+        word_at(words, r, layout::SPAN_END),
     ) {
         return true;
     }
     if place::has_children(kind) {
         return false;
     }
-    word_at(words, r, 2) != 0
+    word_at(words, r, layout::CHILD) != 0
 }
 
 // Row 5: whether a name is empty, or it or a name reference holds a slash.
 fn bad_name(words: &[u32], text: &[u8], r: u32) -> bool
     ensures { λ t. ⌜ t ≡ badName (now (words .entry)) (now (text .entry)) (visitAt r 0) ⌝ }
 {
-    let kind = word_at(words, r, 0);
-    if kind == place::NAME {
+    let kind = word_at(words, r, layout::KIND);
+    if kind == NAME {
         return !good_name(record_text(words, text, r));
     }
-    if kind != place::REFERENCE {
+    if kind != REFERENCE {
         return false;
     }
-    if word_at(words, r, 5) != 0 {
+    if word_at(words, r, layout::W) != 0 {
         return false;
     }
     holds_slash(record_text(words, text, r))
@@ -347,7 +358,11 @@ fn holds_slash(text: &[u8]) -> bool
 fn record_text<'a, 'b>(words: &'b [u32], text: &'a [u8], r: u32) -> &'a [u8]
     ensures { λ t. ⌜ now t ≡ textAt (now (words .entry)) (now (text .entry)) r ⌝ }
 {
-    text_in(text, word_at(words, r, 3), word_at(words, r, 4))
+    text_in(
+        text,
+        word_at(words, r, layout::TEXT_START),
+        word_at(words, r, layout::TEXT_LENGTH),
+    )
 }
 
 // How many records the words hold.
@@ -355,15 +370,15 @@ fn record_count(words: &[u32]) -> u32
     requires { ⌜ recordCount (now words) ≤ mostRecords ⌝ }
     ensures { λ n. ⌜ n ≡ recordCount (now (words .entry)) ⌝ }
 {
-    (words.len() / RECORD_WORDS) as u32
+    (words.len() / layout::RECORD_WORDS) as u32
 }
 
 // The record that W leads to, 0 where W is a number.
 fn second_at(words: &[u32], r: u32) -> u32
     ensures { λ v. ⌜ v ≡ secondAt (now (words .entry)) r ⌝ }
 {
-    if place::links_by_w(word_at(words, r, 0)) {
-        return word_at(words, r, 5);
+    if place::links_by_w(word_at(words, r, layout::KIND)) {
+        return word_at(words, r, layout::W);
     }
     0
 }
@@ -372,17 +387,17 @@ fn second_at(words: &[u32], r: u32) -> u32
 fn number_at(words: &[u32], r: u32) -> u32
     ensures { λ v. ⌜ v ≡ numberAt (now (words .entry)) r ⌝ }
 {
-    if place::links_by_w(word_at(words, r, 0)) {
+    if place::links_by_w(word_at(words, r, layout::KIND)) {
         return 0;
     }
-    word_at(words, r, 5)
+    word_at(words, r, layout::W)
 }
 
 // Word i of a record.
 fn word_at(words: &[u32], r: u32, i: u32) -> u32
     ensures { λ v. ⌜ v ≡ field (now (words .entry)) r i ⌝ }
 {
-    let at = (r as usize) * RECORD_WORDS + (i as usize);
+    let at = (r as usize) * layout::RECORD_WORDS + (i as usize);
     if at < words.len() {
         return words[at];
     }

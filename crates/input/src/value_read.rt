@@ -3,14 +3,15 @@
 ghost use mathlib.Core.Path.{_≡_};
 ghost use mathlib.Core.List.{List};
 ghost use Prim.Native.Nat.{ℕ, _<_};
-ghost use Rattle.paths_numbers.specs.Bytestring.{countOf};
-ghost use Rattle.input.specs.Expr.{firstOperand, evals};
-ghost use Rattle.input.specs.Property.{numberCell, fittedCell, outcomeCell, referenceCell, lowerCell, sizedList, countedBytes, referenceValue, lowerValue};
-ghost use Rattle.input.specs.Input.{recordCount, childAt, spanAt, textAt, chainAt, recordAt};
-ghost use Rattle.input.specs.Linked.{Linked, RecordIn};
-ghost use Rattle.input.specs.Evaluation.{outcomeOf};
-ghost use Rattle.input.specs.PhandleRead.{phandleRead};
-ghost use Rattle.input.specs.ValueRead.{targetGot, cellMade, valueMade};
+ghost use Rattle.paths_numbers.specs.meaning.Bytestring.{countOf};
+ghost use Rattle.input.specs.meaning.Expr.{firstOperand, evals};
+ghost use Rattle.input.specs.meaning.Property.{numberCell, fittedCell, outcomeCell, referenceCell, lowerCell, sizedList};
+ghost use Rattle.input.specs.meaning.Property.{countedBytes, referenceValue, lowerValue};
+ghost use Rattle.input.specs.meaning.Input.{recordCount, childAt, spanAt, textAt, chainAt, recordAt};
+ghost use Rattle.input.specs.machine.Linked.{Linked, RecordIn};
+ghost use Rattle.input.specs.machine.Evaluation.{outcomeOf};
+ghost use Rattle.input.specs.machine.PhandleRead.{phandleRead};
+ghost use Rattle.input.specs.machine.ValueRead.{targetGot, cellMade, valueMade};
 use crate::expr_eval::Evaluation;
 use crate::expr_eval::eval_first;
 use crate::expr_eval::int_code;
@@ -31,7 +32,8 @@ use crate::record::kind_at;
 use crate::record::number_at;
 use crate::record::text_at;
 use crate::report::Report;
-use making::recs::TargetKind;
+use log::parts::TargetKind;
+use paths_numbers::codes;
 use paths_numbers::dt_property::BitsSize;
 use paths_numbers::dt_property::ByteCount;
 use paths_numbers::dt_property::Cell;
@@ -70,19 +72,20 @@ pub enum TargetRead {
 }
 
 // The cell of a width at a record.
-pub fn read_cell(words: &[u32], text: &[u8], r: u32, size: BitsSize, level: u32) -> CellRead
+pub fn read_cell(words: &[u32], text: &[u8], r: u32, size: BitsSize, nesting: u32) -> CellRead
     requires { ⌜ Linked (now words) ⌝ }
-    requires { ⌜ RecordIn (now words) (now text) r level ⌝ }
-    ensures { λ v. ⌜ cellMade (now (words .entry)) (now (text .entry)) r v ≡ lowerCell size (recordAt (now (words .entry)) (now (text .entry)) r) ⌝ }
+    requires { ⌜ RecordIn (now words) (now text) r nesting ⌝ }
+    ensures { λ v. ⌜ cellMade (now (words .entry)) (now (text .entry)) r v ≡ lowerCell size
+        (recordAt (now (words .entry)) (now (text .entry)) r) ⌝ }
 {
     match kind_at(words, r) {
         NUMBER => number_cell(r, parse_int_tok(text_at(words, text, r), size)),
         CHARACTER => fitted_cell(r, char_cell(number_at(words, r), size)),
-        EXPRESSION => expression_cell(words, text, r, size, level),
+        EXPRESSION => expression_cell(words, text, r, size, nesting),
         REFERENCE => reference_cell(r, size, target_read(lower_phandle(words, text, r))),
         MACRO => CellRead::Failed(Report::Macro(r)),
-        DIRECTIVE => CellRead::Failed(Report::Code(9, r)),
-        PREPROCESSOR => CellRead::Failed(Report::Code(1, r)),
+        DIRECTIVE => CellRead::Failed(Report::Code(codes::DIRECTIVE_AS_CELL, r)),
+        PREPROCESSOR => CellRead::Failed(Report::Code(codes::PREPROCESSOR, r)),
         _ => CellRead::Failed(Report::Nothing),
     }
 }
@@ -103,24 +106,25 @@ fn fitted_cell(r: u32, cell: Cell) -> CellRead
 {
     match cell {
         Cell::Number(n) => CellRead::Number(n),
-        Cell::CharTooLarge => CellRead::Failed(Report::Code(13, r)),
-        Cell::ExprOutside => CellRead::Failed(Report::Code(15, r)),
+        Cell::CharTooLarge => CellRead::Failed(Report::Code(codes::CHARACTER_TOO_LARGE, r)),
+        Cell::ExprOutside => CellRead::Failed(Report::Code(codes::CELL_OUTSIDE, r)),
     }
 }
 
 // The cell of a width at an expression record.
-fn expression_cell(words: &[u32], text: &[u8], r: u32, size: BitsSize, level: u32) -> CellRead
+fn expression_cell(words: &[u32], text: &[u8], r: u32, size: BitsSize, nesting: u32) -> CellRead
     requires { ⌜ Linked (now words) ⌝ }
-    requires { ⌜ RecordIn (now words) (now text) r level ⌝ }
-    ensures { λ v. ⌜ cellMade (now (words .entry)) (now (text .entry)) r v ≡ outcomeCell size (spanAt (now (words .entry)) r) (firstOperand (evals (chainAt (now (words .entry)) (now (text .entry)) (childAt (now (words .entry)) r)))) ⌝ }
+    requires { ⌜ RecordIn (now words) (now text) r nesting ⌝ }
+    ensures { λ v. ⌜ cellMade (now (words .entry)) (now (text .entry)) r v ≡ outcomeCell size (spanAt (now (words .entry)) r)
+        (firstOperand (evals (chainAt (now (words .entry)) (now (text .entry)) (childAt (now (words .entry)) r)))) ⌝ }
 {
-    if level == 0 {
+    if nesting == 0 {
         return CellRead::Failed(Report::Nothing);
     }
     outcome_cell(
         r,
         size,
-        eval_first(words, text, child_at(words, r), level - 1),
+        eval_first(words, text, child_at(words, r), nesting - 1),
     )
 }
 
@@ -146,7 +150,7 @@ fn reference_cell(r: u32, size: BitsSize, t: TargetRead) -> CellRead
             if size.bits() == 32 {
                 return CellRead::Phandle(kind);
             }
-            CellRead::Failed(Report::Code(14, r))
+            CellRead::Failed(Report::Code(codes::REFERENCE_WIDTH, r))
         }
     }
 }
@@ -168,7 +172,8 @@ fn target_read(k: PhandleRead) -> TargetRead
 pub fn read_value(words: &[u32], text: &[u8], r: u32) -> ValueRead
     requires { ⌜ Linked (now words) ⌝ }
     requires { ⌜ r < recordCount (now words) ⌝ }
-    ensures { λ v. ⌜ valueMade (now (words .entry)) (now (text .entry)) r v ≡ lowerValue (recordAt (now (words .entry)) (now (text .entry)) r) ⌝ }
+    ensures { λ v. ⌜ valueMade (now (words .entry)) (now (text .entry)) r v ≡ lowerValue
+        (recordAt (now (words .entry)) (now (text .entry)) r) ⌝ }
 {
     match kind_at(words, r) {
         STRING => ValueRead::Plain(PlainValue::String),
@@ -176,30 +181,32 @@ pub fn read_value(words: &[u32], text: &[u8], r: u32) -> ValueRead
         BYTESTRING => counted_bytes(r, bytestring_len(text_at(words, text, r))),
         REFERENCE => reference_value(target_read(lower_phandle(words, text, r))),
         MACRO => ValueRead::Failed(Report::Macro(r)),
-        DIRECTIVE => ValueRead::Failed(Report::Code(8, r)),
-        PREPROCESSOR => ValueRead::Failed(Report::Code(1, r)),
+        DIRECTIVE => ValueRead::Failed(Report::Code(codes::DIRECTIVE_AS_VALUE, r)),
+        PREPROCESSOR => ValueRead::Failed(Report::Code(codes::PREPROCESSOR, r)),
         _ => ValueRead::Failed(Report::Nothing),
     }
 }
 
 // A cell list of a width that was read, at record r.
 fn sized_list(r: u32, size: SizeRead) -> ValueRead
-    ensures { λ v. ⌜ ((words text : List ℕ) → valueMade words text r v ≡ sizedList (spanAt words r) (chainAt words text (childAt words r)) size) ⌝ }
+    ensures { λ v. ⌜ ((words text : List ℕ) → valueMade words text r v ≡ sizedList (spanAt words r) (chainAt words text (childAt words r))
+        size) ⌝ }
 {
     match size {
         SizeRead::Size(s) => ValueRead::CellList(s),
-        SizeRead::Unsupported => ValueRead::Failed(Report::Code(12, r)),
+        SizeRead::Unsupported => ValueRead::Failed(Report::Code(codes::WIDTH_UNSUPPORTED, r)),
         SizeRead::Failed(e) => ValueRead::Failed(Report::Code(int_code(e), r)),
     }
 }
 
 // A bytestring whose bytes were counted, at record r.
 fn counted_bytes(r: u32, n: ByteCount) -> ValueRead
-    ensures { λ v. ⌜ ((words text : List ℕ) → n ≡ countOf (textAt words text r) → valueMade words text r v ≡ countedBytes (spanAt words r) (textAt words text r) n) ⌝ }
+    ensures { λ v. ⌜ ((words text : List ℕ) → n ≡ countOf (textAt words text r)
+        → valueMade words text r v ≡ countedBytes (spanAt words r) (textAt words text r) n) ⌝ }
 {
     match n {
         ByteCount::Bytes(_) => ValueRead::Plain(PlainValue::Bytestring),
-        ByteCount::MissingDigit => ValueRead::Failed(Report::Code(11, r)),
+        ByteCount::MissingDigit => ValueRead::Failed(Report::Code(codes::ODD_DIGITS, r)),
     }
 }
 

@@ -7,32 +7,35 @@ use mathlib.Core.Option.{some, none}
 use native.Mathlib.Omega.{arith}
 use lib.ListN.{length, length-append}
 use lib.Seq.{append-snoc}
-use Rattle.paths_numbers.specs.Text.{same}
-use Rattle.paths_numbers.specs.Path.{joined}
+use Rattle.paths_numbers.specs.meaning.Text.{same}
+use Rattle.paths_numbers.specs.meaning.Path.{joined}
 use Rattle.paths_numbers.proofs.Texts.{by-test, not-both, both}
 use Rattle.making.specs.declared.ctx.LowerCtx.{LowerCtx}
 use Rattle.making.specs.declared.place.PathAt.{PathAt}
-use Rattle.making.specs.declared.recs.Span.{Span as LogSpan}
+use Rattle.log.specs.declared.parts.Span.{Span as LogSpan}
 use Rattle.making.specs.declared.recs.DefKind.the-variants as D
-use Rattle.making.specs.Recs.{meant, bareDef}
-use Rattle.log.specs.Meaning.{Span, Def, deletedNode, Binding}
-use Rattle.log.specs.Record.{firstText, secondText}
-use Rattle.log.specs.ReadBack.{chainOf, defAt, readDefs}
-use Rattle.making.specs.PathPlaces.{pathIn}
-use Rattle.making.specs.State.{State, define}
-use Rattle.making.specs.Represents.{Context, withPlace, Represents, Steps}
+use Rattle.making.specs.machine.Recs.{bareDef}
+use Rattle.log.specs.machine.Parts.{meant}
+use Rattle.log.specs.meaning.Contents.{Span, Def, deletedNode, Binding}
+use Rattle.log.specs.meaning.Record.{firstText, secondText}
+use Rattle.log.specs.meaning.ReadBack.{chainOf, defAt, readDefs}
+use Rattle.making.specs.machine.PathPlaces.{pathIn}
+use Rattle.making.specs.meaning.State.{State, define}
+use Rattle.making.specs.machine.Represents.{Context, withPlace, Represents, Steps}
 use Rattle.making.proofs.InHand.{represents-defs, place-reads, def-path}
-use Rattle.queries.specs.Kind.{any, isNode}
-use Rattle.queries.specs.Live.{isLive, live, nodeAt, containsNode}
-use Rattle.items.specs.Unbind.{unbind}
-use Rattle.items.specs.Lower.{bare, deleteNode}
-use Rattle.post_checks.specs.Lowers.{Lowers, LowersAt}
-use Rattle.post_checks.specs.Leading.{hasText, FirstAt, FirstWith, placedIn}
-use Rattle.items.specs.Unbinding.{at-named, at-given, UnbindsAll}
-use Rattle.items.specs.Deleting.{DeletesAt}
-use Rattle.post_checks.specs.declared.resolve.Found.{Found}
+use Rattle.queries.specs.meaning.Kind.{isNode}
+use Rattle.paths_numbers.specs.meaning.Lists.{any}
+use Rattle.queries.specs.meaning.Live.{isLive, live, nodeAt, containsNode}
+use Rattle.items.specs.meaning.Unbind.{unbind}
+use Rattle.items.specs.meaning.Lower.{bare, deleteNode}
+use Rattle.resolving.specs.machine.Lowers.{Lowers, LowersAt}
+use Rattle.resolving.specs.machine.Leading.{hasText, FirstAt, FirstWith}
+use Rattle.making.specs.machine.PathPlaces.{placedIn}
+use Rattle.items.specs.machine.Unbinding.{at-named, at-given, UnbindsAll}
+use Rattle.items.specs.machine.Deleting.{DeletesAt}
+use Rattle.resolving.specs.declared.resolve.Found.{Found}
 use Rattle.items.specs.declared.unbind.Base.the-variants.{Named, Given}
-use Rattle.post_checks.proofs.Lowers.{Grows, define-grows, stays-over}
+use Rattle.resolving.proofs.Lowers.{Grows, define-grows, stays-over}
 
 -- counts never fall
 pub delete-grows : (p : List ℕ) (span : Span) → Grows (deleteNode p span)
@@ -48,11 +51,13 @@ module _ {c : LowerCtx} {words bytes : List ℕ} (z : c .short ≡ true) where
   pub short-lowers : {f : State → State} → Grows f → Lowers c c words bytes words bytes f
   short-lowers {f} g = record { lowers = λ k s r. stays-over (f s) (λ q. (q, refl, refl)) z (g .records s) (g .bytes s) r }
 
-  pub short-under : {parent : PathAt} {f : List ℕ → State → State} → ((p : List ℕ) → Grows (f p)) → LowersAt parent c c words bytes words bytes f
+  pub short-under : {parent : PathAt} {f : List ℕ → State → State} → ((p : List ℕ) → Grows (f p))
+      → LowersAt parent c c words bytes words bytes f
   short-under {f = f} g = record { lowers = λ k p s r. stays-over (f p s) (λ q. (q, refl, refl)) z (g p .records s) (g p .bytes s) r }
 
 -- by a name under a path
-pub deletes-named : {parent : PathAt} {name unit : List ℕ} (span : LogSpan) {c d e : LowerCtx} {words bytes w b v u : List ℕ} → c .short ≡ false
+pub deletes-named : {parent : PathAt} {name unit : List ℕ} (span : LogSpan) {c d e : LowerCtx} {words bytes w b v u : List ℕ}
+    → c .short ≡ false
     → UnbindsAll (Named parent) name unit c d words bytes w b
     → Steps d e w b v u (define (bareDef D.DeletedNode span span (joined (pathIn (d .bytes) b parent) name unit)))
     → LowersAt parent c e words bytes v u (λ p s. deleteNode (joined p name unit) (meant span) s)
@@ -100,7 +105,8 @@ contains-path : (p : List ℕ) (defs : List Def) → containsNode p defs ≡ tru
 unfolding containsNode
 contains-path p defs h = any-node p defs (any-live (nodeAt p) p defs h)
 
-no-definition : (words bytes t : List ℕ) (ns : List ℕ) → any (hasText words bytes t) ns ≡ false → any (λ (d : Def). same (d .path) t) (map (defAt words bytes) ns) ≡ false
+no-definition : (words bytes t : List ℕ) (ns : List ℕ) → any (hasText words bytes t) ns ≡ false
+    → any (λ (d : Def). same (d .path) t) (map (defAt words bytes) ns) ≡ false
 unfolding any defAt
 no-definition words bytes t [] h = refl
 no-definition words bytes t (n ∷ ns) h =
@@ -116,7 +122,8 @@ deletes-at {path} span {f} {d = d} {e} {w = w} {b} {v} {u} x m g =
     record {
       deletes = λ k s r n h.
           let y = x .unbinds k s path r n (at-given refl) in
-          let there : any (λ (q : Def). same (q .path) path) (readDefs w b (d .defs .first)) ≡ true = ap (any (λ (q : Def). same (q .path) path)) (represents-defs (y .0) (y .1)) ∙ contains-path path (s .defs) h in
+          let there : any (λ (q : Def). same (q .path) path) (readDefs w b (d .defs .first)) ≡ true = ap
+          (any (λ (q : Def). same (q .path) path)) (represents-defs (y .0) (y .1)) ∙ contains-path path (s .defs) h in
           let at = m .there (λ z. not-both there (no-definition w b path (chainOf w (d .defs .first)) (m .none-there z))) in
           subst (λ (q : List ℕ). Represents k e v u (define (bare q deletedNode (meant span)) (unbind path s)))
           (def-path (y .0) (y .1) (at .before) (at .after) (f .number) (at .chain) ∙ at .has)

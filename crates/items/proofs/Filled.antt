@@ -7,15 +7,18 @@ use lib.ListN.{length-append}
 use native.Mathlib.Omega.{arith}
 use Rattle.paths_numbers.proofs.Texts.{by-test, not-both}
 use Rattle.making.specs.declared.ctx.LowerCtx.{LowerCtx}
-use Rattle.log.specs.Meaning.{Span, Cell, Value, string, cellList, bytestring, phandle, DefValue, node, property, deletedNode, deletedProperty, version, plugin, Def, Diag}
-use Rattle.making.specs.State.{State, define, emit, onLast, changed, onValues, withCell, lastIs, isPropertyWith, isCellList, newestIs, valueRecords, valuesRecords, valuesBytes, cellsBytes, addPart, addValue, addCell, inProperty, inCellList}
-use Rattle.making.specs.Represents.{StepsIn}
-use Rattle.making.specs.Recs.{StepsBytes}
-use Rattle.paths_numbers.specs.Bytestring.{isOdd, bytesOf}
-use Rattle.input.specs.Report.{Made, one, nothing, andThen}
-use Rattle.post_checks.specs.Lowers.{Lowers}
-use Rattle.items.specs.Filled.{withCells, addParts, addValues, addCells, filled, Fills}
-use Rattle.post_checks.proofs.Lowers.{Grows, part-grows, stays-over}
+use Rattle.log.specs.meaning.Contents.{Span, Cell, Value, string, cellList, bytestring, phandle, DefValue, node, property, deletedNode}
+use Rattle.log.specs.meaning.Contents.{deletedProperty, version, plugin, Def, Diag}
+use Rattle.making.specs.meaning.State.{State, define, emit, valueRecords, valuesRecords, valuesBytes, cellsBytes}
+use Rattle.making.specs.machine.Adding.{onLast, changed, onValues, withCell, lastIs, isPropertyWith, isCellList, newestIs, addPart}
+use Rattle.making.specs.machine.Adding.{addValue, addCell, inProperty, inCellList}
+use Rattle.making.specs.machine.Represents.{StepsIn}
+use Rattle.making.specs.machine.Recs.{StepsBytes}
+use Rattle.paths_numbers.specs.meaning.Bytestring.{isOdd, bytesOf}
+use Rattle.input.specs.meaning.Report.{Made, one, nothing, andThen}
+use Rattle.resolving.specs.machine.Lowers.{Lowers}
+use Rattle.items.specs.machine.Filled.{withCells, addParts, addValues, addCells, filled, Fills}
+use Rattle.resolving.proofs.Lowers.{Grows, part-grows, stays-over}
 use Rattle.items.proofs.Reported.{same-states, emit-none, emit-then}
 
 -- the last of a list changed by what changes it alike, by nothing, and twice
@@ -101,7 +104,8 @@ module _ (f g : DefValue → DefValue) where
   parts-same : (m n a b : ℕ) → ((v : DefValue) → f v ≡ g v) → m ≡ n → a ≡ b → (s : State) → addParts f m a s ≡ addParts g n b s
   unfolding addParts
   parts-same m n a b e p q s =
-      same-states (s .exts) (s .binds) (last-same (changed f) (changed g) (changed-as f g e) (s .defs)) refl (ap (_+_ (s .records)) p) (ap (_+_ (s .bytes)) q)
+      same-states (s .exts) (s .binds) (last-same (changed f) (changed g) (changed-as f g e) (s .defs)) refl (ap (_+_ (s .records)) p)
+      (ap (_+_ (s .bytes)) q)
 
   -- one after the other
   parts-then : (m n a b : ℕ) (s : State) → addParts g n b (addParts f m a s) ≡ addParts (λ v. g (f v)) (m + n) (a + b) s
@@ -146,7 +150,8 @@ pub record Adding {A : Type 0} (test : State → Bool) (add : List A → State �
   pub reported : (ds : List Diag) (s : State) → test s ≡ true → test (emit ds s) ≡ true
 
 -- the last of a list passes a test after it is changed
-last-is : {A : Type 0} (p q : A → Bool) (f : A → A) → ((a : A) → p a ≡ true → q (f a) ≡ true) → (l : List A) → lastIs p l ≡ true → lastIs q (onLast f l) ≡ true
+last-is : {A : Type 0} (p q : A → Bool) (f : A → A) → ((a : A) → p a ≡ true → q (f a) ≡ true) → (l : List A) → lastIs p l ≡ true
+    → lastIs q (onLast f l) ≡ true
 unfolding lastIs onLast
 last-is p q f e [] h = h
 last-is p q f e (a ∷ []) h = e a h
@@ -160,7 +165,8 @@ last-added p [] a = refl
 last-added p (b ∷ []) a = refl
 last-added p (b ∷ d ∷ l) a = last-added p (d ∷ l) a
 
-still-property : (p q : List Value → Bool) (f : List Value → List Value) → ((l : List Value) → p l ≡ true → q (f l) ≡ true) → (v : DefValue) → isPropertyWith p v ≡ true
+still-property : (p q : List Value → Bool) (f : List Value → List Value) → ((l : List Value) → p l ≡ true → q (f l) ≡ true) → (v : DefValue)
+    → isPropertyWith p v ≡ true
     → isPropertyWith q (onValues f v) ≡ true
 still-property p q f e (node ls o) h = absurd (not-both {t = false} h refl)
 still-property p q f e (property vs) h = e vs h
@@ -176,11 +182,13 @@ still-list cs (bytestring b) h = h
 still-list cs (phandle t) h = h
 
 -- parts added to a definition of which this is so
-parts-test : (p q : List Value → Bool) (f : List Value → List Value) (m a : ℕ) (s : State) → ((l : List Value) → p l ≡ true → q (f l) ≡ true)
+parts-test : (p q : List Value → Bool) (f : List Value → List Value) (m a : ℕ) (s : State)
+    → ((l : List Value) → p l ≡ true → q (f l) ≡ true)
     → newestIs (isPropertyWith p) s ≡ true → newestIs (isPropertyWith q) (addParts (onValues f) m a s) ≡ true
 unfolding addParts
 parts-test p q f m a s e h =
-    last-is (λ (d : Def). isPropertyWith p (d .value)) (λ (d : Def). isPropertyWith q (d .value)) (changed (onValues f)) (λ d. still-property p q f e (d .value)) (s .defs) h
+    last-is (λ (d : Def). isPropertyWith p (d .value)) (λ (d : Def). isPropertyWith q (d .value)) (changed (onValues f))
+    (λ d. still-property p q f e (d .value)) (s .defs) h
 
 emit-test : (p : DefValue → Bool) (ds : List Diag) (s : State) → newestIs p s ≡ true → newestIs p (emit ds s) ≡ true
 unfolding emit
@@ -193,7 +201,8 @@ adding-values =
       none = λ s. parts-none _ (values-none _ append-nil) s;
       then = λ a b s.
           parts-then _ _ _ _ _ _ s
-          ∙ parts-same _ _ _ _ _ _ (λ v. values-twice _ _ v ∙ values-same _ (λ l. l ++ (a ++ b)) (λ l. append-assoc l a b) v) (sym (values-records a b)) (sym (values-bytes a b)) s;
+          ∙ parts-same _ _ _ _ _ _ (λ v. values-twice _ _ v ∙ values-same _ (λ l. l ++ (a ++ b)) (λ l. append-assoc l a b) v)
+          (sym (values-records a b)) (sym (values-bytes a b)) s;
       emits = λ a ds s. parts-emit _ _ _ ds s;
       still = λ a s h. parts-test (λ vs. true) (λ vs. true) _ _ _ s (λ l k. refl) h;
       reported = λ ds s h. emit-test _ ds s h;
@@ -206,10 +215,12 @@ adding-cells =
       none = λ s. parts-none _ (values-none _ (last-none _ cells-none)) s;
       then = λ a b s.
           parts-then _ _ _ _ _ _ s
-          ∙ parts-same _ _ _ _ _ _ (λ v. values-twice _ _ v ∙ values-same _ (onLast (withCells (a ++ b))) (λ l. last-twice (withCells a) (withCells b) l ∙ last-same _ _ (cells-same a b) l) v)
+          ∙ parts-same _ _ _ _ _ _ (λ v. values-twice _ _ v ∙ values-same _ (onLast (withCells (a ++ b)))
+          (λ l. last-twice (withCells a) (withCells b) l ∙ last-same _ _ (cells-same a b) l) v)
           (sym (length-append a b)) (sym (cells-bytes a b)) s;
       emits = λ a ds s. parts-emit _ _ _ ds s;
-      still = λ a s h. parts-test (lastIs isCellList) (lastIs isCellList) _ _ _ s (last-is isCellList isCellList (withCells a) (still-list a)) h;
+      still = λ a s h. parts-test (lastIs isCellList) (lastIs isCellList) _ _ _ s
+          (last-is isCellList isCellList (withCells a) (still-list a)) h;
       reported = λ ds s h. emit-test _ ds s h;
     }
 
@@ -222,7 +233,8 @@ pub cell-added : (c : Cell) (s : State) → addCell c s ≡ addCells (c ∷ []) 
 unfolding cellsBytes
 cell-added c s =
     part-one _ _ s
-    ∙ parts-same _ _ _ _ _ _ (values-same (onLast (withCell c)) (onLast (withCells (c ∷ []))) (last-same (withCell c) (withCells (c ∷ [])) (cell-one c))) refl (omega arith) s
+    ∙ parts-same _ _ _ _ _ _ (values-same (onLast (withCell c)) (onLast (withCells (c ∷ [])))
+    (last-same (withCell c) (withCells (c ∷ [])) (cell-one c))) refl (omega arith) s
 
 module _ {A : Type 0} {test : State → Bool} {add : List A → State → State} (x : Adding test add) where
   -- what is not kept is only reported
@@ -234,7 +246,8 @@ module _ {A : Type 0} {test : State → Bool} {add : List A → State → State}
   filled-then : (keep : Bool) (m n : Made A) (s : State) → filled add keep n (filled add keep m s) ≡ filled add keep (andThen m n) s
   unfolding filled
   filled-then true m n s =
-      ap (add (n .made)) (sym (x .emits (m .made) (n .reports) (emit (m .reports) s)) ∙ ap (add (m .made)) (emit-then (m .reports) (n .reports) s))
+      ap (add (n .made)) (sym (x .emits (m .made) (n .reports) (emit (m .reports) s))
+      ∙ ap (add (m .made)) (emit-then (m .reports) (n .reports) s))
       ∙ x .then (m .made) (n .made) (emit (m .reports ++ n .reports) s)
   filled-then false m n s = emit-then (m .reports) (n .reports) s
 
@@ -251,17 +264,23 @@ module _ {A : Type 0} {test : State → Bool} {add : List A → State → State}
       → Fills test add keep c d words bytes w b (nothing ds)
   fills-reports keep ds l = record { fills = λ k s h t. rw (reports-only keep ds s) (l .lowers k s h) }
 
-  pub fills-then : (keep : Bool) (m n : Made A) {c d e : LowerCtx} {words bytes w b v u : List ℕ} → Fills test add keep c d words bytes w b m → Fills test add keep d e w b v u n
+  pub fills-then : (keep : Bool) (m n : Made A) {c d e : LowerCtx} {words bytes w b v u : List ℕ}
+      → Fills test add keep c d words bytes w b m → Fills test add keep d e w b v u n
       → Fills test add keep c e words bytes v u (andThen m n)
   fills-then keep m n f g =
-      record { fills = λ k s h t. rw (sym (filled-then keep m n s)) (g .fills k (filled add keep m s) (f .fills k s h t) (filled-test keep m s t)) }
+      record {
+        fills = λ k s h t. rw (sym (filled-then keep m n s))
+            (g .fills k (filled add keep m s) (f .fills k s h t) (filled-test keep m s t));
+      }
 
   -- one, where it is kept and where it is not
-  pub fills-dropped : (keep : Bool) (m : Made A) {c : LowerCtx} {words bytes : List ℕ} → keep ≡ false → m .reports ≡ [] → Fills test add keep c c words bytes words bytes m
+  pub fills-dropped : (keep : Bool) (m : Made A) {c : LowerCtx} {words bytes : List ℕ} → keep ≡ false → m .reports ≡ []
+      → Fills test add keep c c words bytes words bytes m
   unfolding filled
   fills-dropped keep m e q = record { fills = λ k s h t. rw (e, q, emit-none s) h }
 
-  pub fills-one : (keep : Bool) (a : A) (f : State → State) {c d : LowerCtx} {words bytes w b : List ℕ} → keep ≡ true → Grows f → ((s : State) → f s ≡ add (a ∷ []) s)
+  pub fills-one : (keep : Bool) (a : A) (f : State → State) {c d : LowerCtx} {words bytes w b : List ℕ} → keep ≡ true → Grows f
+      → ((s : State) → f s ≡ add (a ∷ []) s)
       → StepsIn test c d words bytes w b f → Fills test add keep c d words bytes w b (one a)
   unfolding filled
   fills-one keep a f {c} e g same h =
@@ -272,17 +291,21 @@ module _ {A : Type 0} {test : State → Bool} {add : List A → State → State}
       }
 
 -- the same makes
-pub same-fills : {A : Type 0} {test : State → Bool} {add : List A → State → State} {keep : Bool} {c d : LowerCtx} {words bytes w b : List ℕ} {m n : Made A} → m ≡ n
+pub same-fills : {A : Type 0} {test : State → Bool} {add : List A → State → State} {keep : Bool} {c d : LowerCtx} {words bytes w b : List ℕ}
+    {m n : Made A} → m ≡ n
     → Fills test add keep c d words bytes w b m → Fills test add keep c d words bytes w b n
-same-fills {test = test} {add = add} {keep = keep} {c = c} {d = d} {words = words} {bytes = bytes} {w = w} {b = b} e h = subst (λ m. Fills test add keep c d words bytes w b m) e h
+same-fills {test = test} {add = add} {keep = keep} {c = c} {d = d} {words = words} {bytes = bytes} {w = w} {b = b} e h = subst
+    (λ m. Fills test add keep c d words bytes w b m) e h
 
 -- a bytestring, where its text lacks no digit
-pub bytes-fill : (keep : Bool) (text : List ℕ) {c d : LowerCtx} {words bytes w b : List ℕ} → keep ≡ true → StepsBytes c d words bytes w b text
+pub bytes-fill : (keep : Bool) (text : List ℕ) {c d : LowerCtx} {words bytes w b : List ℕ} → keep ≡ true
+    → StepsBytes c d words bytes w b text
     → Fills inProperty addValues keep c d words bytes w b (cond (isOdd text) (nothing []) (one (bytestring (bytesOf text))))
 bytes-fill keep text e h =
     by-test (isOdd text)
     (λ q. let z = h .odd q in rw (q, z .0, z .1, z .2) (fills-none adding-values keep))
-    (λ q. rw q (fills-one adding-values keep (bytestring (bytesOf text)) _ e (part-grows _ _) (value-one (bytestring (bytesOf text)) refl) (h .even q)))
+    (λ q. rw q (fills-one adding-values keep (bytestring (bytesOf text)) _ e (part-grows _ _) (value-one (bytestring (bytesOf text)) refl)
+    (h .even q)))
 
 -- a cell list made before its cells
 module _ (n : ℕ) (cs : List Cell) where
@@ -290,7 +313,8 @@ module _ (n : ℕ) (cs : List Cell) where
   unfolding valuesRecords valuesBytes cellsBytes
   list-filled s =
       parts-then _ _ _ _ _ _ s
-      ∙ parts-same _ _ _ _ _ _ (λ v. values-twice _ _ v ∙ values-same _ (λ l. l ++ cellList n cs ∷ []) (λ l. last-end (withCells cs) l (cellList n [])) v) (omega arith) (omega arith) s
+      ∙ parts-same _ _ _ _ _ _ (λ v. values-twice _ _ v ∙ values-same _ (λ l. l ++ cellList n cs ∷ [])
+      (λ l. last-end (withCells cs) l (cellList n [])) v) (omega arith) (omega arith) s
 
   list-made : (keep : Bool) (ds : List Diag) (s : State)
       → filled addCells keep (record { made = cs; reports = ds }) (filled addValues keep (one (cellList n [])) s)
@@ -300,17 +324,21 @@ module _ (n : ℕ) (cs : List Cell) where
       rw (emit-none s) (ap (addCells cs) (sym (adding-values .emits (cellList n [] ∷ []) ds s)) ∙ list-filled (emit ds s))
   list-made false ds s = rw (emit-none s) refl
 
-list-test : (n : ℕ) (keep : Bool) (s : State) → (keep ≡ true → inProperty s ≡ true) → keep ≡ true → inCellList (filled addValues keep (one (cellList n [])) s) ≡ true
+list-test : (n : ℕ) (keep : Bool) (s : State) → (keep ≡ true → inProperty s ≡ true) → keep ≡ true
+    → inCellList (filled addValues keep (one (cellList n [])) s) ≡ true
 unfolding filled
 list-test n true s h e =
     parts-test (λ vs. true) (lastIs isCellList) _ _ _ (emit [] s) (λ l k. last-added isCellList l (cellList n [])) (emit-test _ [] s (h e))
 list-test n false s h e = absurd (not-both {t = false} e refl)
 
-pub list-then : (keep : Bool) (n : ℕ) (m : Made Cell) {c d e : LowerCtx} {words bytes w b v u : List ℕ} → Fills inProperty addValues keep c d words bytes w b (one (cellList n []))
-    → Fills inCellList addCells keep d e w b v u m → Fills inProperty addValues keep c e words bytes v u (record { made = cellList n (m .made) ∷ []; reports = m .reports })
+pub list-then : (keep : Bool) (n : ℕ) (m : Made Cell) {c d e : LowerCtx} {words bytes w b v u : List ℕ}
+    → Fills inProperty addValues keep c d words bytes w b (one (cellList n []))
+    → Fills inCellList addCells keep d e w b v u m → Fills inProperty addValues keep c e words bytes v u
+    (record { made = cellList n (m .made) ∷ []; reports = m .reports })
 list-then keep n m f g =
     record {
-      fills = λ k s h t. rw (sym (list-made n (m .made) keep (m .reports) s)) (g .fills k (filled addValues keep (one (cellList n [])) s) (f .fills k s h t) (list-test n keep s t));
+      fills = λ k s h t. rw (sym (list-made n (m .made) keep (m .reports) s))
+          (g .fills k (filled addValues keep (one (cellList n [])) s) (f .fills k s h t) (list-test n keep s t));
     }
 
 -- a property made before its values, and what is reported after it
@@ -330,7 +358,8 @@ module _ (path : List ℕ) (span nameSpan : Span) where
       → emit ds (filled addValues true m (define (propertyDef []) s)) ≡ define (propertyDef (m .made)) (emit (m .reports ++ ds) s)
   unfolding filled
   property-filled m ds s =
-      ap (emit ds) (adding-values .emits (m .made) (m .reports) (define (propertyDef []) s) ∙ ap (emit (m .reports)) (property-made (m .made) s))
+      ap (emit ds) (adding-values .emits (m .made) (m .reports) (define (propertyDef []) s)
+      ∙ ap (emit (m .reports)) (property-made (m .made) s))
       ∙ emit-then (m .reports) ds _ ∙ sym (define-emit (propertyDef (m .made)) (m .reports ++ ds) s)
 
   -- the newest definition is then a property

@@ -6,20 +6,32 @@ use mathlib.Core.List.{List, [], _∷_, _++_, append-assoc, append-nil}
 use native.Mathlib.Omega.{arith}
 use lib.ListN.{length, length-append}
 use Rattle.paths_numbers.proofs.Texts.{not-both}
-use Rattle.log.specs.Meaning.{Span, DefValue, node, property, deletedNode, deletedProperty, version, plugin, Def, Ext, Binding, Diag}
-use Rattle.making.specs.State.{State, onLast, changed, withLabel, lastIs, isNode, inNode, textsBytes, bindingsBytes, diagsBytes, define, bind, emit, addPart, addLabel}
-use Rattle.input.specs.Tree.{Trees}
-use Rattle.input.specs.Report.{Made, nothing, andThen}
-use Rattle.items.specs.Lower.{labelTexts}
-use Rattle.items.specs.Labelled.{withLabels, labelledBy}
+use Rattle.log.specs.meaning.Contents.{Span, DefValue, node, property, deletedNode, deletedProperty, version, plugin, Def, Ext, Binding}
+use Rattle.log.specs.meaning.Contents.{Diag}
+use Rattle.making.specs.meaning.State.{State, textsBytes, bindingsBytes, diagsBytes, define, bind, emit}
+use Rattle.making.specs.machine.Adding.{onLast, changed, withLabel, lastIs, isNode, inNode, addPart, addLabel}
+use Rattle.input.specs.meaning.Tree.{Trees}
+use Rattle.input.specs.meaning.Report.{Made, nothing, andThen}
+use Rattle.items.specs.meaning.Lower.{labelTexts}
+use Rattle.items.specs.machine.Labelled.{withLabels, labelledBy}
 
 -- two states that agree in each field
-pub same-state : (s t : State) → s .defs ≡ t .defs → s .exts ≡ t .exts → s .binds ≡ t .binds → s .diags ≡ t .diags → s .records ≡ t .records → s .bytes ≡ t .bytes → s ≡ t
+pub same-state : (s t : State) → s .defs ≡ t .defs → s .exts ≡ t .exts → s .binds ≡ t .binds → s .diags ≡ t .diags → s .records ≡ t .records
+    → s .bytes ≡ t .bytes → s ≡ t
 same-state s t a b c d e f =
     ap (λ (x : List Def). record { defs = x; exts = s .exts; binds = s .binds; diags = s .diags; records = s .records; bytes = s .bytes }) a
-    ∙ ap (λ (x : List Ext). record { defs = t .defs; exts = x; binds = s .binds; diags = s .diags; records = s .records; bytes = s .bytes }) b
-    ∙ ap (λ (x : List Binding). record { defs = t .defs; exts = t .exts; binds = x; diags = s .diags; records = s .records; bytes = s .bytes }) c
-    ∙ ap (λ (x : List Diag). record { defs = t .defs; exts = t .exts; binds = t .binds; diags = x; records = s .records; bytes = s .bytes }) d
+    ∙ ap (λ (x : List Ext). record { defs = t .defs; exts = x; binds = s .binds; diags = s .diags; records = s .records; bytes = s .bytes })
+    b
+    ∙ ap (λ (x : List Binding). record {
+      defs = t .defs;
+      exts = t .exts;
+      binds = x;
+      diags = s .diags;
+      records = s .records;
+      bytes = s .bytes;
+    }) c
+    ∙ ap (λ (x : List Diag). record { defs = t .defs; exts = t .exts; binds = t .binds; diags = x; records = s .records; bytes = s .bytes })
+    d
     ∙ ap (λ (x : ℕ). record { defs = t .defs; exts = t .exts; binds = t .binds; diags = t .diags; records = x; bytes = s .bytes }) e
     ∙ ap (λ (x : ℕ). record { defs = t .defs; exts = t .exts; binds = t .binds; diags = t .diags; records = t .records; bytes = x }) f
 
@@ -85,7 +97,9 @@ diags-append (x ∷ a) b = omega (arith, diags-append a b)
 pub labelled-none : (s : State) → labelledBy (nothing []) s ≡ s
 unfolding labelledBy labelTexts textsBytes bindingsBytes diagsBytes
 labelled-none s =
-    same-state (labelledBy (nothing []) s) s (last-kept (changed (withLabels [])) (λ d. ap (λ (v : DefValue). record { path = d .path; value = v; span = d .span; nameSpan = d .nameSpan }) (no-labels (d .value))) (s .defs))
+    same-state (labelledBy (nothing []) s) s (last-kept (changed (withLabels []))
+    (λ d. ap (λ (v : DefValue). record { path = d .path; value = v; span = d .span; nameSpan = d .nameSpan }) (no-labels (d .value)))
+    (s .defs))
     refl (append-nil (s .binds)) (append-nil (s .diags)) (omega arith) (omega arith)
 
 pub labelled-then : (a b : Made Binding) (s : State) → labelledBy (andThen a b) s ≡ labelledBy b (labelledBy a s)
@@ -95,8 +109,11 @@ labelled-then a b s =
     ap textsBytes (labels-append (a .made) (b .made)) ∙ texts-append (labelTexts (a .made)) (labelTexts (b .made)) in
     sym
     (same-state (labelledBy b (labelledBy a s)) (labelledBy (andThen a b) s)
-    (last-twice (changed (withLabels (labelTexts (a .made)))) (changed (withLabels (labelTexts (b .made)))) (changed (withLabels (labelTexts (a .made ++ b .made))))
-    (λ d. ap (λ (v : DefValue). record { path = d .path; value = v; span = d .span; nameSpan = d .nameSpan }) (more-labels (labelTexts (a .made)) (labelTexts (b .made)) (d .value) ∙ ap (λ (x : List (List ℕ)). withLabels x (d .value)) (sym (labels-append (a .made) (b .made))))) (s .defs))
+    (last-twice (changed (withLabels (labelTexts (a .made)))) (changed (withLabels (labelTexts (b .made))))
+    (changed (withLabels (labelTexts (a .made ++ b .made))))
+    (λ d. ap (λ (v : DefValue). record { path = d .path; value = v; span = d .span; nameSpan = d .nameSpan })
+    (more-labels (labelTexts (a .made)) (labelTexts (b .made)) (d .value)
+    ∙ ap (λ (x : List (List ℕ)). withLabels x (d .value)) (sym (labels-append (a .made) (b .made))))) (s .defs))
     refl (append-assoc (s .binds) (a .made) (b .made)) (append-assoc (s .diags) (a .reports) (b .reports))
     (omega (arith, length-append (a .made) (b .made), length-append (a .reports) (b .reports)))
     (omega (arith, texts, bindings-append (a .made) (b .made), diags-append (a .reports) (b .reports))))
@@ -111,13 +128,16 @@ labelled-one b s =
   where
     on-same : (l : List Def) → onLast (changed (withLabel (b .label))) l ≡ onLast (changed (withLabels (b .label ∷ []))) l
     on-same [] = refl
-    on-same (d ∷ []) = ap (λ (v : DefValue). record { path = d .path; value = v; span = d .span; nameSpan = d .nameSpan } ∷ []) (one-label (b .label) (d .value))
+    on-same (d ∷ []) = ap (λ (v : DefValue). record { path = d .path; value = v; span = d .span; nameSpan = d .nameSpan } ∷ [])
+        (one-label (b .label) (d .value))
     on-same (d ∷ e ∷ l) = ap (λ (x : List Def). d ∷ x) (on-same (e ∷ l))
 
 pub labelled-report : (ds : List Diag) (s : State) → labelledBy (nothing ds) s ≡ emit ds s
 unfolding labelledBy labelTexts textsBytes bindingsBytes emit
 labelled-report ds s =
-    same-state (labelledBy (nothing ds) s) (emit ds s) (last-kept (changed (withLabels [])) (λ d. ap (λ (v : DefValue). record { path = d .path; value = v; span = d .span; nameSpan = d .nameSpan }) (no-labels (d .value))) (s .defs))
+    same-state (labelledBy (nothing ds) s) (emit ds s) (last-kept (changed (withLabels []))
+    (λ d. ap (λ (v : DefValue). record { path = d .path; value = v; span = d .span; nameSpan = d .nameSpan }) (no-labels (d .value)))
+    (s .defs))
     refl (append-nil (s .binds)) refl (omega arith) (omega arith)
 
 -- a node stays one
@@ -129,7 +149,8 @@ still-node ls deletedProperty h = h
 still-node ls version h = h
 still-node ls plugin h = h
 
-last-node : (ls : List (List ℕ)) (l : List Def) → lastIs (λ (d : Def). isNode (d .value)) l ≡ true → lastIs (λ (d : Def). isNode (d .value)) (onLast (changed (withLabels ls)) l) ≡ true
+last-node : (ls : List (List ℕ)) (l : List Def) → lastIs (λ (d : Def). isNode (d .value)) l ≡ true
+    → lastIs (λ (d : Def). isNode (d .value)) (onLast (changed (withLabels ls)) l) ≡ true
 unfolding onLast lastIs
 last-node ls [] h = h
 last-node ls (d ∷ []) h = still-node ls (d .value) h

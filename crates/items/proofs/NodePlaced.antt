@@ -8,27 +8,27 @@ use native.Mathlib.Omega.{arith}
 use borrow.Author.Tests.{eq-eqb, ne-eqb}
 use lib.Dec.{eqb}
 use lib.ListN.{length}
-use Rattle.paths_numbers.specs.Text.{same, isEmpty}
-use Rattle.paths_numbers.specs.Path.{root, join}
+use Rattle.paths_numbers.specs.meaning.Text.{same, isEmpty}
+use Rattle.paths_numbers.specs.meaning.Path.{root, join}
 use Rattle.paths_numbers.proofs.Texts.{by-test, not-both, same-refl}
 use Rattle.paths_numbers.proofs.Good.{plain-not-root}
 use Rattle.making.specs.declared.ctx.LowerCtx.{LowerCtx}
 use Rattle.making.specs.declared.place.PathAt.{PathAt}
-use Rattle.log.specs.Meaning.{Span, Diag}
-use Rattle.making.specs.State.{State, emit}
-use Rattle.making.specs.Represents.{Context, withPlace, Represents}
+use Rattle.log.specs.meaning.Contents.{Span, Diag}
+use Rattle.making.specs.meaning.State.{State, emit}
+use Rattle.making.specs.machine.Represents.{Context, withPlace, Represents}
 use Rattle.making.proofs.InHand.{place-length}
-use Rattle.input.specs.Tree.{Tree, Trees, firstOf, has, referenceKind, slashKind}
-use Rattle.input.specs.Report.{Got, report}
-use Rattle.input.specs.Name.{fullName, nodeNameSpan}
-use Rattle.input.specs.Phandle.{lowerPhandle}
-use Rattle.items.specs.Lower.{Place, at, aside, discarded, nowhere, Placed, byTarget, placedAs, byName, placeOf, opened}
-use Rattle.input.specs.GoodName.{goodNamesIn}
-use Rattle.post_checks.specs.Lowers.{Lowers}
-use Rattle.input.specs.NameRead.{isThere}
-use Rattle.items.specs.Opened.{OpensAt}
-use Rattle.items.specs.PropertyMade.{isTop}
-use Rattle.items.specs.NodePlaced.{PlacedTo, Places, PlacesIn}
+use Rattle.input.specs.meaning.Tree.{Tree, Trees, firstOf, has, referenceKind, slashKind}
+use Rattle.input.specs.meaning.Report.{Got, report}
+use Rattle.input.specs.meaning.Name.{fullName, nodeNameSpan}
+use Rattle.input.specs.meaning.Phandle.{lowerPhandle}
+use Rattle.items.specs.meaning.Lower.{Place, at, aside, discarded, nowhere, Placed, byTarget, placedAs, byName, placeOf, opened}
+use Rattle.input.specs.meaning.GoodName.{goodNamesIn}
+use Rattle.resolving.specs.machine.Lowers.{Lowers}
+use Rattle.input.specs.machine.NameRead.{isThere}
+use Rattle.items.specs.machine.Opened.{OpensAt}
+use Rattle.items.specs.machine.PropertyMade.{isTop}
+use Rattle.items.specs.machine.NodePlaced.{PlacedTo, Places, PlacesIn}
 use Rattle.items.specs.declared.dt_node.Opened.{Opened}
 use Rattle.items.specs.declared.dt_node.NodePlace.{NodePlace}
 use Rattle.items.specs.declared.dt_node.NodePlace.the-variants as N
@@ -37,15 +37,26 @@ use Rattle.input.proofs.GoodNames.{never, full-plain}
 use Rattle.items.proofs.Reported.{emit-none, emit-then}
 
 -- the same place, with what was reported before
-reported-first : (ds : List Diag) (l m : Placed) (s : State) → ds ++ l .reports ≡ m .reports → emit (l .reports) (emit ds s) ≡ emit (m .reports) s
+reported-first : (ds : List Diag) (l m : Placed) (s : State) → ds ++ l .reports ≡ m .reports
+    → emit (l .reports) (emit ds s) ≡ emit (m .reports) s
 reported-first ds l m s f = emit-then ds (l .reports) s ∙ ap (λ (x : List Diag). emit x s) f
 
-module _ (k : Context) (w b input text : List ℕ) (parts : Trees) (span : Span) (s : State) (d : LowerCtx) (ds : List Diag) (l m : Placed) (e : l .place ≡ m .place) (f : ds ++ l .reports ≡ m .reports) where
+module _ (k : Context) (w b input text : List ℕ) (parts : Trees) (span : Span) (s : State) (d : LowerCtx) (ds : List Diag) (l m : Placed)
+    (e : l .place ≡ m .place) (f : ds ++ l .reports ≡ m .reports) where
   pub placed-after : (n : NodePlace) → PlacedTo k w b input text parts span (emit ds s) d l n → PlacedTo k w b input text parts span s d m n
   unfolding emit
-  placed-after (N.At place) h =
-      (h .0, sym e ∙ h .1, subst (λ (u : State). Represents (withPlace (record { at = place; path = h .0 }) k) d w b (opened (h .0) parts span u)) (reported-first ds l m s f) (h .2))
-  placed-after (N.Aside r kind keeps) h = (sym e ∙ h .0, h .1, subst (λ (u : State). Represents k d w b u) (reported-first ds l m s f) (h .2))
+  placed-after (N.At place) h = (
+    h .0,
+    sym e ∙ h .1,
+    subst (λ (u : State). Represents (withPlace (record { at = place; path = h .0 }) k) d w b
+        (opened (h .0) parts span u)) (reported-first ds l m s f) (h .2),
+  )
+  placed-after (N.Aside r kind keeps) h = (
+    sym e ∙ h .0,
+    h .1,
+    subst (λ (u : State). Represents k d w b u) (reported-first ds l m s f)
+        (h .2),
+  )
   placed-after N.Discarded h = (sym e ∙ h .0, subst (λ (u : State). Represents k d w b u) (reported-first ds l m s f) (h .1))
   placed-after N.Nowhere h = (sym e ∙ h .0, subst (λ (u : State). Represents k d w b u) (reported-first ds l m s f) (h .1))
 
@@ -53,27 +64,32 @@ module _ {parent : PathAt} {c : LowerCtx} {words bytes w b input text : List ℕ
   -- opened at a path
   pub places-at : {path : List ℕ → List ℕ} {o : Opened} (l : List ℕ → Placed) (known : Bool) → isTop parent ≡ known
       → ((p : List ℕ) → isEmpty p ≡ known → l p ≡ record { place = at (path p); reports = [] })
-      → OpensAt parent c words bytes w b parts span path o → Places parent c words bytes w b input text parts span l (record { node = N.At (o .place); ctx = o .ctx })
+      → OpensAt parent c words bytes w b parts span path o → Places parent c words bytes w b input text parts span l
+      (record { node = N.At (o .place); ctx = o .ctx })
   places-at {path} {o} l known t e h =
       record {
         places = λ k p s q r.
             let x = e p (sym q ∙ t) in (
               path p,
               ap (λ (y : Placed). y .place) x,
-              subst (λ (u : State). Represents (withPlace (record { at = o .place; path = path p }) (withPlace (record { at = parent; path = p }) k)) (o .ctx) w b (opened (path p) parts span u))
+              subst (λ (u : State). Represents (withPlace (record { at = o .place; path = path p })
+                  (withPlace (record { at = parent; path = p }) k)) (o .ctx) w b (opened (path p) parts span u))
                   (sym (emit-none s) ∙ ap (λ (y : Placed). emit (y .reports) s) (sym x)) (h .opens k p s r),
             );
       }
 
   -- refused with a code
-  pub places-nowhere : {d : LowerCtx} (l : List ℕ → Placed) (ds : List Diag) (known : Bool) → isTop parent ≡ known → ((p : List ℕ) → isEmpty p ≡ known → l p ≡ record { place = nowhere; reports = ds })
-      → Lowers c d words bytes w b (emit ds) → Places parent c words bytes w b input text parts span l (record { node = N.Nowhere; ctx = d })
+  pub places-nowhere : {d : LowerCtx} (l : List ℕ → Placed) (ds : List Diag) (known : Bool) → isTop parent ≡ known
+      → ((p : List ℕ) → isEmpty p ≡ known → l p ≡ record { place = nowhere; reports = ds })
+      → Lowers c d words bytes w b (emit ds) → Places parent c words bytes w b input text parts span l
+      (record { node = N.Nowhere; ctx = d })
   places-nowhere {d} l ds known t e h =
       record {
         places = λ k p s q r.
             let x = e p (sym q ∙ t) in (
               ap (λ (y : Placed). y .place) x,
-              subst (λ (u : State). Represents (withPlace (record { at = parent; path = p }) k) d w b u) (ap (λ (y : Placed). emit (y .reports) s) (sym x)) (h .lowers (withPlace (record { at = parent; path = p }) k) s r),
+              subst (λ (u : State). Represents (withPlace (record { at = parent; path = p }) k) d w b u)
+                  (ap (λ (y : Placed). emit (y .reports) s) (sym x)) (h .lowers (withPlace (record { at = parent; path = p }) k) s r),
             );
       }
 
@@ -95,24 +111,29 @@ module _ (span : Span) (p : List ℕ) where
   root-on-top e = rw (same-refl root, e) refl
 
 -- what was reported of the name before
-placed-reports : (p n : List ℕ) (span : Span) (ds : List Diag) → (placedAs p n span [] .place ≡ placedAs p n span ds .place) × (ds ++ placedAs p n span [] .reports ≡ placedAs p n span ds .reports)
+placed-reports : (p n : List ℕ) (span : Span) (ds : List Diag) → (placedAs p n span [] .place ≡ placedAs p n span ds .place)
+    × (ds ++ placedAs p n span [] .reports ≡ placedAs p n span ds .reports)
 placed-reports p n span ds =
     by-test (same n root)
     (λ a. by-test (isEmpty p) (λ e. rw (a, e) (refl, append-nil ds)) (λ e. rw (a, e) (refl, refl)))
     (λ a. by-test (isEmpty p) (λ e. rw (a, e) (refl, refl)) (λ e. rw (a, e) (refl, append-nil ds)))
 
-module _ {parent : PathAt} {c d : LowerCtx} {words bytes w₁ b₁ input text : List ℕ} (parts : Trees) (span nameSpan : Span) (ds : List Diag) (reported : Lowers c d words bytes w₁ b₁ (emit ds)) where
+module _ {parent : PathAt} {c d : LowerCtx} {words bytes w₁ b₁ input text : List ℕ} (parts : Trees) (span nameSpan : Span) (ds : List Diag)
+    (reported : Lowers c d words bytes w₁ b₁ (emit ds)) where
   -- by a name, whose reports came first
-  after-reports : {w b : List ℕ} {v : PlacedNode} (l m : List ℕ → Placed) → ((p : List ℕ) → (l p .place ≡ m p .place) × (ds ++ l p .reports ≡ m p .reports))
+  after-reports : {w b : List ℕ} {v : PlacedNode} (l m : List ℕ → Placed)
+      → ((p : List ℕ) → (l p .place ≡ m p .place) × (ds ++ l p .reports ≡ m p .reports))
       → Places parent d w₁ b₁ w b input text parts span l v → Places parent c words bytes w b input text parts span m v
   after-reports {w} {b} {v} l m e h =
       record {
         places = λ k p s q r.
-            placed-after (withPlace (record { at = parent; path = p }) k) w b input text parts span s (v .ctx) ds (l p) (m p) (e p .0) (e p .1) (v .node)
+            placed-after (withPlace (record { at = parent; path = p }) k) w b input text parts span s (v .ctx) ds (l p) (m p) (e p .0)
+            (e p .1) (v .node)
             (h .places k p (emit ds s) q (reported .lowers (withPlace (record { at = parent; path = p }) k) s r));
       }
 
-  pub name-decides : {w b : List ℕ} {v : PlacedNode} (n : List ℕ) → fullName parts .result ≡ some n → Places parent d w₁ b₁ w b input text parts span (λ p. placedAs p n nameSpan []) v
+  pub name-decides : {w b : List ℕ} {v : PlacedNode} (n : List ℕ) → fullName parts .result ≡ some n
+      → Places parent d w₁ b₁ w b input text parts span (λ p. placedAs p n nameSpan []) v
       → Places parent c words bytes w b input text parts span (λ p. byName p parts nameSpan ds (fullName parts .result)) v
   name-decides n e h =
       rw e (after-reports (λ p. placedAs p n nameSpan []) (λ p. placedAs p n nameSpan ds) (λ p. placed-reports p n nameSpan ds) h)
@@ -121,11 +142,16 @@ module _ {parent : PathAt} {c d : LowerCtx} {words bytes w₁ b₁ input text : 
       → Places parent d w₁ b₁ w b input text parts span (λ p. placedAs p root nameSpan []) v
       → Places parent c words bytes w b input text parts span (λ p. byName p parts nameSpan ds (fullName parts .result)) v
   slash-decides e t h =
-      rw (e, t) (after-reports (λ p. placedAs p root nameSpan []) (λ p. placedAs p root nameSpan ds) (λ p. placed-reports p root nameSpan ds) h)
+      rw (e, t) (after-reports (λ p. placedAs p root nameSpan []) (λ p. placedAs p root nameSpan ds)
+      (λ p. placed-reports p root nameSpan ds) h)
 
   pub nothing-decides : fullName parts .result ≡ none → has slashKind parts ≡ false
-      → Places parent c words bytes w₁ b₁ input text parts span (λ p. byName p parts nameSpan ds (fullName parts .result)) (record { node = N.Discarded; ctx = d })
-  nothing-decides e t = rw (e, t) (record { places = λ k p s q r. (refl, reported .lowers (withPlace (record { at = parent; path = p }) k) s r) })
+      → Places parent c words bytes w₁ b₁ input text parts span (λ p. byName p parts nameSpan ds (fullName parts .result))
+      (record { node = N.Discarded; ctx = d })
+  nothing-decides e t = rw (e, t) (record {
+    places = λ k p s q r.
+        (refl, reported .lowers (withPlace (record { at = parent; path = p }) k) s r);
+  })
 
 -- a name that is there, or not
 pub there-some : (o : Option (List ℕ)) → isThere o ≡ true → (n : List ℕ) × (o ≡ some n)
@@ -137,7 +163,8 @@ not-there none e = refl
 not-there (some n) e = absurd (not-both {t = true} refl e)
 
 -- whether a path is the empty one, by its place
-pub top-is : {parent : PathAt} {k : Context} {c : LowerCtx} {words bytes : List ℕ} {p : List ℕ} {s : State} → Represents (withPlace (record { at = parent; path = p }) k) c words bytes s → c .short ≡ false
+pub top-is : {parent : PathAt} {k : Context} {c : LowerCtx} {words bytes : List ℕ} {p : List ℕ} {s : State}
+    → Represents (withPlace (record { at = parent; path = p }) k) c words bytes s → c .short ≡ false
     → isTop parent ≡ isEmpty p
 unfolding isEmpty
 top-is {parent} {k} {p = p} r z = go (parent .root) (parent .size) p (place-length {k = k} {p = record { at = parent; path = p }} r z)
@@ -151,7 +178,8 @@ top-is {parent} {k} {p = p} r z = go (parent .root) (parent .size) p (place-leng
 -- a reference among the parts decides alone
 module _ {parent : PathAt} {c : LowerCtx} {words bytes w b input text : List ℕ} (parts : Trees) (span : Span) {v : PlacedNode} where
   pub without-reference : firstOf referenceKind parts ≡ none
-      → Places parent c words bytes w b input text parts span (λ p. byName p parts (nodeNameSpan parts span) (fullName parts .reports) (fullName parts .result)) v
+      → Places parent c words bytes w b input text parts span (λ p. byName p parts (nodeNameSpan parts span) (fullName parts .reports)
+      (fullName parts .result)) v
       → PlacesIn parent c words bytes w b input text parts span (λ p s. placeOf p parts span s) v
   unfolding placeOf
   without-reference e h = rw e (record { places = λ k p s z r. h .places k p s (top-is {k = k} r z) r })

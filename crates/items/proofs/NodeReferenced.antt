@@ -5,37 +5,39 @@ use mathlib.Core.Bool.{Bool, true, false, cond}
 use mathlib.Core.List.{List, [], _∷_}
 use mathlib.Core.Option.{Option, some, none}
 use native.Mathlib.Omega.{arith}
-use Rattle.paths_numbers.specs.Path.{joined}
-use Rattle.paths_numbers.specs.Reference.{Target}
+use Rattle.paths_numbers.specs.meaning.Path.{joined}
+use Rattle.paths_numbers.specs.meaning.Reference.{Target}
 use Rattle.paths_numbers.proofs.Texts.{not-both}
 use Rattle.making.specs.declared.ctx.LowerCtx.{LowerCtx}
 use Rattle.making.specs.declared.place.PathAt.{PathAt}
-use Rattle.making.specs.declared.recs.Span.{Span as SpanRead}
+use Rattle.log.specs.declared.parts.Span.{Span as SpanRead}
 use Rattle.making.specs.declared.recs.DefKind.{DefKind}
-use Rattle.making.specs.declared.recs.TargetKind.{TargetKind}
-use Rattle.log.specs.Meaning.{Span, node, Def, Binding}
-use Rattle.making.specs.PathPlaces.{pathIn}
-use Rattle.log.specs.Record.{secondText}
-use Rattle.log.specs.ReadBack.{readBindings, readDefs}
-use Rattle.making.specs.Recs.{meant, bareValue, bareDef, targetMade}
-use Rattle.making.specs.State.{State, define, emit}
-use Rattle.making.specs.Represents.{Context, withPlace, Represents, Steps}
+use Rattle.log.specs.declared.parts.TargetKind.{TargetKind}
+use Rattle.log.specs.meaning.Contents.{Span, node, Def, Binding}
+use Rattle.making.specs.machine.PathPlaces.{pathIn}
+use Rattle.log.specs.meaning.Record.{secondText}
+use Rattle.log.specs.meaning.ReadBack.{readBindings, readDefs}
+use Rattle.making.specs.machine.Recs.{bareValue, bareDef}
+use Rattle.log.specs.machine.Parts.{meant, targetMade}
+use Rattle.making.specs.meaning.State.{State, define, emit}
+use Rattle.making.specs.machine.Represents.{Context, withPlace, Represents, Steps}
 use Rattle.making.proofs.InHand.{represents-defs, represents-bindings, binding-path}
-use Rattle.queries.specs.Kind.{setsOverlay}
-use Rattle.input.specs.Tree.{Tree, Trees, spanOf, has, omitKind}
-use Rattle.input.specs.Report.{Got}
-use Rattle.input.specs.Name.{nodeNameSpan}
-use Rattle.input.specs.Phandle.{lowerPhandle}
-use Rattle.post_checks.specs.Resolve.{Resolution, reaches, missing, resolve}
-use Rattle.items.specs.Lower.{Place, at, aside, nowhere, Placed, byResolution, byTarget, opened}
-use Rattle.input.specs.Input.{spanAt, recordAt}
-use Rattle.post_checks.specs.Lowers.{Lowers}
-use Rattle.input.specs.PhandleRead.{labelAt, pathAt, phandleRead}
-use Rattle.post_checks.specs.Leading.{resolution, placedIn, Leads, ReportsMissing}
-use Rattle.items.specs.Opened.{bareNode, Opens}
-use Rattle.items.specs.NodePlaced.{PlacesIn, DefinesLeading, leadsOn}
-use Rattle.post_checks.specs.declared.resolve.Resolved.{Resolved}
-use Rattle.post_checks.specs.declared.resolve.Resolved.the-variants as R
+use Rattle.queries.specs.meaning.Kind.{setsOverlay}
+use Rattle.input.specs.meaning.Tree.{Tree, Trees, spanOf, has, omitKind}
+use Rattle.input.specs.meaning.Report.{Got}
+use Rattle.input.specs.meaning.Name.{nodeNameSpan}
+use Rattle.input.specs.meaning.Phandle.{lowerPhandle}
+use Rattle.resolving.specs.meaning.Resolve.{Resolution, reaches, missing, resolve}
+use Rattle.items.specs.meaning.Lower.{Place, at, aside, nowhere, Placed, byResolution, byTarget, opened}
+use Rattle.input.specs.meaning.Input.{spanAt, recordAt}
+use Rattle.resolving.specs.machine.Lowers.{Lowers}
+use Rattle.input.specs.machine.PhandleRead.{labelAt, pathAt, phandleRead}
+use Rattle.resolving.specs.machine.Leading.{resolution, Leads, ReportsMissing}
+use Rattle.making.specs.machine.PathPlaces.{placedIn}
+use Rattle.items.specs.machine.Opened.{bareNode, Opens}
+use Rattle.items.specs.machine.NodePlaced.{PlacesIn, DefinesLeading, leadsOn}
+use Rattle.resolving.specs.declared.resolve.Resolved.{Resolved}
+use Rattle.resolving.specs.declared.resolve.Resolved.the-variants as R
 use Rattle.items.specs.declared.dt_node.Opened.{Opened}
 use Rattle.items.specs.declared.dt_node.NodePlace.the-variants as N
 use Rattle.items.specs.declared.dt_node.PlacedNode.{PlacedNode}
@@ -65,7 +67,8 @@ module _ (words bytes l path : List ℕ) where
   leads-to R.NoNode e = absurd (not-both e refl)
   leads-to (R.NoNodeBelow r) e = absurd (not-both e refl)
 
-  pub leads-nowhere : (v : Resolved) → leadsOn v ≡ false → (code : ℕ) × (text : List ℕ) × (resolution words bytes l path v ≡ missing code text)
+  pub leads-nowhere : (v : Resolved) → leadsOn v ≡ false → (code : ℕ) × (text : List ℕ)
+      × (resolution words bytes l path v ≡ missing code text)
   unfolding resolution
   leads-nowhere (R.Bound r) e = absurd (not-both {t = true} refl e)
   leads-nowhere (R.BoundPath r) e = absurd (not-both {t = true} refl e)
@@ -75,24 +78,30 @@ module _ (words bytes l path : List ℕ) where
   leads-nowhere (R.NoNodeBelow r) e = (4, joined (secondText words bytes r) path [], refl)
 
 -- the definition there
-module _ {c d : LowerCtx} {words bytes w b : List ℕ} {parts : Trees} (v : Resolved) (l path : List ℕ) (kind : DefKind) (span nameSpan : SpanRead) (found : Span) (q : List ℕ) (made : Steps c d words bytes w b (define (bareDef kind span nameSpan q)))
-    (valueIs : bareValue kind ≡ node [] (has omitKind parts)) (spanIs : meant span ≡ found) (nameSpanIs : meant nameSpan ≡ nodeNameSpan parts found) where
-  defines-at : ((k : Context) (s : State) (p : List ℕ) → Represents k c words bytes s → c .short ≡ false → Leads words bytes (c .binds .first) (c .defs .first) l path v → resolution words bytes l path v ≡ reaches p → q ≡ p)
+module _ {c d : LowerCtx} {words bytes w b : List ℕ} {parts : Trees} (v : Resolved) (l path : List ℕ) (kind : DefKind)
+    (span nameSpan : SpanRead) (found : Span) (q : List ℕ) (made : Steps c d words bytes w b (define (bareDef kind span nameSpan q)))
+    (valueIs : bareValue kind ≡ node [] (has omitKind parts)) (spanIs : meant span ≡ found)
+    (nameSpanIs : meant nameSpan ≡ nodeNameSpan parts found) where
+  defines-at : ((k : Context) (s : State) (p : List ℕ) → Represents k c words bytes s → c .short ≡ false
+      → Leads words bytes (c .binds .first) (c .defs .first) l path v → resolution words bytes l path v ≡ reaches p → q ≡ p)
       → DefinesLeading v l path c d words bytes w b parts found
   defines-at e =
       record {
         defines = λ k s p r z i h.
-            subst (λ (x : Def). Represents k d w b (define x s)) (bare-node kind span nameSpan q p parts found (e k s p r z i h) valueIs spanIs nameSpanIs) (made .steps k s r z);
+            subst (λ (x : Def). Represents k d w b (define x s))
+            (bare-node kind span nameSpan q p parts found (e k s p r z i h) valueIs spanIs nameSpanIs) (made .steps k s r z);
       }
 
-  pub defines-bound : (n : ℕ) → v ≡ R.Bound n → q ≡ pathIn (c .bytes) bytes (placedIn words n 4) → DefinesLeading v l path c d words bytes w b parts found
+  pub defines-bound : (n : ℕ) → v ≡ R.Bound n → q ≡ pathIn (c .bytes) bytes (placedIn words n 4)
+      → DefinesLeading v l path c d words bytes w b parts found
   unfolding resolution
   defines-bound n e g =
       defines-at (λ k s p r z i h.
       let x = i .there n (rw e refl) in
       g ∙ binding-path r z (x .before) (x .after) n (x .chain) ∙ same-path (rw e at h))
 
-  pub defines-below : (n : ℕ) → v ≡ R.BoundPath n → q ≡ joined (pathIn (c .bytes) bytes (placedIn words n 4)) path [] → DefinesLeading v l path c d words bytes w b parts found
+  pub defines-below : (n : ℕ) → v ≡ R.BoundPath n → q ≡ joined (pathIn (c .bytes) bytes (placedIn words n 4)) path []
+      → DefinesLeading v l path c d words bytes w b parts found
   unfolding resolution
   defines-below n e g =
       defines-at (λ k s p r z i h.
@@ -104,21 +113,28 @@ module _ {c d : LowerCtx} {words bytes w b : List ℕ} {parts : Trees} (v : Reso
   defines-path e g = defines-at (λ k s p r z i h. g ∙ same-path (rw e at h))
 
 -- none where it leads nowhere
-pub defines-none : {c d : LowerCtx} {words bytes w b : List ℕ} {parts : Trees} {span : Span} (v : Resolved) (l path : List ℕ) → leadsOn v ≡ false → DefinesLeading v l path c d words bytes w b parts span
+pub defines-none : {c d : LowerCtx} {words bytes w b : List ℕ} {parts : Trees} {span : Span} (v : Resolved) (l path : List ℕ)
+    → leadsOn v ≡ false → DefinesLeading v l path c d words bytes w b parts span
 defines-none {words = words} {bytes} v l path e =
     let x = leads-nowhere words bytes l path v e in record { defines = λ k s p r z i h. never-reached (sym (x .2) ∙ h) }
 
 -- the node placed
-module _ (c : LowerCtx) (words bytes : List ℕ) (target : Target) (l path : List ℕ) (v : Resolved) (bound : Leads words bytes (c .binds .first) (c .defs .first) l path v)
-    (resolved : resolution words bytes l path v ≡ resolve target (readBindings words bytes (c .binds .first)) (readDefs words bytes (c .defs .first))) where
+module _ (c : LowerCtx) (words bytes : List ℕ) (target : Target) (l path : List ℕ) (v : Resolved)
+    (bound : Leads words bytes (c .binds .first) (c .defs .first) l path v)
+    (resolved : resolution words bytes l path v ≡ resolve target (readBindings words bytes (c .binds .first))
+    (readDefs words bytes (c .defs .first))) where
   -- in the log in hand
-  in-hand : (k : Context) (s : State) → Represents k c words bytes s → c .short ≡ false → resolve target (s .binds) (s .defs) ≡ resolution words bytes l path v
+  in-hand : (k : Context) (s : State) → Represents k c words bytes s → c .short ≡ false
+      → resolve target (s .binds) (s .defs) ≡ resolution words bytes l path v
   in-hand k s r z =
-      sym (resolved ∙ ap (λ (x : List Binding). resolve target x (readDefs words bytes (c .defs .first))) (represents-bindings r z) ∙ ap (λ (x : List Def). resolve target (s .binds) x) (represents-defs r z))
+      sym (resolved ∙ ap (λ (x : List Binding). resolve target x (readDefs words bytes (c .defs .first))) (represents-bindings r z)
+      ∙ ap (λ (x : List Def). resolve target (s .binds) x) (represents-defs r z))
 
-  pub place-found : {parent : PathAt} {d : LowerCtx} {w₁ b₁ w b input text : List ℕ} {parts : Trees} {span : Span} {o : Opened} (t : Tree) → leadsOn v ≡ true
+  pub place-found : {parent : PathAt} {d : LowerCtx} {w₁ b₁ w b input text : List ℕ} {parts : Trees} {span : Span} {o : Opened} (t : Tree)
+      → leadsOn v ≡ true
       → DefinesLeading v l path c d words bytes w₁ b₁ parts span → Opens d w₁ b₁ w b parts o
-      → PlacesIn parent c words bytes w b input text parts span (λ p s. byResolution t target (s .defs) (resolve target (s .binds) (s .defs))) (record { node = N.At (o .place); ctx = o .ctx })
+      → PlacesIn parent c words bytes w b input text parts span
+      (λ p s. byResolution t target (s .defs) (resolve target (s .binds) (s .defs))) (record { node = N.At (o .place); ctx = o .ctx })
   place-found {parent} {w = w} {b} {parts = parts} {span} {o} t on de op =
       let x = leads-to words bytes l path v on in
       record {
@@ -127,20 +143,27 @@ module _ (c : LowerCtx) (words bytes : List ℕ) (target : Target) (l path : Lis
             rw (in-hand (withPlace (record { at = parent; path = p }) k) s r z, x .1) refl in (
               x .0,
               ap (λ (y : Placed). y .place) e,
-              subst (λ (u : State). Represents (withPlace (record { at = o .place; path = x .0 }) (withPlace (record { at = parent; path = p }) k)) (o .ctx) w b (opened (x .0) parts span u))
+              subst (λ (u : State). Represents (withPlace (record { at = o .place; path = x .0 })
+                  (withPlace (record { at = parent; path = p }) k)) (o .ctx) w b (opened (x .0) parts span u))
                   (sym (emit-none s) ∙ ap (λ (y : Placed). emit (y .reports) s) (sym e))
-                  (op .opens (withPlace (record { at = parent; path = p }) k) (x .0) span s (de .defines (withPlace (record { at = parent; path = p }) k) s (x .0) r z bound (x .1))),
+                  (op .opens (withPlace (record { at = parent; path = p }) k) (x .0) span s
+                  (de .defines (withPlace (record { at = parent; path = p }) k) s (x .0) r z bound (x .1))),
             );
       }
 
 -- or put aside
-pub place-missing : (c : LowerCtx) (words bytes : List ℕ) (v : Resolved) {parent : PathAt} {d : LowerCtx} {w b : List ℕ} {parts : Trees} {span : Span} {keeps : Bool} (input text : List ℕ) (reference : ℕ)
-    (kind : TargetKind) → Leads words bytes (c .binds .first) (c .defs .first) (labelAt input text reference) (pathAt input text reference) v
-    → resolution words bytes (labelAt input text reference) (pathAt input text reference) v ≡ resolve (targetMade kind (labelAt input text reference) (pathAt input text reference)) (readBindings words bytes (c .binds .first)) (readDefs words bytes (c .defs .first))
+pub place-missing : (c : LowerCtx) (words bytes : List ℕ) (v : Resolved) {parent : PathAt} {d : LowerCtx} {w b : List ℕ} {parts : Trees}
+    {span : Span} {keeps : Bool} (input text : List ℕ) (reference : ℕ)
+    (kind : TargetKind) → Leads words bytes (c .binds .first) (c .defs .first) (labelAt input text reference) (pathAt input text reference)
+    v
+    → resolution words bytes (labelAt input text reference) (pathAt input text reference) v ≡ resolve
+    (targetMade kind (labelAt input text reference) (pathAt input text reference)) (readBindings words bytes (c .binds .first))
+    (readDefs words bytes (c .defs .first))
     → leadsOn v ≡ false → keeps ≡ setsOverlay (readDefs words bytes (c .defs .first))
     → ReportsMissing v (labelAt input text reference) (pathAt input text reference) (spanAt input reference) c d words bytes w b
     → PlacesIn parent c words bytes w b input text parts span
-    (λ p s. byResolution (recordAt input text reference) (targetMade kind (labelAt input text reference) (pathAt input text reference)) (s .defs) (resolve (targetMade kind (labelAt input text reference) (pathAt input text reference)) (s .binds) (s .defs)))
+    (λ p s. byResolution (recordAt input text reference) (targetMade kind (labelAt input text reference) (pathAt input text reference))
+    (s .defs) (resolve (targetMade kind (labelAt input text reference) (pathAt input text reference)) (s .binds) (s .defs)))
     (record { node = N.Aside reference kind keeps; ctx = d })
 unfolding recordAt
 place-missing c words bytes v {parent} input text reference kind bound g on keep re =
@@ -149,18 +172,29 @@ place-missing c words bytes v {parent} input text reference kind bound g on keep
     let x = leads-nowhere words bytes l path v on in
     record {
       places = λ k p s z r.
-          let e = in-hand c words bytes (targetMade kind l path) l path v bound g (withPlace (record { at = parent; path = p }) k) s r z ∙ x .2 in
-          rw e (refl, keep ∙ ap setsOverlay (represents-defs r z), re .reports (withPlace (record { at = parent; path = p }) k) s (x .0) (x .1) r z bound (x .2));
+          let e = in-hand c words bytes (targetMade kind l path) l path v bound g (withPlace (record { at = parent; path = p }) k) s r z
+          ∙ x .2 in
+          rw e (
+            refl,
+            keep ∙ ap setsOverlay (represents-defs r z),
+            re .reports (withPlace (record { at = parent; path = p }) k) s (x .0)
+                (x .1) r z bound (x .2),
+          );
     }
 
 -- a reference by what it was read as
-module _ {parent : PathAt} {c : LowerCtx} {words bytes w b input text : List ℕ} {parts : Trees} {span : Span} {n : PlacedNode} (t : Tree) (got : Got Target) (e : got ≡ lowerPhandle t) where
-  pub read-named : (target : Target) → got .result ≡ some target → PlacesIn parent c words bytes w b input text parts span (λ p s. byResolution t target (s .defs) (resolve target (s .binds) (s .defs))) n
+module _ {parent : PathAt} {c : LowerCtx} {words bytes w b input text : List ℕ} {parts : Trees} {span : Span} {n : PlacedNode} (t : Tree)
+    (got : Got Target) (e : got ≡ lowerPhandle t) where
+  pub read-named : (target : Target) → got .result ≡ some target
+      → PlacesIn parent c words bytes w b input text parts span
+      (λ p s. byResolution t target (s .defs) (resolve target (s .binds) (s .defs))) n
       → PlacesIn parent c words bytes w b input text parts span (λ p s. byTarget t (lowerPhandle t .reports) (lowerPhandle t .result) s) n
   read-named target q h = rw (sym e, q) h
 
-pub read-nowhere : {parent : PathAt} {c d : LowerCtx} {words bytes w b input text : List ℕ} {parts : Trees} {span : Span} (t : Tree) (got : Got Target) → got ≡ lowerPhandle t → got .result ≡ none
+pub read-nowhere : {parent : PathAt} {c d : LowerCtx} {words bytes w b input text : List ℕ} {parts : Trees} {span : Span} (t : Tree)
+    (got : Got Target) → got ≡ lowerPhandle t → got .result ≡ none
     → Lowers c d words bytes w b (emit (got .reports))
-    → PlacesIn parent c words bytes w b input text parts span (λ p s. byTarget t (lowerPhandle t .reports) (lowerPhandle t .result) s) (record { node = N.Nowhere; ctx = d })
+    → PlacesIn parent c words bytes w b input text parts span (λ p s. byTarget t (lowerPhandle t .reports) (lowerPhandle t .result) s)
+    (record { node = N.Nowhere; ctx = d })
 read-nowhere {parent} t got e q h =
     rw (sym e, q) (record { places = λ k p s z r. (refl, h .lowers (withPlace (record { at = parent; path = p }) k) s r) })

@@ -5,27 +5,29 @@ use mathlib.Core.Bool.{Bool, true, false}
 use mathlib.Core.List.{List, [], _∷_, _++_}
 use native.Mathlib.Omega.{arith}
 use lib.ListN.{length}
-use Rattle.paths_numbers.specs.Path.{joined}
+use Rattle.paths_numbers.specs.meaning.Path.{joined}
 use Rattle.paths_numbers.proofs.Texts.{by-test}
 use Rattle.making.specs.declared.ctx.LowerCtx.{LowerCtx}
 use Rattle.making.specs.declared.place.PathAt.{PathAt}
-use Rattle.making.specs.declared.recs.Span.{Span as SpanRead}
+use Rattle.log.specs.declared.parts.Span.{Span as SpanRead}
 use Rattle.making.specs.declared.recs.DefKind.{DefKind}
-use Rattle.log.specs.Meaning.{Span, node, Def, Binding}
-use Rattle.making.specs.State.{State, define, bind, emit, onLast, changed, lastIs, isNode, inNode, textsBytes}
-use Rattle.making.specs.PathPlaces.{pathIn}
-use Rattle.making.specs.Recs.{meant, bareValue, bareDef}
-use Rattle.making.specs.Represents.{Context, withPlace, Represents, Steps, Newest}
+use Rattle.log.specs.meaning.Contents.{Span, node, Def, Binding}
+use Rattle.making.specs.meaning.State.{State, define, bind, emit, textsBytes}
+use Rattle.making.specs.machine.Adding.{onLast, changed, lastIs, isNode, inNode}
+use Rattle.making.specs.machine.PathPlaces.{pathIn}
+use Rattle.making.specs.machine.Recs.{bareValue, bareDef}
+use Rattle.log.specs.machine.Parts.{meant}
+use Rattle.making.specs.machine.Represents.{Context, withPlace, Represents, Steps, Newest}
 use Rattle.making.proofs.InHand.{place-reads}
-use Rattle.input.specs.Tree.{Trees, has, omitKind}
-use Rattle.input.specs.Report.{Made}
-use Rattle.input.specs.Name.{nodeNameSpan, labelsOf}
-use Rattle.items.specs.Lower.{labelTexts, nodeDef, opened}
-use Rattle.items.specs.Labelled.{withLabels, labelledBy, LabelsAt}
-use Rattle.items.specs.Opened.{bareNode, Opens, OpensAt}
+use Rattle.input.specs.meaning.Tree.{Trees, has, omitKind}
+use Rattle.input.specs.meaning.Report.{Made}
+use Rattle.input.specs.meaning.Name.{nodeNameSpan, labelsOf}
+use Rattle.items.specs.meaning.Lower.{labelTexts, nodeDef, opened}
+use Rattle.items.specs.machine.Labelled.{withLabels, labelledBy, LabelsAt}
+use Rattle.items.specs.machine.Opened.{bareNode, Opens, OpensAt}
 use Rattle.items.specs.declared.dt_node.Opened.{Opened}
 use Rattle.items.proofs.Labelled.{same-state}
-use Rattle.post_checks.proofs.Lowers.{Grows, define-grows, stays-over}
+use Rattle.resolving.proofs.Lowers.{Grows, define-grows, stays-over}
 use Rattle.items.proofs.Short.{short-anywhere}
 
 -- the last of a list that ends so
@@ -59,7 +61,8 @@ module _ (p : List ℕ) (parts : Trees) (span : Span) (s : State) where
   in-node = last-is (λ (d : Def). isNode (d .value)) (s .defs) (bareNode p parts span)
 
 -- the newest definition's place, and the labels bound to it
-pub node-opens : {c d : LowerCtx} {words bytes w b : List ℕ} {parts : Trees} {place : PathAt} → Newest c words place → LabelsAt place c d words bytes w b (λ (p : List ℕ). labelsOf p parts)
+pub node-opens : {c d : LowerCtx} {words bytes w b : List ℕ} {parts : Trees} {place : PathAt} → Newest c words place
+    → LabelsAt place c d words bytes w b (λ (p : List ℕ). labelsOf p parts)
     → Opens c words bytes w b parts (record { place = place; ctx = d })
 unfolding define
 node-opens {c} {bytes = bytes} {parts = parts} {place} n l =
@@ -67,34 +70,45 @@ node-opens {c} {bytes = bytes} {parts = parts} {place} n l =
       opens = λ k p span s r.
           rw (sym (opened-labels p parts span s))
           (l .labels k p (define (bareNode p parts span) s)
-          (by-test (c .short) (λ z. short-anywhere z r) (λ z. n .stands k bytes (define (bareNode p parts span) s) (s .defs) (bareNode p parts span) r z refl))
+          (by-test (c .short) (λ z. short-anywhere z r) (λ z. n .stands k bytes (define (bareNode p parts span) s) (s .defs)
+          (bareNode p parts span) r z refl))
           (in-node p parts span s));
     }
 
 -- a definition that a node's parts give
-pub bare-node : (kind : DefKind) (span nameSpan : SpanRead) (q p : List ℕ) (parts : Trees) (at : Span) → q ≡ p → bareValue kind ≡ node [] (has omitKind parts) → meant span ≡ at
+pub bare-node : (kind : DefKind) (span nameSpan : SpanRead) (q p : List ℕ) (parts : Trees) (at : Span) → q ≡ p
+    → bareValue kind ≡ node [] (has omitKind parts) → meant span ≡ at
     → meant nameSpan ≡ nodeNameSpan parts at → bareDef kind span nameSpan q ≡ bareNode p parts at
 bare-node kind span nameSpan q p parts at e v x y = rw (e, v, x, y) refl
 
 -- a node defined at a path, and opened
-module _ {parent : PathAt} {c d : LowerCtx} {words bytes w₁ b₁ w b : List ℕ} {parts : Trees} {o : Opened} (kind : DefKind) (span nameSpan : SpanRead) (at : Span) (q : List ℕ) (path : List ℕ → List ℕ)
-    (made : Steps c d words bytes w₁ b₁ (define (bareDef kind span nameSpan q))) (labels : Opens d w₁ b₁ w b parts o) (valueIs : bareValue kind ≡ node [] (has omitKind parts)) (spanIs : meant span ≡ at)
+module _ {parent : PathAt} {c d : LowerCtx} {words bytes w₁ b₁ w b : List ℕ} {parts : Trees} {o : Opened} (kind : DefKind)
+    (span nameSpan : SpanRead) (at : Span) (q : List ℕ) (path : List ℕ → List ℕ)
+    (made : Steps c d words bytes w₁ b₁ (define (bareDef kind span nameSpan q))) (labels : Opens d w₁ b₁ w b parts o)
+    (valueIs : bareValue kind ≡ node [] (has omitKind parts)) (spanIs : meant span ≡ at)
     (nameSpanIs : meant nameSpan ≡ nodeNameSpan parts at)
-    (pathIs : (k : Context) (p : List ℕ) (s : State) → Represents (withPlace (record { at = parent; path = p }) k) c words bytes s → c .short ≡ false → q ≡ path p) where
+    (pathIs : (k : Context) (p : List ℕ) (s : State) → Represents (withPlace (record { at = parent; path = p }) k) c words bytes s
+    → c .short ≡ false → q ≡ path p) where
   defined : (k : Context) (p : List ℕ) (s : State) → Represents (withPlace (record { at = parent; path = p }) k) c words bytes s
       → Represents (withPlace (record { at = parent; path = p }) k) d w₁ b₁ (define (bareNode (path p) parts at) s)
   defined k p s r =
       by-test (c .short)
-      (λ z. stays-over (define (bareNode (path p) parts at) s) (made .stays) z (define-grows (bareNode (path p) parts at) .records s) (define-grows (bareNode (path p) parts at) .bytes s) r)
+      (λ z. stays-over (define (bareNode (path p) parts at) s) (made .stays) z (define-grows (bareNode (path p) parts at) .records s)
+      (define-grows (bareNode (path p) parts at) .bytes s) r)
       (λ z.
       subst (λ (x : Def). Represents (withPlace (record { at = parent; path = p }) k) d w₁ b₁ (define x s))
       (bare-node kind span nameSpan q (path p) parts at (pathIs k p s r z) valueIs spanIs nameSpanIs)
       (made .steps (withPlace (record { at = parent; path = p }) k) s r z))
 
   pub defined-opens : OpensAt parent c words bytes w b parts at path o
-  defined-opens = record { opens = λ k p s r. labels .opens (withPlace (record { at = parent; path = p }) k) (path p) at s (defined k p s r) }
+  defined-opens = record {
+    opens = λ k p s r. labels .opens (withPlace (record { at = parent; path = p }) k) (path p) at s
+        (defined k p s r);
+  }
 
 -- under the parent's path
 pub below-parent : {parent : PathAt} {c : LowerCtx} {words bytes : List ℕ} (name unit : List ℕ) (k : Context) (p : List ℕ) (s : State)
-    → Represents (withPlace (record { at = parent; path = p }) k) c words bytes s → c .short ≡ false → joined (pathIn (c .bytes) bytes parent) name unit ≡ joined p name unit
-below-parent {parent} name unit k p s r z = ap (λ (x : List ℕ). joined x name unit) (place-reads {k = k} {p = record { at = parent; path = p }} r z)
+    → Represents (withPlace (record { at = parent; path = p }) k) c words bytes s → c .short ≡ false
+    → joined (pathIn (c .bytes) bytes parent) name unit ≡ joined p name unit
+below-parent {parent} name unit k p s r z = ap (λ (x : List ℕ). joined x name unit)
+    (place-reads {k = k} {p = record { at = parent; path = p }} r z)

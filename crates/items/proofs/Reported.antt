@@ -6,16 +6,17 @@ use mathlib.Core.List.{List, [], _∷_, _++_, append-assoc, append-nil}
 use lib.ListN.{length-append}
 use native.Mathlib.Omega.{arith}
 use Rattle.making.specs.declared.ctx.LowerCtx.{LowerCtx}
-use Rattle.making.specs.declared.recs.Span.{Span as SpanRead}
-use Rattle.log.specs.Meaning.{Span, Def, Ext, Binding, Diag}
-use Rattle.making.specs.Recs.{meant, diagMade, noSpan}
-use Rattle.making.specs.State.{State, emit, diagsBytes}
-use Rattle.making.specs.Represents.{Steps}
-use Rattle.input.specs.Report.{report}
-use Rattle.post_checks.specs.Lowers.{Lowers}
-use Rattle.input.specs.NameRead.{nameRead, fullRead}
+use Rattle.log.specs.declared.parts.Span.{Span as SpanRead}
+use Rattle.log.specs.meaning.Contents.{Span, Def, Ext, Binding, Diag}
+use Rattle.making.specs.machine.Recs.{diagMade, noSpan}
+use Rattle.log.specs.machine.Parts.{meant}
+use Rattle.making.specs.meaning.State.{State, emit, diagsBytes}
+use Rattle.making.specs.machine.Represents.{Steps}
+use Rattle.input.specs.meaning.Report.{report}
+use Rattle.resolving.specs.machine.Lowers.{Lowers}
+use Rattle.input.specs.machine.NameRead.{nameRead, fullRead}
 use Rattle.input.specs.declared.name.FullName.{FullName}
-use Rattle.post_checks.proofs.Lowers.{emit-grows, steps-lower}
+use Rattle.resolving.proofs.Lowers.{emit-grows, steps-lower}
 
 -- states are equal by their parts
 pub same-states : {a a' : List Def} (e : List Ext) (n : List Binding) {g g' : List Diag} {r r' b b' : ℕ} → a ≡ a' → g ≡ g' → r ≡ r' → b ≡ b'
@@ -42,7 +43,8 @@ emit-then a b s =
 
 module _ {c d : LowerCtx} {words bytes w b : List ℕ} where
   -- a diagnostic with this span
-  pub reported : (code : ℕ) (text : List ℕ) {s : SpanRead} (span : Span) → meant s ≡ span → Steps c d words bytes w b (emit (diagMade code text s noSpan ∷ []))
+  pub reported : (code : ℕ) (text : List ℕ) {s : SpanRead} (span : Span) → meant s ≡ span
+      → Steps c d words bytes w b (emit (diagMade code text s noSpan ∷ []))
       → Lowers c d words bytes w b (emit (report code text span ∷ []))
   reported code text span e h = rw (sym e) (steps-lower (emit-grows _) h)
 
@@ -55,7 +57,8 @@ pub reports-none : {c : LowerCtx} {words bytes : List ℕ} → Lowers c c words 
 reports-none = record { lowers = λ k s h. rw (emit-none s) h }
 
 -- one after the other
-pub reports-then : {c d e : LowerCtx} {words bytes w b v u : List ℕ} (x y : List Diag) → Lowers c d words bytes w b (emit x) → Lowers d e w b v u (emit y)
+pub reports-then : {c d e : LowerCtx} {words bytes w b v u : List ℕ} (x y : List Diag) → Lowers c d words bytes w b (emit x)
+    → Lowers d e w b v u (emit y)
     → Lowers c e words bytes v u (emit (x ++ y))
 reports-then x y f g = record { lowers = λ k s h. rw (sym (emit-then x y s)) (g .lowers k (emit x s) (f .lowers k s h)) }
 
@@ -65,6 +68,7 @@ pub full-reports : (words text : List ℕ) (f : FullName) → f .addressed ≡ t
 unfolding fullRead
 full-reports words text f e = rw e refl
 
-pub name-reports : (words text : List ℕ) (f : FullName) → f .addressed ≡ false → nameRead words text (f .name) .reports ≡ fullRead words text f .reports
+pub name-reports : (words text : List ℕ) (f : FullName) → f .addressed ≡ false
+    → nameRead words text (f .name) .reports ≡ fullRead words text f .reports
 unfolding fullRead
 name-reports words text f e = rw e refl

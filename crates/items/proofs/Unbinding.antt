@@ -8,29 +8,30 @@ use borrow.Author.Tests.{eqb-true}
 use lib.Dec.{eqb}
 use lib.ListN.{length, take, length-append, length-map}
 use lib.Seq.{append-snoc, take-all}
-use Rattle.paths_numbers.specs.Text.{same}
-use Rattle.paths_numbers.specs.Path.{joined}
+use Rattle.paths_numbers.specs.meaning.Text.{same}
+use Rattle.paths_numbers.specs.meaning.Path.{joined, root}
 use Rattle.paths_numbers.proofs.Texts.{by-test, not-both, both}
 use Rattle.making.specs.declared.ctx.LowerCtx.{LowerCtx}
-use Rattle.log.specs.Meaning.{Def, Binding}
-use Rattle.log.specs.Record.{oneOf, nextOf, firstText, secondText, leads, logCount}
-use Rattle.log.specs.ReadBack.{chainFrom, chainOf, bindingAt, readBindings, readDefs}
+use Rattle.log.specs.meaning.Contents.{Def, Binding}
+use Rattle.log.specs.meaning.Record.{oneOf, nextOf, firstText, secondText, leads, logCount}
+use Rattle.log.specs.meaning.ReadBack.{chainFrom, chainOf, bindingAt, readBindings, readDefs}
 use Rattle.making.specs.declared.place.PathAt.{PathAt}
-use Rattle.paths_numbers.specs.Path.{root}
-use Rattle.making.specs.PathPlaces.{pathOf, stands, settled, pathIn}
-use Rattle.making.specs.State.{State, removeAt, unbindAt}
-use Rattle.making.specs.Represents.{Context, withPlace, Represents, lastNumber, Unlinks}
+use Rattle.making.specs.machine.PathPlaces.{pathOf, stands, settled, pathIn}
+use Rattle.making.specs.meaning.State.{State}
+use Rattle.making.specs.machine.Adding.{removeAt, unbindAt}
+use Rattle.making.specs.machine.Represents.{Context, withPlace, Represents, lastNumber, Unlinks}
 use Rattle.making.proofs.InHand.{represents-defs, represents-bindings, place-reads}
-use Rattle.queries.specs.Kind.{any}
-use Rattle.queries.specs.Live.{live}
-use Rattle.queries.specs.Labels.{hasLabelAt}
-use Rattle.queries.specs.Pass.{goesOn}
+use Rattle.paths_numbers.specs.meaning.Lists.{any}
+use Rattle.queries.specs.meaning.Live.{live}
+use Rattle.queries.specs.meaning.Labels.{hasLabelAt}
+use Rattle.queries.specs.machine.Pass.{goesOn}
 use Rattle.queries.proofs.Chain.{goes, stops, goes-left}
-use Rattle.items.specs.Unbind.{bindsLabelOf, without, unbind}
-use Rattle.items.specs.Unbinding.{baseOf, goesWith, passesAt, withBinds, Passes, takes, leaves, Stays, passed, ahead, BaseAt, at-named, at-given, at-bound, at-below, Walk, Unbinds}
+use Rattle.items.specs.meaning.Unbind.{bindsLabelOf, without, unbind}
+use Rattle.items.specs.machine.Unbinding.{baseOf, goesWith, passesAt, withBinds, Passes, takes, leaves, Stays, passed, ahead, BaseAt}
+use Rattle.items.specs.machine.Unbinding.{at-named, at-given, at-bound, at-below, Walk, Unbinds}
 use Rattle.items.specs.declared.unbind.Base.{Base}
 use Rattle.items.specs.declared.unbind.Base.the-variants.{Named, Given, Bound, BoundPath}
-use Rattle.post_checks.proofs.Leading.{last-snoc, any-append}
+use Rattle.resolving.proofs.Leading.{last-snoc, any-append}
 
 -- lists: two that are equal in two parts, the first of which are as long
 same-rest : {A : Type 0} (xs ys us vs : List A) → xs ++ ys ≡ us ++ vs → length xs ≡ length us → ys ≡ vs
@@ -78,16 +79,19 @@ without-append ds (x ∷ xs) ys =
     (λ q. rw q (without-append ds xs ys))
     (λ q. rw q (ap (λ (l : List Binding). x ∷ l) (without-append ds xs ys)))
 
-without-gone : (ds : List Def) (xs : List Binding) (x : Binding) → any (bindsLabelOf x) ds ≡ true → without ds (xs ++ x ∷ []) ≡ without ds xs
+without-gone : (ds : List Def) (xs : List Binding) (x : Binding) → any (bindsLabelOf x) ds ≡ true
+    → without ds (xs ++ x ∷ []) ≡ without ds xs
 unfolding without
 without-gone ds xs x h = without-append ds xs (x ∷ []) ∙ rw (h, append-nil) refl
 
-without-left : (ds : List Def) (xs : List Binding) (x : Binding) → any (bindsLabelOf x) ds ≡ false → without ds (xs ++ x ∷ []) ≡ without ds xs ++ x ∷ []
+without-left : (ds : List Def) (xs : List Binding) (x : Binding) → any (bindsLabelOf x) ds ≡ false
+    → without ds (xs ++ x ∷ []) ≡ without ds xs ++ x ∷ []
 unfolding without
 without-left ds xs x h = without-append ds xs (x ∷ []) ∙ rw h refl
 
 -- chains: the rest of one from a record on
-chain-rest : (f : ℕ) (w : List ℕ) (r : ℕ) (ns : List ℕ) (m : ℕ) (ms : List ℕ) → chainFrom f w r ≡ ns ++ m ∷ ms → chainFrom (f - length ns) w m ≡ m ∷ ms
+chain-rest : (f : ℕ) (w : List ℕ) (r : ℕ) (ns : List ℕ) (m : ℕ) (ms : List ℕ) → chainFrom f w r ≡ ns ++ m ∷ ms
+    → chainFrom (f - length ns) w m ≡ m ∷ ms
 unfolding chainFrom
 chain-rest zero w r [] m ms e = let z : _≡_ {A = ℕ} 0 1 = cc in absurd (omega arith)
 chain-rest zero w r (n ∷ ns) m ms e = let z : _≡_ {A = ℕ} 0 1 = cc in absurd (omega arith)
@@ -134,7 +138,8 @@ chain-over (suc f) v w r h e =
     (λ q. let t : leads w r ≡ false = rw h q in rw t refl)
 
 -- what is ahead of a walk is the same after a record before it was taken out of the chain
-chain-ahead : (left : ℕ) (v w : List ℕ) (next first : ℕ) (ns : List ℕ) → logCount w ≡ logCount v → left + length ns ≤ logCount v → chainOf w first ≡ ns ++ chainFrom left v next
+chain-ahead : (left : ℕ) (v w : List ℕ) (next first : ℕ) (ns : List ℕ) → logCount w ≡ logCount v → left + length ns ≤ logCount v
+    → chainOf w first ≡ ns ++ chainFrom left v next
     → chainFrom left w next ≡ chainFrom left v next
 unfolding chainOf
 chain-ahead left v w next first ns h fits e = go (chainFrom left v next) refl
@@ -170,7 +175,8 @@ module _ (w b : List ℕ) (stops : Bool) (label : List ℕ) (r x : ℕ) (ns ms :
       (λ q. ahead (rw q at h) s l)
 
   -- x has not the label
-  module _ (v c : List ℕ) (other : stops ≡ true → same (firstText w b x) label ≡ false) (agree : map (bindingAt v c) (ns ++ ms) ≡ map (bindingAt w b) (ns ++ ms)) where
+  module _ (v c : List ℕ) (other : stops ≡ true → same (firstText w b x) label ≡ false)
+      (agree : map (bindingAt v c) (ns ++ ms) ≡ map (bindingAt w b) (ns ++ ms)) where
     not-this : oneOf r (x ∷ ms) ≡ true → stops ≡ true → same (firstText w b r) label ≡ true → oneOf r ms ≡ true
     unfolding oneOf
     not-this h s l =
@@ -196,18 +202,22 @@ module _ (w b : List ℕ) (stops : Bool) (label : List ℕ) (r x : ℕ) (ns ms :
         ahead (not-this h s l) s (ap (λ (y : Binding). same (y .label) label) (same-binding (ahead h s l)) ∙ l)
 
 module _ {k : Context} {w b name unit : List ℕ} {stops : Bool} {label : List ℕ} {x : ℕ} {ns ms p : List ℕ} where
-  base-passed : {base : Base} → BaseAt k w b name unit stops label ns (x ∷ ms) p base → BaseAt k w b name unit stops label (ns ++ x ∷ []) ms p base
+  base-passed : {base : Base} → BaseAt k w b name unit stops label ns (x ∷ ms) p base
+      → BaseAt k w b name unit stops label (ns ++ x ∷ []) ms p base
   base-passed (at-named place parent k' e q) = at-named place parent k' e q
   base-passed (at-given q) = at-given q
   base-passed (at-bound r m q) = at-bound r (stays-passed w b stops label r x ns ms m) q
   base-passed (at-below r m q) = at-below r (stays-passed w b stops label r x ns ms m) q
 
-  module _ {v c : List ℕ} (other : stops ≡ true → same (firstText w b x) label ≡ false) (agree : map (bindingAt v c) (ns ++ ms) ≡ map (bindingAt w b) (ns ++ ms)) where
+  module _ {v c : List ℕ} (other : stops ≡ true → same (firstText w b x) label ≡ false)
+      (agree : map (bindingAt v c) (ns ++ ms) ≡ map (bindingAt w b) (ns ++ ms)) where
     base-taken : {base : Base} → BaseAt k w b name unit stops label ns (x ∷ ms) p base → BaseAt k v c name unit stops label ns ms p base
     base-taken (at-named place parent k' e q) = at-named place parent k' e q
     base-taken (at-given q) = at-given q
-    base-taken (at-bound r m q) = at-bound r (stays-taken w b stops label r x ns ms v c other agree m) (q ∙ same-path w b stops label r x ns ms v c other agree m)
-    base-taken (at-below r m q) = at-below r (stays-taken w b stops label r x ns ms v c other agree m) (q ∙ ap (λ (y : List ℕ). joined y name unit) (same-path w b stops label r x ns ms v c other agree m))
+    base-taken (at-bound r m q) = at-bound r (stays-taken w b stops label r x ns ms v c other agree m)
+        (q ∙ same-path w b stops label r x ns ms v c other agree m)
+    base-taken (at-below r m q) = at-below r (stays-taken w b stops label r x ns ms v c other agree m)
+        (q ∙ ap (λ (y : List ℕ). joined y name unit) (same-path w b stops label r x ns ms v c other agree m))
 
 -- what a walk that passes a record knows
 passes-on : (w b : List ℕ) (stops : Bool) (label : List ℕ) (r left : ℕ) → passesAt w b stops label r left ≡ true
@@ -219,7 +229,8 @@ passes-on w b stops label r left t =
     (λ g. absurd (not-both (rw g at t) refl))
 
 -- one turn of a walk
-module _ {base : Base} {name unit : List ℕ} {stops : Bool} {label : List ℕ} {k : Context} {s : State} {front : List Binding} {p : List ℕ} {d : LowerCtx} {w b : List ℕ} {previous r left : ℕ}
+module _ {base : Base} {name unit : List ℕ} {stops : Bool} {label : List ℕ} {k : Context} {s : State} {front : List Binding} {p : List ℕ}
+    {d : LowerCtx} {w b : List ℕ} {previous r left : ℕ}
     (o : Walk base name unit stops label k s front p d w b previous r left)
   where
     abbrev ds : List Def
@@ -232,7 +243,8 @@ module _ {base : Base} {name unit : List ℕ} {stops : Bool} {label : List ℕ} 
     all-are : map (bindingAt w b) (o .ns) ++ map (bindingAt w b) (chainFrom left w r) ≡ kept ++ o .todo
     unfolding readBindings
     all-are =
-        sym (map-append (bindingAt w b) (o .ns) (chainFrom left w r)) ∙ ap (map (bindingAt w b)) (sym (o .chain)) ∙ represents-bindings (o .now) (o .going)
+        sym (map-append (bindingAt w b) (o .ns) (chainFrom left w r)) ∙ ap (map (bindingAt w b)) (sym (o .chain))
+        ∙ represents-bindings (o .now) (o .going)
 
     as-many : length (map (bindingAt w b) (o .ns)) ≡ length kept
     as-many = length-map (o .ns) (bindingAt w b) ∙ o .sized
@@ -282,7 +294,8 @@ module _ {base : Base} {name unit : List ℕ} {stops : Bool} {label : List ℕ} 
       pub walk-leave : goesWith w b (d .defs .first) (baseOf (d .bytes) w b name unit base) r ≡ false → (next : ℕ) → next ≡ nextOf w r
           → Walk base name unit stops label k s front p d w b r next (left - 1)
       walk-leave f next e =
-          let still : front ++ without ds (o .done ++ x ∷ []) ≡ kept ++ x ∷ [] = rw (without-left ds (o .done) x (sym goes-as ∙ f), append-assoc) refl in
+          let still : front ++ without ds (o .done ++ x ∷ []) ≡ kept ++ x
+          ∷ [] = rw (without-left ds (o .done) x (sym goes-as ∙ f), append-assoc) refl in
           rw e
           (record {
             done = o .done ++ x ∷ [];
@@ -299,15 +312,19 @@ module _ {base : Base} {name unit : List ℕ} {stops : Bool} {label : List ℕ} 
             unlabelled = unlabelled-here;
           })
 
-      module _ {d₁ : LowerCtx} {w₁ b₁ : List ℕ} (u : Unlinks d d₁ w b w₁ b₁ previous r) (q : logCount w₁ ≡ logCount w) (next : ℕ) (e : next ≡ nextOf w r) where
+      module _ {d₁ : LowerCtx} {w₁ b₁ : List ℕ} (u : Unlinks d d₁ w b w₁ b₁ previous r) (q : logCount w₁ ≡ logCount w) (next : ℕ)
+          (e : next ≡ nextOf w r) where
         abbrev ahead-of : List Binding
         ahead-of = map (bindingAt w b) later
 
         removed : removeAt (length (o .ns)) (kept ++ o .todo) ≡ kept ++ ahead-of
-        removed = ap (λ (l : List Binding). removeAt (length (o .ns)) (kept ++ l)) todo-here ∙ removed-at kept x ahead-of (length (o .ns)) (o .sized)
+        removed = ap (λ (l : List Binding). removeAt (length (o .ns)) (kept ++ l)) todo-here
+            ∙ removed-at kept x ahead-of (length (o .ns)) (o .sized)
 
-        done-so : Represents k d₁ w₁ b₁ (unbindAt (length (o .ns)) (withBinds s (kept ++ o .todo))) × (d₁ .short ≡ false) × (chainOf w₁ (d₁ .binds .first) ≡ o .ns ++ later)
-        done-so = u .steps k (withBinds s (kept ++ o .todo)) (o .ns) later (o .now) (o .going) (o .chain ∙ ap (λ (l : List ℕ). o .ns ++ l) chain-here) (o .lastIs)
+        done-so : Represents k d₁ w₁ b₁ (unbindAt (length (o .ns)) (withBinds s (kept ++ o .todo))) × (d₁ .short ≡ false)
+            × (chainOf w₁ (d₁ .binds .first) ≡ o .ns ++ later)
+        done-so = u .steps k (withBinds s (kept ++ o .todo)) (o .ns) later (o .now) (o .going)
+            (o .chain ∙ ap (λ (l : List ℕ). o .ns ++ l) chain-here) (o .lastIs)
 
         now-so : Represents k d₁ w₁ b₁ (withBinds s (kept ++ ahead-of))
         unfolding unbindAt
@@ -316,7 +333,8 @@ module _ {base : Base} {name unit : List ℕ} {stops : Bool} {label : List ℕ} 
         ahead-so : chainFrom (left - 1) w₁ next ≡ later
         ahead-so =
             let same-ahead : later ≡ chainFrom (left - 1) w next = ap (chainFrom (left - 1) w) (sym e) in
-            chain-ahead (left - 1) w w₁ next (d₁ .binds .first) (o .ns) q (omega (arith, room-here, o .room)) (done-so .2 ∙ ap (λ (l : List ℕ). o .ns ++ l) same-ahead)
+            chain-ahead (left - 1) w w₁ next (d₁ .binds .first) (o .ns) q (omega (arith, room-here, o .room))
+            (done-so .2 ∙ ap (λ (l : List ℕ). o .ns ++ l) same-ahead)
             ∙ sym same-ahead
 
         agree-so : map (bindingAt w₁ b₁) (o .ns ++ later) ≡ map (bindingAt w b) (o .ns ++ later)
@@ -325,7 +343,8 @@ module _ {base : Base} {name unit : List ℕ} {stops : Bool} {label : List ℕ} 
             ap (map (bindingAt w₁ b₁)) (sym (done-so .2)) ∙ represents-bindings now-so (done-so .1)
             ∙ ap (λ (l : List Binding). l ++ ahead-of) (sym kept-is) ∙ sym (map-append (bindingAt w b) (o .ns) later)
 
-        pub walk-take : goesWith w b (d .defs .first) (baseOf (d .bytes) w b name unit base) r ≡ true → Walk base name unit stops label k s front p d₁ w₁ b₁ previous next (left - 1)
+        pub walk-take : goesWith w b (d .defs .first) (baseOf (d .bytes) w b name unit base) r ≡ true
+            → Walk base name unit stops label k s front p d₁ w₁ b₁ previous next (left - 1)
         walk-take f =
             let gone = without-gone ds (o .done) x (sym goes-as ∙ f) in
             record {
@@ -339,13 +358,16 @@ module _ {base : Base} {name unit : List ℕ} {stops : Bool} {label : List ℕ} 
               sized = rw gone (o .sized);
               lastIs = o .lastIs;
               room = rw q (omega (arith, room-here, o .room));
-              at = subst (λ (l : List ℕ). BaseAt k w₁ b₁ name unit stops label (o .ns) l p base) (sym ahead-so) (base-taken (passes-on w b stops label r left t .1) agree-so at-here);
+              at = subst (λ (l : List ℕ). BaseAt k w₁ b₁ name unit stops label (o .ns) l p base) (sym ahead-so)
+                  (base-taken (passes-on w b stops label r left t .1) agree-so at-here);
               unlabelled = unlabelled-here;
             }
 
       -- either way
-      pub walk-on : {d₁ : LowerCtx} {w₁ b₁ : List ℕ} {previous₁ : ℕ} → Passes d d₁ w b w₁ b₁ (baseOf (d .bytes) w b name unit base) previous r previous₁
-          → logCount w₁ ≡ logCount w → (next : ℕ) → next ≡ nextOf w r → Walk base name unit stops label k s front p d₁ w₁ b₁ previous₁ next (left - 1)
+      pub walk-on : {d₁ : LowerCtx} {w₁ b₁ : List ℕ} {previous₁ : ℕ}
+          → Passes d d₁ w b w₁ b₁ (baseOf (d .bytes) w b name unit base) previous r previous₁
+          → logCount w₁ ≡ logCount w → (next : ℕ) → next ≡ nextOf w r
+          → Walk base name unit stops label k s front p d₁ w₁ b₁ previous₁ next (left - 1)
       walk-on (takes f u) q next e = walk-take u q next e f
       walk-on (leaves f i j l) q next e = rw (i, j, l) (walk-leave f next e)
 
@@ -354,8 +376,10 @@ with-own : (s : State) → withBinds s (s .binds) ≡ s
 with-own s = refl
 
 -- the start of a walk, at the first binding
-pub walk-start : {base : Base} {name unit : List ℕ} {stops : Bool} {label : List ℕ} {k : Context} {s : State} {p : List ℕ} {c : LowerCtx} {words bytes : List ℕ} {left : ℕ}
-    → Represents k c words bytes s → c .short ≡ false → left ≡ logCount words → BaseAt k words bytes name unit stops label [] (chainOf words (c .binds .first)) p base
+pub walk-start : {base : Base} {name unit : List ℕ} {stops : Bool} {label : List ℕ} {k : Context} {s : State} {p : List ℕ} {c : LowerCtx}
+    {words bytes : List ℕ} {left : ℕ}
+    → Represents k c words bytes s → c .short ≡ false → left ≡ logCount words
+    → BaseAt k words bytes name unit stops label [] (chainOf words (c .binds .first)) p base
     → Walk base name unit stops label k s [] p c words bytes 0 (c .binds .first) left
 unfolding without chainOf lastNumber any
 walk-start {s = s} h n e a =
@@ -375,7 +399,8 @@ walk-start {s = s} h n e a =
     }
 
 -- and its end, behind the last
-module _ {base : Base} {name unit label : List ℕ} {k : Context} {s : State} {front : List Binding} {p : List ℕ} {d : LowerCtx} {w b : List ℕ} {previous r left : ℕ}
+module _ {base : Base} {name unit label : List ℕ} {k : Context} {s : State} {front : List Binding} {p : List ℕ} {d : LowerCtx}
+    {w b : List ℕ} {previous r left : ℕ}
     (o : Walk base name unit false label k s front p d w b previous r left) (t : passesAt w b false label r left ≡ false)
   where
     no-more : goesOn w r left ≡ false
@@ -385,14 +410,17 @@ module _ {base : Base} {name unit label : List ℕ} {k : Context} {s : State} {f
     nothing-left : o .todo ≡ []
     nothing-left = sym (todo-is o) ∙ ap (map (bindingAt w b)) (stops w r left no-more)
 
-    pub walk-ended : (rest : List Binding) → s .binds ≡ front ++ rest → Represents k d w b (withBinds s (front ++ without (live p (s .defs)) rest))
+    pub walk-ended : (rest : List Binding) → s .binds ≡ front ++ rest
+        → Represents k d w b (withBinds s (front ++ without (live p (s .defs)) rest))
     walk-ended rest e =
         let all : o .done ≡ rest = same-rest front (o .done) front rest (sym (o .split ∙ rw (nothing-left, append-nil) refl) ∙ e) refl in
         subst (λ (l : List Binding). Represents k d w b (withBinds s l)) (rw (nothing-left, append-nil, all) refl) (o .now)
 
 -- a walk along all bindings
-pub unbinds-all : {base : Base} {name unit label : List ℕ} {k : Context} {s : State} {p : List ℕ} {d : LowerCtx} {w b : List ℕ} {previous r left : ℕ}
-    → Walk base name unit false label k s [] p d w b previous r left → passesAt w b false label r left ≡ false → Represents k d w b (unbind p s)
+pub unbinds-all : {base : Base} {name unit label : List ℕ} {k : Context} {s : State} {p : List ℕ} {d : LowerCtx} {w b : List ℕ}
+    {previous r left : ℕ}
+    → Walk base name unit false label k s [] p d w b previous r left → passesAt w b false label r left ≡ false
+    → Represents k d w b (unbind p s)
 unfolding unbind
 unbinds-all {s = s} o t = walk-ended o t (s .binds) refl
 
@@ -411,8 +439,10 @@ unfolding pathOf settled
 root-read used bytes p t = by-test (stands used bytes p) (λ a. rw (a, t) refl) (λ a. rw (a, t) refl)
 
 -- whether a binding goes, by how its texts and the base are read
-pub goes-by : {t : Bool} {l q x : List ℕ} (used : ℕ) (words bytes name unit : List ℕ) (defs : ℕ) (base : Base) (r : ℕ) → t ≡ any (hasLabelAt l q) (live x (readDefs words bytes defs))
-    → l ≡ firstText words bytes r → q ≡ secondText words bytes r → x ≡ baseOf used words bytes name unit base → t ≡ goesWith words bytes defs (baseOf used words bytes name unit base) r
+pub goes-by : {t : Bool} {l q x : List ℕ} (used : ℕ) (words bytes name unit : List ℕ) (defs : ℕ) (base : Base) (r : ℕ)
+    → t ≡ any (hasLabelAt l q) (live x (readDefs words bytes defs))
+    → l ≡ firstText words bytes r → q ≡ secondText words bytes r → x ≡ baseOf used words bytes name unit base
+    → t ≡ goesWith words bytes defs (baseOf used words bytes name unit base) r
 unfolding goesWith bindingAt
 goes-by used words bytes name unit defs base r e a b c = e ∙ rw (a, b, c) refl
 
@@ -429,6 +459,7 @@ module _ (used : ℕ) (words bytes name unit : List ℕ) (base : Base) where
   unfolding baseOf
   base-binding r x i e = i ∙ sym (ap (baseOf used words bytes name unit) e)
 
-  pub base-below : (r : ℕ) (x : List ℕ) → x ≡ secondText words bytes r → base ≡ BoundPath r → joined x name unit ≡ baseOf used words bytes name unit base
+  pub base-below : (r : ℕ) (x : List ℕ) → x ≡ secondText words bytes r → base ≡ BoundPath r
+      → joined x name unit ≡ baseOf used words bytes name unit base
   unfolding baseOf
   base-below r x i e = ap (λ (y : List ℕ). joined y name unit) i ∙ sym (ap (baseOf used words bytes name unit) e)

@@ -4,27 +4,28 @@ ghost use mathlib.Core.Bool.{true};
 ghost use mathlib.Core.List.{List, [], _∷_};
 ghost use mathlib.Core.Option.{some};
 ghost use Prim.Native.Nat.{ℕ, _<_};
-ghost use Rattle.paths_numbers.specs.Path.{root, joined};
+ghost use Rattle.paths_numbers.specs.meaning.Path.{root, joined};
 ghost use Rattle.making.specs.declared.place.PathAt.{PathAt};
-ghost use Rattle.log.specs.Meaning.{node};
-ghost use Rattle.making.specs.Recs.{bareValue, targetMade};
-ghost use Rattle.making.specs.State.{emit};
-ghost use Rattle.input.specs.Tree.{has, omitKind};
-ghost use Rattle.input.specs.Report.{report};
-ghost use Rattle.input.specs.Name.{nameOrMacro, fullName, nodeNameSpan, labelled, labelsOf};
-ghost use Rattle.input.specs.Phandle.{lowerPhandle};
-ghost use Rattle.post_checks.specs.Resolve.{resolve};
-ghost use Rattle.items.specs.Lower.{byResolution, byTarget, placedAs, byName, placeOf};
-ghost use Rattle.input.specs.GoodName.{goodNamesIn};
-ghost use Rattle.input.specs.Input.{recordCount, childAt, spanAt, chainAt, recordAt};
-ghost use Rattle.input.specs.Linked.{Linked, At};
-ghost use Rattle.post_checks.specs.Lowers.{Lowers};
-ghost use Rattle.input.specs.NameRead.{nameText, FullNameRead};
-ghost use Rattle.items.specs.Labelled.{LabelsAt};
-ghost use Rattle.items.specs.Opened.{Opens, OpensAt};
-ghost use Rattle.items.specs.NodePlaced.{Places, PlacesIn, DefinesLeading, leadsOn};
-ghost use Rattle.items.specs.NodeLowered.{Settles};
-ghost use Rattle.input.specs.PhandleRead.{labelAt, pathAt, phandleRead};
+ghost use Rattle.log.specs.meaning.Contents.{node};
+ghost use Rattle.making.specs.machine.Recs.{bareValue};
+ghost use Rattle.log.specs.machine.Parts.{targetMade};
+ghost use Rattle.making.specs.meaning.State.{emit};
+ghost use Rattle.input.specs.meaning.Tree.{has, omitKind};
+ghost use Rattle.input.specs.meaning.Report.{report};
+ghost use Rattle.input.specs.meaning.Name.{nameOrMacro, fullName, nodeNameSpan, labelled, labelsOf};
+ghost use Rattle.input.specs.meaning.Phandle.{lowerPhandle};
+ghost use Rattle.resolving.specs.meaning.Resolve.{resolve};
+ghost use Rattle.items.specs.meaning.Lower.{byResolution, byTarget, placedAs, byName, placeOf};
+ghost use Rattle.input.specs.meaning.GoodName.{goodNamesIn};
+ghost use Rattle.input.specs.meaning.Input.{recordCount, childAt, spanAt, chainAt, recordAt};
+ghost use Rattle.input.specs.machine.Linked.{Linked, At};
+ghost use Rattle.resolving.specs.machine.Lowers.{Lowers};
+ghost use Rattle.input.specs.machine.NameRead.{nameText, FullNameRead};
+ghost use Rattle.items.specs.machine.Labelled.{LabelsAt};
+ghost use Rattle.items.specs.machine.Opened.{Opens, OpensAt};
+ghost use Rattle.items.specs.machine.NodePlaced.{Places, PlacesIn, DefinesLeading, leadsOn};
+ghost use Rattle.items.specs.machine.NodeLowered.{Settles};
+ghost use Rattle.input.specs.machine.PhandleRead.{labelAt, pathAt, phandleRead};
 use crate::dt_property::is_top;
 use crate::report::emit_name;
 use crate::report::undefined_macro;
@@ -51,21 +52,18 @@ use input::record::next_at;
 use input::record::no_text;
 use input::record::span_at;
 use input::record::text_at;
+use log::parts::Span;
+use log::parts::TargetKind;
 use making::ctx::LowerCtx;
 use making::place::PathAt;
+use making::place::second_place;
 use making::recs::DefKind;
-use making::recs::Span;
-use making::recs::TargetKind;
-use post_checks::resolve::Resolved;
-use post_checks::resolve::binding_path;
-use post_checks::resolve::report_unresolved;
-use post_checks::resolve::resolve_phandle;
+use paths_numbers::codes::ROOT_INSIDE;
+use paths_numbers::codes::SUBNODE_OUTSIDE;
 use queries::mir::sets_overlay_in;
-
-// The codes of a subnode outside a node, and of a root inside one.
-const OUTSIDE_NODE: u32 = 5;
-
-const ROOT_INSIDE: u32 = 6;
+use resolving::resolve::Resolved;
+use resolving::resolve::report_unresolved;
+use resolving::resolve::resolve_phandle;
 
 // A label of a node whose path stands at a place: added to the node's definition and bound.
 fn lower_label(
@@ -79,7 +77,9 @@ fn lower_label(
 ) -> LowerCtx
     requires { ⌜ Linked (now words) ⌝ }
     requires { ⌜ r < recordCount (now words) ⌝ }
-    ensures { λ d. ⌜ LabelsAt place ctx d (now (out .entry)) (now (bytes .entry)) (now (out .exit)) (now (bytes .exit)) (λ (p : List ℕ). labelled p (recordAt (now (words .entry)) (now (text .entry)) r) (nameOrMacro (chainAt (now (words .entry)) (now (text .entry)) (childAt (now (words .entry)) r)))) ⌝ }
+    ensures { λ d. ⌜ LabelsAt place ctx d (now (out .entry)) (now (bytes .entry)) (now (out .exit)) (now (bytes .exit))
+        (λ (p : List ℕ). labelled p (recordAt (now (words .entry)) (now (text .entry)) r)
+        (nameOrMacro (chainAt (now (words .entry)) (now (text .entry)) (childAt (now (words .entry)) r)))) ⌝ }
 {
     match name_or_macro(words, child_at(words, r)) {
         NameOrMacro::Name(n) => {
@@ -105,7 +105,8 @@ pub fn collect_labels(
 ) -> LowerCtx
     requires { ⌜ Linked (now words) ⌝ }
     requires { ⌜ At (now words) parts ⌝ }
-    ensures { λ d. ⌜ LabelsAt place ctx d (now (out .entry)) (now (bytes .entry)) (now (out .exit)) (now (bytes .exit)) (λ (p : List ℕ). labelsOf p (chainAt (now (words .entry)) (now (text .entry)) parts)) ⌝ }
+    ensures { λ d. ⌜ LabelsAt place ctx d (now (out .entry)) (now (bytes .entry)) (now (out .exit)) (now (bytes .exit))
+        (λ (p : List ℕ). labelsOf p (chainAt (now (words .entry)) (now (text .entry)) parts)) ⌝ }
 {
     let mut state = ctx;
     let mut r = parts;
@@ -135,7 +136,8 @@ fn open_node(
 ) -> Opened
     requires { ⌜ Linked (now words) ⌝ }
     requires { ⌜ At (now words) parts ⌝ }
-    ensures { λ o. ⌜ Opens made (now (out .entry)) (now (bytes .entry)) (now (out .exit)) (now (bytes .exit)) (chainAt (now (words .entry)) (now (text .entry)) parts) o ⌝ }
+    ensures { λ o. ⌜ Opens made (now (out .entry)) (now (bytes .entry)) (now (out .exit)) (now (bytes .exit))
+        (chainAt (now (words .entry)) (now (text .entry)) parts) o ⌝ }
 {
     let place = made.newest_path(out);
     let labelled = collect_labels(words, text, parts, place, out, bytes, made);
@@ -170,7 +172,10 @@ fn define_below(
 ) -> Opened
     requires { ⌜ Linked (now words) ⌝ }
     requires { ⌜ r < recordCount (now words) ⌝ }
-    ensures { λ o. ⌜ OpensAt parent ctx (now (out .entry)) (now (bytes .entry)) (now (out .exit)) (now (bytes .exit)) (chainAt (now (words .entry)) (now (text .entry)) (childAt (now (words .entry)) r)) (spanAt (now (words .entry)) r) (λ (p : List ℕ). joined p (nameText (now (words .entry)) (now (text .entry)) (full .name)) (nameText (now (words .entry)) (now (text .entry)) (full .unit))) o ⌝ }
+    ensures { λ o. ⌜ OpensAt parent ctx (now (out .entry)) (now (bytes .entry)) (now (out .exit)) (now (bytes .exit))
+        (chainAt (now (words .entry)) (now (text .entry)) (childAt (now (words .entry)) r)) (spanAt (now (words .entry)) r)
+        (λ (p : List ℕ). joined p (nameText (now (words .entry)) (now (text .entry)) (full .name))
+        (nameText (now (words .entry)) (now (text .entry)) (full .unit))) o ⌝ }
 {
     let parts = child_at(words, r);
     let kind = node_kind(words, parts);
@@ -196,7 +201,9 @@ fn define_there(
 ) -> Opened
     requires { ⌜ Linked (now words) ⌝ }
     requires { ⌜ r < recordCount (now words) ⌝ }
-    ensures { λ o. ⌜ ((parent : PathAt) → OpensAt parent ctx (now (out .entry)) (now (bytes .entry)) (now (out .exit)) (now (bytes .exit)) (chainAt (now (words .entry)) (now (text .entry)) (childAt (now (words .entry)) r)) (spanAt (now (words .entry)) r) (λ (p : List ℕ). now (path .entry)) o) ⌝ }
+    ensures { λ o. ⌜ ((parent : PathAt) → OpensAt parent ctx (now (out .entry)) (now (bytes .entry)) (now (out .exit)) (now (bytes .exit))
+        (chainAt (now (words .entry)) (now (text .entry)) (childAt (now (words .entry)) r)) (spanAt (now (words .entry)) r)
+        (λ (p : List ℕ). now (path .entry)) o) ⌝ }
 {
     let parts = child_at(words, r);
     let kind = node_kind(words, parts);
@@ -234,7 +241,12 @@ pub fn place_by_name(
     requires { ⌜ Linked (now words) ⌝ }
     requires { ⌜ r < recordCount (now words) ⌝ }
     requires { ⌜ goodNamesIn (chainAt (now words) (now text) (childAt (now words) r)) ≡ true ⌝ }
-    ensures { λ v. ⌜ Places parent ctx (now (out .entry)) (now (bytes .entry)) (now (out .exit)) (now (bytes .exit)) (now (words .entry)) (now (text .entry)) (chainAt (now (words .entry)) (now (text .entry)) (childAt (now (words .entry)) r)) (spanAt (now (words .entry)) r) (λ p. byName p (chainAt (now (words .entry)) (now (text .entry)) (childAt (now (words .entry)) r)) (nodeNameSpan (chainAt (now (words .entry)) (now (text .entry)) (childAt (now (words .entry)) r)) (spanAt (now (words .entry)) r)) (fullName (chainAt (now (words .entry)) (now (text .entry)) (childAt (now (words .entry)) r)) .reports) (fullName (chainAt (now (words .entry)) (now (text .entry)) (childAt (now (words .entry)) r)) .result)) v ⌝ }
+    ensures { λ v. ⌜ Places parent ctx (now (out .entry)) (now (bytes .entry)) (now (out .exit)) (now (bytes .exit)) (now (words .entry))
+        (now (text .entry)) (chainAt (now (words .entry)) (now (text .entry)) (childAt (now (words .entry)) r))
+        (spanAt (now (words .entry)) r) (λ p. byName p (chainAt (now (words .entry)) (now (text .entry)) (childAt (now (words .entry)) r))
+        (nodeNameSpan (chainAt (now (words .entry)) (now (text .entry)) (childAt (now (words .entry)) r)) (spanAt (now (words .entry)) r))
+        (fullName (chainAt (now (words .entry)) (now (text .entry)) (childAt (now (words .entry)) r)) .reports)
+        (fullName (chainAt (now (words .entry)) (now (text .entry)) (childAt (now (words .entry)) r)) .result)) v ⌝ }
 {
     let parts = child_at(words, r);
     let full = full_name(words, parts);
@@ -266,12 +278,17 @@ fn place_below(
     requires { ⌜ r < recordCount (now words) ⌝ }
     requires { ⌜ FullNameRead (now words) (childAt (now words) r) full ⌝ }
     requires { ⌜ goodNamesIn (chainAt (now words) (now text) (childAt (now words) r)) ≡ true ⌝ }
-    ensures { λ v. ⌜ ((n : List ℕ) → fullName (chainAt (now (words .entry)) (now (text .entry)) (childAt (now (words .entry)) r)) .result ≡ some n → Places parent ctx (now (out .entry)) (now (bytes .entry)) (now (out .exit)) (now (bytes .exit)) (now (words .entry)) (now (text .entry)) (chainAt (now (words .entry)) (now (text .entry)) (childAt (now (words .entry)) r)) (spanAt (now (words .entry)) r) (λ p. placedAs p n (nodeNameSpan (chainAt (now (words .entry)) (now (text .entry)) (childAt (now (words .entry)) r)) (spanAt (now (words .entry)) r)) []) v) ⌝ }
+    ensures { λ v. ⌜ ((n : List ℕ) → fullName (chainAt (now (words .entry)) (now (text .entry))
+        (childAt (now (words .entry)) r)) .result ≡ some n → Places parent ctx (now (out .entry)) (now (bytes .entry)) (now (out .exit))
+        (now (bytes .exit)) (now (words .entry)) (now (text .entry))
+        (chainAt (now (words .entry)) (now (text .entry)) (childAt (now (words .entry)) r)) (spanAt (now (words .entry)) r)
+        (λ p. placedAs p n (nodeNameSpan (chainAt (now (words .entry)) (now (text .entry)) (childAt (now (words .entry)) r))
+        (spanAt (now (words .entry)) r)) []) v) ⌝ }
 {
     if is_top(parent) {
         return PlacedNode {
             node: NodePlace::Nowhere,
-            ctx: refuse_node(words, r, OUTSIDE_NODE, out, bytes, ctx),
+            ctx: refuse_node(words, r, SUBNODE_OUTSIDE, out, bytes, ctx),
         };
     }
     let node = define_below(words, text, r, full, parent, out, bytes, ctx);
@@ -295,7 +312,10 @@ fn place_root(
 ) -> PlacedNode
     requires { ⌜ Linked (now words) ⌝ }
     requires { ⌜ r < recordCount (now words) ⌝ }
-    ensures { λ v. ⌜ Places parent ctx (now (out .entry)) (now (bytes .entry)) (now (out .exit)) (now (bytes .exit)) (now (words .entry)) (now (text .entry)) (chainAt (now (words .entry)) (now (text .entry)) (childAt (now (words .entry)) r)) (spanAt (now (words .entry)) r) (λ p. placedAs p root (nodeNameSpan (chainAt (now (words .entry)) (now (text .entry)) (childAt (now (words .entry)) r)) (spanAt (now (words .entry)) r)) []) v ⌝ }
+    ensures { λ v. ⌜ Places parent ctx (now (out .entry)) (now (bytes .entry)) (now (out .exit)) (now (bytes .exit)) (now (words .entry))
+        (now (text .entry)) (chainAt (now (words .entry)) (now (text .entry)) (childAt (now (words .entry)) r))
+        (spanAt (now (words .entry)) r) (λ p. placedAs p root (nodeNameSpan
+        (chainAt (now (words .entry)) (now (text .entry)) (childAt (now (words .entry)) r)) (spanAt (now (words .entry)) r)) []) v ⌝ }
 {
     if !is_top(parent) {
         return PlacedNode {
@@ -324,7 +344,9 @@ fn refuse_node(
 ) -> LowerCtx
     requires { ⌜ Linked (now words) ⌝ }
     requires { ⌜ r < recordCount (now words) ⌝ }
-    ensures { λ d. ⌜ ((text : List ℕ) → Lowers ctx d (now (out .entry)) (now (bytes .entry)) (now (out .exit)) (now (bytes .exit)) (emit (report code [] (nodeNameSpan (chainAt (now (words .entry)) text (childAt (now (words .entry)) r)) (spanAt (now (words .entry)) r)) ∷ []))) ⌝ }
+    ensures { λ d. ⌜ ((text : List ℕ) → Lowers ctx d (now (out .entry)) (now (bytes .entry)) (now (out .exit)) (now (bytes .exit))
+        (emit (report code [] (nodeNameSpan (chainAt (now (words .entry)) text (childAt (now (words .entry)) r))
+        (spanAt (now (words .entry)) r)) ∷ []))) ⌝ }
 {
     let none: [u8; 0] = [];
     let span = node_name_span(words, child_at(words, r), span_at(words, r));
@@ -344,7 +366,10 @@ pub fn settle_aside(
     body: LowerCtx,
     outer: LowerCtx,
 ) -> LowerCtx
-    ensures { λ d. ⌜ Settles body d outer keeps (now (out .entry)) (now (bytes .entry)) (now (out .exit)) (now (bytes .exit)) (targetMade kind (labelAt (now (words .entry)) (now (text .entry)) reference) (pathAt (now (words .entry)) (now (text .entry)) reference)) (spanAt (now (words .entry)) r) (spanAt (now (words .entry)) reference) ⌝ }
+    ensures { λ d. ⌜ Settles body d outer keeps (now (out .entry)) (now (bytes .entry)) (now (out .exit)) (now (bytes .exit))
+        (targetMade kind (labelAt (now (words .entry)) (now (text .entry)) reference)
+        (pathAt (now (words .entry)) (now (text .entry)) reference)) (spanAt (now (words .entry)) r)
+        (spanAt (now (words .entry)) reference) ⌝ }
 {
     if keeps {
         let span = span_at(words, r);
@@ -369,7 +394,10 @@ pub fn place_node(
     requires { ⌜ Linked (now words) ⌝ }
     requires { ⌜ r < recordCount (now words) ⌝ }
     requires { ⌜ goodNamesIn (chainAt (now words) (now text) (childAt (now words) r)) ≡ true ⌝ }
-    ensures { λ v. ⌜ PlacesIn parent ctx (now (out .entry)) (now (bytes .entry)) (now (out .exit)) (now (bytes .exit)) (now (words .entry)) (now (text .entry)) (chainAt (now (words .entry)) (now (text .entry)) (childAt (now (words .entry)) r)) (spanAt (now (words .entry)) r) (λ p s. placeOf p (chainAt (now (words .entry)) (now (text .entry)) (childAt (now (words .entry)) r)) (spanAt (now (words .entry)) r) s) v ⌝ }
+    ensures { λ v. ⌜ PlacesIn parent ctx (now (out .entry)) (now (bytes .entry)) (now (out .exit)) (now (bytes .exit)) (now (words .entry))
+        (now (text .entry)) (chainAt (now (words .entry)) (now (text .entry)) (childAt (now (words .entry)) r))
+        (spanAt (now (words .entry)) r) (λ p s. placeOf p (chainAt (now (words .entry)) (now (text .entry))
+        (childAt (now (words .entry)) r)) (spanAt (now (words .entry)) r) s) v ⌝ }
 {
     let reference = first_of(words, child_at(words, r), REFERENCE);
     if reference == 0 {
@@ -391,7 +419,11 @@ fn place_by_reference(
     requires { ⌜ Linked (now words) ⌝ }
     requires { ⌜ r < recordCount (now words) ⌝ }
     requires { ⌜ reference < recordCount (now words) ⌝ }
-    ensures { λ v. ⌜ ((parent : PathAt) → PlacesIn parent ctx (now (out .entry)) (now (bytes .entry)) (now (out .exit)) (now (bytes .exit)) (now (words .entry)) (now (text .entry)) (chainAt (now (words .entry)) (now (text .entry)) (childAt (now (words .entry)) r)) (spanAt (now (words .entry)) r) (λ p s. byTarget (recordAt (now (words .entry)) (now (text .entry)) reference) (lowerPhandle (recordAt (now (words .entry)) (now (text .entry)) reference) .reports) (lowerPhandle (recordAt (now (words .entry)) (now (text .entry)) reference) .result) s) v) ⌝ }
+    ensures { λ v. ⌜ ((parent : PathAt) → PlacesIn parent ctx (now (out .entry)) (now (bytes .entry)) (now (out .exit)) (now (bytes .exit))
+        (now (words .entry)) (now (text .entry)) (chainAt (now (words .entry)) (now (text .entry)) (childAt (now (words .entry)) r))
+        (spanAt (now (words .entry)) r) (λ p s. byTarget (recordAt (now (words .entry)) (now (text .entry)) reference)
+        (lowerPhandle (recordAt (now (words .entry)) (now (text .entry)) reference) .reports)
+        (lowerPhandle (recordAt (now (words .entry)) (now (text .entry)) reference) .result) s) v) ⌝ }
 {
     let read = lower_phandle(words, text, reference);
     match read {
@@ -435,8 +467,15 @@ fn place_resolved(
 ) -> PlacedNode
     requires { ⌜ Linked (now words) ⌝ }
     requires { ⌜ r < recordCount (now words) ⌝ }
-    requires { ⌜ phandleRead (now words) (now text) reference read .result ≡ some (targetMade kind (labelAt (now words) (now text) reference) (pathAt (now words) (now text) reference)) ⌝ }
-    ensures { λ v. ⌜ ((parent : PathAt) → PlacesIn parent ctx (now (out .entry)) (now (bytes .entry)) (now (out .exit)) (now (bytes .exit)) (now (words .entry)) (now (text .entry)) (chainAt (now (words .entry)) (now (text .entry)) (childAt (now (words .entry)) r)) (spanAt (now (words .entry)) r) (λ p s. byResolution (recordAt (now (words .entry)) (now (text .entry)) reference) (targetMade kind (labelAt (now (words .entry)) (now (text .entry)) reference) (pathAt (now (words .entry)) (now (text .entry)) reference)) (s .defs) (resolve (targetMade kind (labelAt (now (words .entry)) (now (text .entry)) reference) (pathAt (now (words .entry)) (now (text .entry)) reference)) (s .binds) (s .defs))) v) ⌝ }
+    requires { ⌜ phandleRead (now words) (now text) reference read .result ≡ some
+        (targetMade kind (labelAt (now words) (now text) reference) (pathAt (now words) (now text) reference)) ⌝ }
+    ensures { λ v. ⌜ ((parent : PathAt) → PlacesIn parent ctx (now (out .entry)) (now (bytes .entry)) (now (out .exit)) (now (bytes .exit))
+        (now (words .entry)) (now (text .entry)) (chainAt (now (words .entry)) (now (text .entry)) (childAt (now (words .entry)) r))
+        (spanAt (now (words .entry)) r) (λ p s. byResolution (recordAt (now (words .entry)) (now (text .entry)) reference)
+        (targetMade kind (labelAt (now (words .entry)) (now (text .entry)) reference)
+        (pathAt (now (words .entry)) (now (text .entry)) reference)) (s .defs)
+        (resolve (targetMade kind (labelAt (now (words .entry)) (now (text .entry)) reference)
+        (pathAt (now (words .entry)) (now (text .entry)) reference)) (s .binds) (s .defs))) v) ⌝ }
 {
     let binds = ctx.binds.first;
     let defs = ctx.defs.first;
@@ -489,7 +528,10 @@ fn define_leading(
 ) -> LowerCtx
     requires { ⌜ Linked (now words) ⌝ }
     requires { ⌜ r < recordCount (now words) ⌝ }
-    ensures { λ d. ⌜ DefinesLeading leads (labelAt (now (words .entry)) (now (text .entry)) reference) (pathAt (now (words .entry)) (now (text .entry)) reference) ctx d (now (out .entry)) (now (bytes .entry)) (now (out .exit)) (now (bytes .exit)) (chainAt (now (words .entry)) (now (text .entry)) (childAt (now (words .entry)) r)) (spanAt (now (words .entry)) r) ⌝ }
+    ensures { λ d. ⌜ DefinesLeading leads (labelAt (now (words .entry)) (now (text .entry)) reference)
+        (pathAt (now (words .entry)) (now (text .entry)) reference) ctx d (now (out .entry)) (now (bytes .entry)) (now (out .exit))
+        (now (bytes .exit)) (chainAt (now (words .entry)) (now (text .entry)) (childAt (now (words .entry)) r))
+        (spanAt (now (words .entry)) r) ⌝ }
 {
     let parts = child_at(words, r);
     let kind = node_kind(words, parts);
@@ -498,11 +540,11 @@ fn define_leading(
     let path = phandle_path_at(words, text, reference);
     match leads {
         Resolved::Bound(b) => {
-            let place = binding_path(out, b);
+            let place = second_place(out, b);
             ctx.define_at(out, bytes, kind, span, name_span, place)
         }
         Resolved::BoundPath(b) => {
-            let place = binding_path(out, b);
+            let place = second_place(out, b);
             let unit = no_text(path);
             ctx.define(out, bytes, kind, span, name_span, place, path, unit)
         }

@@ -4,22 +4,22 @@
 ghost use mathlib.Core.Path.{_≡_};
 ghost use mathlib.Core.Bool.{true, cond};
 ghost use mathlib.Core.List.{[]};
-ghost use Rattle.paths_numbers.specs.Cell.{bitsOf};
+ghost use Rattle.paths_numbers.specs.meaning.Cell.{bitsOf};
 ghost use Rattle.paths_numbers.specs.declared.dt_property.SizeRead.the-variants.{Size};
-ghost use Rattle.log.specs.Meaning.{number, reference, cellList};
-ghost use Rattle.making.specs.Recs.{targetMade};
-ghost use Rattle.making.specs.State.{define};
-ghost use Rattle.input.specs.Report.{one};
-ghost use Rattle.input.specs.Property.{lowerCell, lowerCells, sizedList, lowerValue, lowerValues};
-ghost use Rattle.items.specs.Lower.{lowerProperty};
-ghost use Rattle.input.specs.Input.{childAt, secondAt, spanAt, chainAt, recordAt};
-ghost use Rattle.input.specs.GoodName.{goodNamesIn};
-ghost use Rattle.input.specs.Linked.{Linked, At, RecordIn, ChainIn};
-ghost use Rattle.input.specs.PhandleRead.{labelAt, pathAt};
-ghost use Rattle.input.specs.ValueRead.{plainMade};
-ghost use Rattle.post_checks.specs.Lowers.{LowersAt};
-ghost use Rattle.items.specs.Filled.{FillsProperty, FillsCells};
-ghost use Rattle.items.specs.PropertyMade.{isTop, propertyAt};
+ghost use Rattle.log.specs.meaning.Contents.{number, reference, cellList};
+ghost use Rattle.log.specs.machine.Parts.{targetMade};
+ghost use Rattle.making.specs.meaning.State.{define};
+ghost use Rattle.input.specs.meaning.Report.{one};
+ghost use Rattle.input.specs.meaning.Property.{lowerCell, lowerCells, sizedList, lowerValue, lowerValues};
+ghost use Rattle.items.specs.meaning.Lower.{lowerProperty};
+ghost use Rattle.input.specs.meaning.Input.{childAt, secondAt, spanAt, chainAt, recordAt};
+ghost use Rattle.input.specs.meaning.GoodName.{goodNamesIn};
+ghost use Rattle.input.specs.machine.Linked.{Linked, At, RecordIn, ChainIn};
+ghost use Rattle.input.specs.machine.PhandleRead.{labelAt, pathAt};
+ghost use Rattle.input.specs.machine.ValueRead.{plainMade};
+ghost use Rattle.resolving.specs.machine.Lowers.{LowersAt};
+ghost use Rattle.items.specs.machine.Filled.{FillsProperty, FillsCells};
+ghost use Rattle.items.specs.machine.PropertyMade.{isTop, propertyAt};
 use crate::report::emit_code;
 use crate::report::emit_name;
 use crate::report::emit_report;
@@ -40,14 +40,12 @@ use input::value_read::PlainValue;
 use input::value_read::ValueRead;
 use input::value_read::read_cell;
 use input::value_read::read_value;
+use log::parts::TargetKind;
 use making::ctx::LowerCtx;
 use making::place::PathAt;
 use making::recs::DefKind;
-use making::recs::TargetKind;
+use paths_numbers::codes::PROPERTY_OUTSIDE;
 use paths_numbers::dt_property::BitsSize;
-
-// The code of a property outside a node.
-const OUTSIDE_NODE: u32 = 7;
 
 // Lowers a property under a path. A state that ran short stays as it is.
 pub fn lower_dt_property(
@@ -55,21 +53,23 @@ pub fn lower_dt_property(
     text: &[u8],
     r: u32,
     parent: PathAt,
-    level: u32,
+    nesting: u32,
     out: &mut [u32],
     bytes: &mut [u8],
     ctx: LowerCtx,
 ) -> LowerCtx
     requires { ⌜ Linked (now words) ⌝ }
-    requires { ⌜ RecordIn (now words) (now text) r level ⌝ }
+    requires { ⌜ RecordIn (now words) (now text) r nesting ⌝ }
     requires { ⌜ goodNamesIn (chainAt (now words) (now text) (childAt (now words) r)) ≡ true ⌝ }
-    ensures { λ d. ⌜ LowersAt parent ctx d (now (out .entry)) (now (bytes .entry)) (now (out .exit)) (now (bytes .exit)) (λ p s. lowerProperty p (chainAt (now (words .entry)) (now (text .entry)) (childAt (now (words .entry)) r)) (chainAt (now (words .entry)) (now (text .entry)) (secondAt (now (words .entry)) r)) (spanAt (now (words .entry)) r) s) ⌝ }
+    ensures { λ d. ⌜ LowersAt parent ctx d (now (out .entry)) (now (bytes .entry)) (now (out .exit)) (now (bytes .exit))
+        (λ p s. lowerProperty p (chainAt (now (words .entry)) (now (text .entry)) (childAt (now (words .entry)) r))
+        (chainAt (now (words .entry)) (now (text .entry)) (secondAt (now (words .entry)) r)) (spanAt (now (words .entry)) r) s) ⌝ }
 {
     if ctx.short {
         return ctx;
     }
     if is_top(parent) {
-        return emit_code(words, OUTSIDE_NODE, r, out, bytes, ctx);
+        return emit_code(words, PROPERTY_OUTSIDE, r, out, bytes, ctx);
     }
     let name = full_name(words, child_at(words, r));
     let keep = is_named(name);
@@ -79,7 +79,7 @@ pub fn lower_dt_property(
         text,
         second_at(words, r),
         keep,
-        level - 1,
+        nesting - 1,
         out,
         bytes,
         made,
@@ -111,7 +111,8 @@ fn define_property(
 ) -> LowerCtx
     requires { ⌜ Linked (now words) ⌝ }
     requires { ⌜ At (now words) (childAt (now words) r) ⌝ }
-    ensures { λ d. ⌜ LowersAt parent ctx d (now (out .entry)) (now (bytes .entry)) (now (out .exit)) (now (bytes .exit)) (λ p s. cond keep (define (propertyAt (now (words .entry)) (now (text .entry)) r f p) s) s) ⌝ }
+    ensures { λ d. ⌜ LowersAt parent ctx d (now (out .entry)) (now (bytes .entry)) (now (out .exit)) (now (bytes .exit))
+        (λ p s. cond keep (define (propertyAt (now (words .entry)) (now (text .entry)) r f p) s) s) ⌝ }
 {
     if !keep {
         return ctx;
@@ -138,19 +139,20 @@ fn lower_prop_values(
     text: &[u8],
     first: u32,
     keep: bool,
-    level: u32,
+    nesting: u32,
     out: &mut [u32],
     bytes: &mut [u8],
     ctx: LowerCtx,
 ) -> LowerCtx
     requires { ⌜ Linked (now words) ⌝ }
-    requires { ⌜ ChainIn (now words) (now text) first level ⌝ }
-    ensures { λ d. ⌜ FillsProperty keep ctx d (now (out .entry)) (now (bytes .entry)) (now (out .exit)) (now (bytes .exit)) (lowerValues (chainAt (now (words .entry)) (now (text .entry)) first)) ⌝ }
+    requires { ⌜ ChainIn (now words) (now text) first nesting ⌝ }
+    ensures { λ d. ⌜ FillsProperty keep ctx d (now (out .entry)) (now (bytes .entry)) (now (out .exit)) (now (bytes .exit))
+        (lowerValues (chainAt (now (words .entry)) (now (text .entry)) first)) ⌝ }
 {
     let mut r = first;
     let mut next = ctx;
     while r != 0 {
-        next = lower_prop_value(words, text, r, keep, level, out, bytes, next);
+        next = lower_prop_value(words, text, r, keep, nesting, out, bytes, next);
         r = next_at(words, r);
     }
     next
@@ -162,14 +164,15 @@ fn lower_prop_value(
     text: &[u8],
     r: u32,
     keep: bool,
-    level: u32,
+    nesting: u32,
     out: &mut [u32],
     bytes: &mut [u8],
     ctx: LowerCtx,
 ) -> LowerCtx
     requires { ⌜ Linked (now words) ⌝ }
-    requires { ⌜ RecordIn (now words) (now text) r level ⌝ }
-    ensures { λ d. ⌜ FillsProperty keep ctx d (now (out .entry)) (now (bytes .entry)) (now (out .exit)) (now (bytes .exit)) (lowerValue (recordAt (now (words .entry)) (now (text .entry)) r)) ⌝ }
+    requires { ⌜ RecordIn (now words) (now text) r nesting ⌝ }
+    ensures { λ d. ⌜ FillsProperty keep ctx d (now (out .entry)) (now (bytes .entry)) (now (out .exit)) (now (bytes .exit))
+        (lowerValue (recordAt (now (words .entry)) (now (text .entry)) r)) ⌝ }
 {
     match read_value(words, text, r) {
         ValueRead::Plain(value) => push_value(words, text, r, value, keep, out, bytes, ctx),
@@ -179,7 +182,7 @@ fn lower_prop_value(
             r,
             size,
             keep,
-            level,
+            nesting,
             out,
             bytes,
             ctx,
@@ -199,7 +202,8 @@ fn push_value(
     bytes: &mut [u8],
     ctx: LowerCtx,
 ) -> LowerCtx
-    ensures { λ d. ⌜ FillsProperty keep ctx d (now (out .entry)) (now (bytes .entry)) (now (out .exit)) (now (bytes .exit)) (plainMade (now (words .entry)) (now (text .entry)) r value) ⌝ }
+    ensures { λ d. ⌜ FillsProperty keep ctx d (now (out .entry)) (now (bytes .entry)) (now (out .exit)) (now (bytes .exit))
+        (plainMade (now (words .entry)) (now (text .entry)) r value) ⌝ }
 {
     if !keep {
         return ctx;
@@ -224,14 +228,16 @@ fn lower_cell_list(
     r: u32,
     size: BitsSize,
     keep: bool,
-    level: u32,
+    nesting: u32,
     out: &mut [u32],
     bytes: &mut [u8],
     ctx: LowerCtx,
 ) -> LowerCtx
     requires { ⌜ Linked (now words) ⌝ }
-    requires { ⌜ RecordIn (now words) (now text) r level ⌝ }
-    ensures { λ d. ⌜ FillsProperty keep ctx d (now (out .entry)) (now (bytes .entry)) (now (out .exit)) (now (bytes .exit)) (sizedList (spanAt (now (words .entry)) r) (chainAt (now (words .entry)) (now (text .entry)) (childAt (now (words .entry)) r)) (Size size)) ⌝ }
+    requires { ⌜ RecordIn (now words) (now text) r nesting ⌝ }
+    ensures { λ d. ⌜ FillsProperty keep ctx d (now (out .entry)) (now (bytes .entry)) (now (out .exit)) (now (bytes .exit))
+        (sizedList (spanAt (now (words .entry)) r) (chainAt (now (words .entry)) (now (text .entry)) (childAt (now (words .entry)) r))
+        (Size size)) ⌝ }
 {
     let made = push_cell_list(size, keep, out, bytes, ctx);
     lower_cells(
@@ -240,7 +246,7 @@ fn lower_cell_list(
         child_at(words, r),
         size,
         keep,
-        level - 1,
+        nesting - 1,
         out,
         bytes,
         made,
@@ -255,7 +261,8 @@ fn push_cell_list(
     bytes: &mut [u8],
     ctx: LowerCtx,
 ) -> LowerCtx
-    ensures { λ d. ⌜ FillsProperty keep ctx d (now (out .entry)) (now (bytes .entry)) (now (out .exit)) (now (bytes .exit)) (one (cellList (bitsOf size) [])) ⌝ }
+    ensures { λ d. ⌜ FillsProperty keep ctx d (now (out .entry)) (now (bytes .entry)) (now (out .exit)) (now (bytes .exit))
+        (one (cellList (bitsOf size) [])) ⌝ }
 {
     if !keep {
         return ctx;
@@ -270,19 +277,20 @@ fn lower_cells(
     first: u32,
     size: BitsSize,
     keep: bool,
-    level: u32,
+    nesting: u32,
     out: &mut [u32],
     bytes: &mut [u8],
     ctx: LowerCtx,
 ) -> LowerCtx
     requires { ⌜ Linked (now words) ⌝ }
-    requires { ⌜ ChainIn (now words) (now text) first level ⌝ }
-    ensures { λ d. ⌜ FillsCells keep ctx d (now (out .entry)) (now (bytes .entry)) (now (out .exit)) (now (bytes .exit)) (lowerCells size (chainAt (now (words .entry)) (now (text .entry)) first)) ⌝ }
+    requires { ⌜ ChainIn (now words) (now text) first nesting ⌝ }
+    ensures { λ d. ⌜ FillsCells keep ctx d (now (out .entry)) (now (bytes .entry)) (now (out .exit)) (now (bytes .exit))
+        (lowerCells size (chainAt (now (words .entry)) (now (text .entry)) first)) ⌝ }
 {
     let mut r = first;
     let mut next = ctx;
     while r != 0 {
-        next = lower_cell(words, text, r, size, keep, level, out, bytes, next);
+        next = lower_cell(words, text, r, size, keep, nesting, out, bytes, next);
         r = next_at(words, r);
     }
     next
@@ -295,16 +303,17 @@ fn lower_cell(
     r: u32,
     size: BitsSize,
     keep: bool,
-    level: u32,
+    nesting: u32,
     out: &mut [u32],
     bytes: &mut [u8],
     ctx: LowerCtx,
 ) -> LowerCtx
     requires { ⌜ Linked (now words) ⌝ }
-    requires { ⌜ RecordIn (now words) (now text) r level ⌝ }
-    ensures { λ d. ⌜ FillsCells keep ctx d (now (out .entry)) (now (bytes .entry)) (now (out .exit)) (now (bytes .exit)) (lowerCell size (recordAt (now (words .entry)) (now (text .entry)) r)) ⌝ }
+    requires { ⌜ RecordIn (now words) (now text) r nesting ⌝ }
+    ensures { λ d. ⌜ FillsCells keep ctx d (now (out .entry)) (now (bytes .entry)) (now (out .exit)) (now (bytes .exit))
+        (lowerCell size (recordAt (now (words .entry)) (now (text .entry)) r)) ⌝ }
 {
-    match read_cell(words, text, r, size, level) {
+    match read_cell(words, text, r, size, nesting) {
         CellRead::Number(n) => push_number(n, keep, out, bytes, ctx),
         CellRead::Phandle(kind) => push_reference(words, text, r, kind, keep, out, bytes, ctx),
         CellRead::Failed(report) => emit_report(words, text, report, out, bytes, ctx),
@@ -313,7 +322,8 @@ fn lower_cell(
 
 // A number in the last cell list, where it is kept.
 fn push_number(n: u64, keep: bool, out: &mut [u32], bytes: &mut [u8], ctx: LowerCtx) -> LowerCtx
-    ensures { λ d. ⌜ FillsCells keep ctx d (now (out .entry)) (now (bytes .entry)) (now (out .exit)) (now (bytes .exit)) (one (number n)) ⌝ }
+    ensures { λ d. ⌜ FillsCells keep ctx d (now (out .entry)) (now (bytes .entry)) (now (out .exit)) (now (bytes .exit))
+        (one (number n)) ⌝ }
 {
     if !keep {
         return ctx;
@@ -334,7 +344,9 @@ fn push_reference(
     bytes: &mut [u8],
     ctx: LowerCtx,
 ) -> LowerCtx
-    ensures { λ d. ⌜ FillsCells keep ctx d (now (out .entry)) (now (bytes .entry)) (now (out .exit)) (now (bytes .exit)) (one (reference (targetMade kind (labelAt (now (words .entry)) (now (text .entry)) r) (pathAt (now (words .entry)) (now (text .entry)) r)))) ⌝ }
+    ensures { λ d. ⌜ FillsCells keep ctx d (now (out .entry)) (now (bytes .entry)) (now (out .exit)) (now (bytes .exit))
+        (one (reference (targetMade kind (labelAt (now (words .entry)) (now (text .entry)) r)
+        (pathAt (now (words .entry)) (now (text .entry)) r)))) ⌝ }
 {
     if !keep {
         return ctx;

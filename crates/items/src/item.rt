@@ -3,20 +3,21 @@ ghost use mathlib.Core.Path.{_≡_};
 ghost use mathlib.Core.Bool.{true, false};
 ghost use Prim.Native.Nat.{_<_};
 ghost use mathlib.Core.Option.{some};
-ghost use Rattle.paths_numbers.specs.Path.{joined};
-ghost use Rattle.paths_numbers.specs.Reference.{Target};
-ghost use Rattle.making.specs.Recs.{meant};
-ghost use Rattle.making.specs.State.{emit};
-ghost use Rattle.input.specs.Tree.{nameKind, firstOf};
-ghost use Rattle.input.specs.Input.{recordCount, childAt, numberAt, spanAt, chainAt, recordAt};
-ghost use Rattle.input.specs.Linked.{Linked, At};
-ghost use Rattle.input.specs.Read.{optional};
-ghost use Rattle.input.specs.PhandleRead.{phandleRead};
-ghost use Rattle.post_checks.specs.Resolve.{resolve};
-ghost use Rattle.input.specs.GoodName.{goodNamesIn};
-ghost use Rattle.items.specs.Lower.{deleteNode, deleteResolved, deleteTarget, deleteReferenced, lowerDeleteNode, deletePropertyNamed, lowerDirective};
-ghost use Rattle.post_checks.specs.Lowers.{Lowers, LowersAt};
-ghost use Rattle.items.specs.Deleting.{DeletesAt, DeletesBound, DefinesBound};
+ghost use Rattle.paths_numbers.specs.meaning.Path.{joined};
+ghost use Rattle.paths_numbers.specs.meaning.Reference.{Target};
+ghost use Rattle.log.specs.machine.Parts.{meant};
+ghost use Rattle.making.specs.meaning.State.{emit};
+ghost use Rattle.input.specs.meaning.Tree.{nameKind, firstOf};
+ghost use Rattle.input.specs.meaning.Input.{recordCount, childAt, numberAt, spanAt, chainAt, recordAt};
+ghost use Rattle.input.specs.machine.Linked.{Linked, At};
+ghost use Rattle.input.specs.machine.Read.{optional};
+ghost use Rattle.input.specs.machine.PhandleRead.{phandleRead};
+ghost use Rattle.resolving.specs.meaning.Resolve.{resolve};
+ghost use Rattle.input.specs.meaning.GoodName.{goodNamesIn};
+ghost use Rattle.items.specs.meaning.Lower.{deleteNode, deleteResolved, deleteTarget, deleteReferenced, lowerDeleteNode};
+ghost use Rattle.items.specs.meaning.Lower.{deletePropertyNamed, lowerDirective};
+ghost use Rattle.resolving.specs.machine.Lowers.{Lowers, LowersAt};
+ghost use Rattle.items.specs.machine.Deleting.{DeletesAt, DeletesBound, DefinesBound};
 use crate::report::emit_name;
 use crate::report::undefined_macro;
 use crate::unbind::Base;
@@ -42,13 +43,14 @@ use input::record::span_at;
 use input::record::text_at;
 use making::ctx::LowerCtx;
 use making::place::PathAt;
+use making::place::first_place;
+use making::place::second_place;
 use making::recs::DefKind;
-use post_checks::resolve::Resolved;
-use post_checks::resolve::binding_path;
-use post_checks::resolve::definition_path;
-use post_checks::resolve::first_with;
-use post_checks::resolve::report_unresolved;
-use post_checks::resolve::resolve_phandle;
+use paths_numbers::codes;
+use resolving::resolve::Resolved;
+use resolving::resolve::first_with;
+use resolving::resolve::report_unresolved;
+use resolving::resolve::resolve_phandle;
 
 // The W of directives, by 01's numbers.
 const VERSION: u32 = 1;
@@ -74,7 +76,9 @@ pub fn handle_dts_directive(
     requires { ⌜ Linked (now words) ⌝ }
     requires { ⌜ r < recordCount (now words) ⌝ }
     requires { ⌜ goodNamesIn (chainAt (now words) (now text) (childAt (now words) r)) ≡ true ⌝ }
-    ensures { λ d. ⌜ LowersAt parent ctx d (now (out .entry)) (now (bytes .entry)) (now (out .exit)) (now (bytes .exit)) (λ p s. lowerDirective (numberAt (now (words .entry)) r) p (chainAt (now (words .entry)) (now (text .entry)) (childAt (now (words .entry)) r)) (spanAt (now (words .entry)) r) s) ⌝ }
+    ensures { λ d. ⌜ LowersAt parent ctx d (now (out .entry)) (now (bytes .entry)) (now (out .exit)) (now (bytes .exit))
+        (λ p s. lowerDirective (numberAt (now (words .entry)) r) p
+        (chainAt (now (words .entry)) (now (text .entry)) (childAt (now (words .entry)) r)) (spanAt (now (words .entry)) r) s) ⌝ }
 {
     let kind = number_at(words, r);
     let span = span_at(words, r);
@@ -85,8 +89,8 @@ pub fn handle_dts_directive(
         return ctx.define_at(out, bytes, DefKind::Plugin, span, span, parent);
     }
     if kind == INCLUDE {
-        let none = making::recs::Span { from: 0, to: 0 };
-        return ctx.emit(out, bytes, 2, no_text(text), span, none);
+        let none = log::parts::Span { from: 0, to: 0 };
+        return ctx.emit(out, bytes, codes::INCLUDE, no_text(text), span, none);
     }
     let parts = child_at(words, r);
     if kind == DELETE_NODE {
@@ -103,7 +107,7 @@ fn emit_delete_node(
     words: &[u32],
     text: &[u8],
     parts: u32,
-    span: making::recs::Span,
+    span: log::parts::Span,
     parent: PathAt,
     out: &mut [u32],
     bytes: &mut [u8],
@@ -112,7 +116,8 @@ fn emit_delete_node(
     requires { ⌜ Linked (now words) ⌝ }
     requires { ⌜ At (now words) parts ⌝ }
     requires { ⌜ goodNamesIn (chainAt (now words) (now text) parts) ≡ true ⌝ }
-    ensures { λ d. ⌜ LowersAt parent ctx d (now (out .entry)) (now (bytes .entry)) (now (out .exit)) (now (bytes .exit)) (λ p s. lowerDeleteNode p (chainAt (now (words .entry)) (now (text .entry)) parts) (meant span) s) ⌝ }
+    ensures { λ d. ⌜ LowersAt parent ctx d (now (out .entry)) (now (bytes .entry)) (now (out .exit)) (now (bytes .exit))
+        (λ p s. lowerDeleteNode p (chainAt (now (words .entry)) (now (text .entry)) parts) (meant span) s) ⌝ }
 {
     let full = full_name(words, parts);
     let told = emit_name(words, text, full, out, bytes, ctx);
@@ -141,9 +146,10 @@ fn delete_named(
     parent: PathAt,
     name: &[u8],
     unit: &[u8],
-    span: making::recs::Span,
+    span: log::parts::Span,
 ) -> LowerCtx
-    ensures { λ d. ⌜ LowersAt parent ctx d (now (out .entry)) (now (bytes .entry)) (now (out .exit)) (now (bytes .exit)) (λ p s. deleteNode (joined p (now (name .entry)) (now (unit .entry))) (meant span) s) ⌝ }
+    ensures { λ d. ⌜ LowersAt parent ctx d (now (out .entry)) (now (bytes .entry)) (now (out .exit)) (now (bytes .exit))
+        (λ p s. deleteNode (joined p (now (name .entry)) (now (unit .entry))) (meant span) s) ⌝ }
 {
     if ctx.short {
         return ctx;
@@ -166,14 +172,15 @@ fn delete_referenced(
     words: &[u32],
     text: &[u8],
     r: u32,
-    span: making::recs::Span,
+    span: log::parts::Span,
     out: &mut [u32],
     bytes: &mut [u8],
     ctx: LowerCtx,
 ) -> LowerCtx
     requires { ⌜ Linked (now words) ⌝ }
     requires { ⌜ At (now words) r ⌝ }
-    ensures { λ d. ⌜ Lowers ctx d (now (out .entry)) (now (bytes .entry)) (now (out .exit)) (now (bytes .exit)) (deleteReferenced (meant span) (optional (now (words .entry)) (now (text .entry)) r)) ⌝ }
+    ensures { λ d. ⌜ Lowers ctx d (now (out .entry)) (now (bytes .entry)) (now (out .exit)) (now (bytes .exit))
+        (deleteReferenced (meant span) (optional (now (words .entry)) (now (text .entry)) r)) ⌝ }
 {
     if r == 0 {
         return ctx;
@@ -191,13 +198,16 @@ fn delete_read(
     text: &[u8],
     r: u32,
     read: PhandleRead,
-    span: making::recs::Span,
+    span: log::parts::Span,
     out: &mut [u32],
     bytes: &mut [u8],
     ctx: LowerCtx,
 ) -> LowerCtx
     requires { ⌜ ctx .short ≡ false ⌝ }
-    ensures { λ d. ⌜ Lowers ctx d (now (out .entry)) (now (bytes .entry)) (now (out .exit)) (now (bytes .exit)) (deleteTarget (recordAt (now (words .entry)) (now (text .entry)) r) (meant span) (phandleRead (now (words .entry)) (now (text .entry)) r read .reports) (phandleRead (now (words .entry)) (now (text .entry)) r read .result)) ⌝ }
+    ensures { λ d. ⌜ Lowers ctx d (now (out .entry)) (now (bytes .entry)) (now (out .exit)) (now (bytes .exit))
+        (deleteTarget (recordAt (now (words .entry)) (now (text .entry)) r) (meant span)
+        (phandleRead (now (words .entry)) (now (text .entry)) r read .reports)
+        (phandleRead (now (words .entry)) (now (text .entry)) r read .result)) ⌝ }
 {
     match read {
         PhandleRead::Macro(m) => undefined_macro(words, text, m, out, bytes, ctx),
@@ -214,13 +224,15 @@ fn delete_target(
     text: &[u8],
     r: u32,
     read: PhandleRead,
-    span: making::recs::Span,
+    span: log::parts::Span,
     out: &mut [u32],
     bytes: &mut [u8],
     ctx: LowerCtx,
 ) -> LowerCtx
     requires { ⌜ ctx .short ≡ false ⌝ }
-    ensures { λ d. ⌜ ((t : Target) → phandleRead (now (words .entry)) (now (text .entry)) r read .result ≡ some t → Lowers ctx d (now (out .entry)) (now (bytes .entry)) (now (out .exit)) (now (bytes .exit)) (λ s. deleteResolved (recordAt (now (words .entry)) (now (text .entry)) r) (meant span) (resolve t (s .binds) (s .defs)) s)) ⌝ }
+    ensures { λ d. ⌜ ((t : Target) → phandleRead (now (words .entry)) (now (text .entry)) r read .result ≡ some t
+        → Lowers ctx d (now (out .entry)) (now (bytes .entry)) (now (out .exit)) (now (bytes .exit))
+        (λ s. deleteResolved (recordAt (now (words .entry)) (now (text .entry)) r) (meant span) (resolve t (s .binds) (s .defs)) s)) ⌝ }
 {
     let label = phandle_label_at(words, text, r);
     let path = phandle_path_at(words, text, r);
@@ -265,7 +277,7 @@ fn emit_delete_property(
     words: &[u32],
     text: &[u8],
     parts: u32,
-    span: making::recs::Span,
+    span: log::parts::Span,
     parent: PathAt,
     out: &mut [u32],
     bytes: &mut [u8],
@@ -273,7 +285,8 @@ fn emit_delete_property(
 ) -> LowerCtx
     requires { ⌜ Linked (now words) ⌝ }
     requires { ⌜ At (now words) parts ⌝ }
-    ensures { λ d. ⌜ LowersAt parent ctx d (now (out .entry)) (now (bytes .entry)) (now (out .exit)) (now (bytes .exit)) (λ p s. deletePropertyNamed p (meant span) (firstOf nameKind (chainAt (now (words .entry)) (now (text .entry)) parts)) s) ⌝ }
+    ensures { λ d. ⌜ LowersAt parent ctx d (now (out .entry)) (now (bytes .entry)) (now (out .exit)) (now (bytes .exit))
+        (λ p s. deletePropertyNamed p (meant span) (firstOf nameKind (chainAt (now (words .entry)) (now (text .entry)) parts)) s) ⌝ }
 {
     let n = first_of(words, parts, NAME);
     if n == 0 {
@@ -297,13 +310,14 @@ fn delete_at(
     out: &mut [u32],
     bytes: &mut [u8],
     path: &[u8],
-    span: making::recs::Span,
+    span: log::parts::Span,
 ) -> LowerCtx
-    ensures { λ d. ⌜ DeletesAt (now (path .entry)) (meant span) ctx d (now (out .entry)) (now (bytes .entry)) (now (out .exit)) (now (bytes .exit)) ⌝ }
+    ensures { λ d. ⌜ DeletesAt (now (path .entry)) (meant span) ctx d (now (out .entry)) (now (bytes .entry)) (now (out .exit))
+        (now (bytes .exit)) ⌝ }
 {
     let without = unbind_all(ctx, out, bytes, Base::Given, path, path);
     let found = first_with(out, bytes, without.defs.first, path);
-    let place = definition_path(out, found.number);
+    let place = first_place(out, found.number);
     without.define_at(out, bytes, DefKind::DeletedNode, span, span, place)
 }
 
@@ -315,9 +329,10 @@ fn delete_bound(
     below: bool,
     label: &[u8],
     path: &[u8],
-    span: making::recs::Span,
+    span: log::parts::Span,
 ) -> LowerCtx
-    ensures { λ d. ⌜ DeletesBound below (now (label .entry)) (now (path .entry)) (meant span) ctx d (now (out .entry)) (now (bytes .entry)) (now (out .exit)) (now (bytes .exit)) ⌝ }
+    ensures { λ d. ⌜ DeletesBound below (now (label .entry)) (now (path .entry)) (meant span) ctx d (now (out .entry)) (now (bytes .entry))
+        (now (out .exit)) (now (bytes .exit)) ⌝ }
 {
     let unit = no_text(path);
     let found = first_with(out, bytes, ctx.binds.first, label);
@@ -340,12 +355,13 @@ fn define_bound(
     below: bool,
     label: &[u8],
     path: &[u8],
-    span: making::recs::Span,
+    span: log::parts::Span,
 ) -> LowerCtx
-    ensures { λ d. ⌜ DefinesBound below (now (label .entry)) (now (path .entry)) (meant span) ctx d (now (out .entry)) (now (bytes .entry)) (now (out .exit)) (now (bytes .exit)) ⌝ }
+    ensures { λ d. ⌜ DefinesBound below (now (label .entry)) (now (path .entry)) (meant span) ctx d (now (out .entry)) (now (bytes .entry))
+        (now (out .exit)) (now (bytes .exit)) ⌝ }
 {
     let found = first_with(out, bytes, ctx.binds.first, label);
-    let place = binding_path(out, found.number);
+    let place = second_place(out, found.number);
     if below {
         let unit = no_text(path);
         return ctx.define(

@@ -3,22 +3,20 @@
 ghost use mathlib.Core.Path.{_≡_};
 ghost use mathlib.Core.List.{List, [], _∷_};
 ghost use Prim.Native.Nat.{ℕ};
-ghost use Rattle.making.specs.State.{emit};
-ghost use Rattle.input.specs.Report.{report, undefinedMacro};
-ghost use Rattle.input.specs.Input.{spanAt, recordAt};
-ghost use Rattle.post_checks.specs.Lowers.{Lowers};
-ghost use Rattle.input.specs.NameRead.{nameRead, fullRead};
-ghost use Rattle.input.specs.Reported.{reportsOf};
+ghost use Rattle.making.specs.meaning.State.{emit};
+ghost use Rattle.input.specs.meaning.Report.{report, undefinedMacro};
+ghost use Rattle.input.specs.meaning.Input.{spanAt, recordAt};
+ghost use Rattle.resolving.specs.machine.Lowers.{Lowers};
+ghost use Rattle.input.specs.machine.NameRead.{nameRead, fullRead};
+ghost use Rattle.input.specs.machine.Reported.{reportsOf};
 use input::name::FullName;
 use input::name::NameOrMacro;
 use input::record::span_at;
 use input::record::text_at;
 use input::report::Report;
+use log::parts::Span;
 use making::ctx::LowerCtx;
-use making::recs::Span;
-
-// The code of a macro that is not defined.
-const UNDEFINED_MACRO: u32 = 10;
+use paths_numbers::codes::MACRO_UNDEFINED;
 
 // Reports it.
 pub fn emit_report(
@@ -29,7 +27,8 @@ pub fn emit_report(
     bytes: &mut [u8],
     ctx: LowerCtx,
 ) -> LowerCtx
-    ensures { λ d. ⌜ Lowers ctx d (now (out .entry)) (now (bytes .entry)) (now (out .exit)) (now (bytes .exit)) (emit (reportsOf (now (words .entry)) (now (text .entry)) report)) ⌝ }
+    ensures { λ d. ⌜ Lowers ctx d (now (out .entry)) (now (bytes .entry)) (now (out .exit)) (now (bytes .exit))
+        (emit (reportsOf (now (words .entry)) (now (text .entry)) report)) ⌝ }
 {
     match report {
         Report::Nothing => ctx,
@@ -47,14 +46,15 @@ pub fn undefined_macro(
     bytes: &mut [u8],
     ctx: LowerCtx,
 ) -> LowerCtx
-    ensures { λ d. ⌜ Lowers ctx d (now (out .entry)) (now (bytes .entry)) (now (out .exit)) (now (bytes .exit)) (emit (undefinedMacro (recordAt (now (words .entry)) (now (text .entry)) m) ∷ [])) ⌝ }
+    ensures { λ d. ⌜ Lowers ctx d (now (out .entry)) (now (bytes .entry)) (now (out .exit)) (now (bytes .exit))
+        (emit (undefinedMacro (recordAt (now (words .entry)) (now (text .entry)) m) ∷ [])) ⌝ }
 {
     let span = span_at(words, m);
     let name = text_at(words, text, m);
     ctx.emit(
         out,
         bytes,
-        UNDEFINED_MACRO,
+        MACRO_UNDEFINED,
         name,
         span,
         Span { from: 0, to: 0 },
@@ -70,7 +70,8 @@ pub fn emit_code(
     bytes: &mut [u8],
     ctx: LowerCtx,
 ) -> LowerCtx
-    ensures { λ d. ⌜ Lowers ctx d (now (out .entry)) (now (bytes .entry)) (now (out .exit)) (now (bytes .exit)) (emit (report code [] (spanAt (now (words .entry)) r) ∷ [])) ⌝ }
+    ensures { λ d. ⌜ Lowers ctx d (now (out .entry)) (now (bytes .entry)) (now (out .exit)) (now (bytes .exit))
+        (emit (report code [] (spanAt (now (words .entry)) r) ∷ [])) ⌝ }
 {
     let none: [u8; 0] = [];
     let span = span_at(words, r);
@@ -86,7 +87,8 @@ pub fn emit_name(
     bytes: &mut [u8],
     ctx: LowerCtx,
 ) -> LowerCtx
-    ensures { λ d. ⌜ Lowers ctx d (now (out .entry)) (now (bytes .entry)) (now (out .exit)) (now (bytes .exit)) (emit (fullRead (now (words .entry)) (now (text .entry)) f .reports)) ⌝ }
+    ensures { λ d. ⌜ Lowers ctx d (now (out .entry)) (now (bytes .entry)) (now (out .exit)) (now (bytes .exit))
+        (emit (fullRead (now (words .entry)) (now (text .entry)) f .reports)) ⌝ }
 {
     let name = f.name;
     let unit = f.unit;

@@ -1,12 +1,13 @@
 // The bindings that a deletion takes out of the log: those of live nodes' labels to their paths.
 ghost use mathlib.Core.Path.{_≡_};
-ghost use Rattle.making.specs.PathPlaces.{pathIn};
-ghost use Rattle.queries.specs.Kind.{any};
-ghost use Rattle.queries.specs.Labels.{hasLabelAt};
-ghost use Rattle.queries.specs.Live.{live};
-ghost use Rattle.paths_numbers.specs.Path.{joined};
-ghost use Rattle.log.specs.ReadBack.{readDefs};
-ghost use Rattle.items.specs.Unbinding.{baseOf, goesWith, passesAt, Passes, Unbinds, UnbindsAll, boundBase, UnbindsOthers, UnlinksFirst};
+ghost use Rattle.making.specs.machine.PathPlaces.{pathIn};
+ghost use Rattle.paths_numbers.specs.meaning.Lists.{any};
+ghost use Rattle.queries.specs.meaning.Labels.{hasLabelAt};
+ghost use Rattle.queries.specs.meaning.Live.{live};
+ghost use Rattle.paths_numbers.specs.meaning.Path.{joined};
+ghost use Rattle.log.specs.meaning.ReadBack.{readDefs};
+ghost use Rattle.items.specs.machine.Unbinding.{baseOf, goesWith, passesAt, Passes, Unbinds, UnbindsAll, boundBase, UnbindsOthers};
+ghost use Rattle.items.specs.machine.Unbinding.{UnlinksFirst};
 ghost use mathlib.Core.Bool.{false};
 use log::record::first_text;
 use log::record::log_count;
@@ -15,10 +16,10 @@ use log::record::second_text;
 use making::ctx::LowerCtx;
 use making::place::PathAt;
 use paths_numbers::text::equals;
-use post_checks::resolve::first_with;
 use queries::definition::goes_on;
 use queries::mir::unbinds;
 use queries::mir::unbinds_path;
+use resolving::resolve::first_with;
 
 // The path of a deletion: of a name below a place, the name itself, a binding's path, or of the name
 // below that.
@@ -58,7 +59,8 @@ pub fn unbind(
     first: u32,
     most: u32,
 ) -> Unbound
-    ensures { λ u. ⌜ Unbinds base (now (name .entry)) (now (unit .entry)) stops (now (label .entry)) ctx (now (out .entry)) (now (bytes .entry)) (now (out .exit)) (now (bytes .exit)) before first most u ⌝ }
+    ensures { λ u. ⌜ Unbinds base (now (name .entry)) (now (unit .entry)) stops (now (label .entry)) ctx (now (out .entry))
+        (now (bytes .entry)) (now (out .exit)) (now (bytes .exit)) before first most u ⌝ }
 {
     let mut d = ctx;
     let mut previous = before;
@@ -104,7 +106,9 @@ fn unbind_one(
     previous: u32,
     r: u32,
 ) -> Unlinked
-    ensures { λ u. ⌜ Passes ctx (u .ctx) (now (out .entry)) (now (bytes .entry)) (now (out .exit)) (now (bytes .exit)) (baseOf (ctx .bytes) (now (out .entry)) (now (bytes .entry)) (now (name .entry)) (now (unit .entry)) base) previous r (u .previous) ⌝ }
+    ensures { λ u. ⌜ Passes ctx (u .ctx) (now (out .entry)) (now (bytes .entry)) (now (out .exit)) (now (bytes .exit))
+        (baseOf (ctx .bytes) (now (out .entry)) (now (bytes .entry)) (now (name .entry)) (now (unit .entry)) base) previous r
+        (u .previous) ⌝ }
 {
     if goes_with(ctx, out, bytes, base, name, unit, r) {
         return Unlinked {
@@ -128,7 +132,8 @@ pub fn goes_with(
     unit: &[u8],
     r: u32,
 ) -> bool
-    ensures { λ t. ⌜ t ≡ goesWith (now (out .entry)) (now (bytes .entry)) (ctx .defs .first) (baseOf (ctx .bytes) (now (out .entry)) (now (bytes .entry)) (now (name .entry)) (now (unit .entry)) base) r ⌝ }
+    ensures { λ t. ⌜ t ≡ goesWith (now (out .entry)) (now (bytes .entry)) (ctx .defs .first)
+        (baseOf (ctx .bytes) (now (out .entry)) (now (bytes .entry)) (now (name .entry)) (now (unit .entry)) base) r ⌝ }
 {
     let label = first_text(out, bytes, r);
     let path = second_text(out, bytes, r);
@@ -161,7 +166,9 @@ fn unbinds_named(
     label: &[u8],
     path: &[u8],
 ) -> bool
-    ensures { λ t. ⌜ t ≡ any (hasLabelAt (now (label .entry)) (now (path .entry))) (live (joined (pathIn (ctx .bytes) (now (bytes .entry)) place) (now (name .entry)) (now (unit .entry))) (readDefs (now (out .entry)) (now (bytes .entry)) (ctx .defs .first))) ⌝ }
+    ensures { λ t. ⌜ t ≡ any (hasLabelAt (now (label .entry)) (now (path .entry)))
+        (live (joined (pathIn (ctx .bytes) (now (bytes .entry)) place) (now (name .entry)) (now (unit .entry)))
+        (readDefs (now (out .entry)) (now (bytes .entry)) (ctx .defs .first))) ⌝ }
 {
     let defs = ctx.defs.first;
     if place.root {
@@ -204,7 +211,8 @@ pub fn unbind_all(
     name: &[u8],
     unit: &[u8],
 ) -> LowerCtx
-    ensures { λ d. ⌜ UnbindsAll base (now (name .entry)) (now (unit .entry)) ctx d (now (out .entry)) (now (bytes .entry)) (now (out .exit)) (now (bytes .exit)) ⌝ }
+    ensures { λ d. ⌜ UnbindsAll base (now (name .entry)) (now (unit .entry)) ctx d (now (out .entry)) (now (bytes .entry)) (now (out .exit))
+        (now (bytes .exit)) ⌝ }
 {
     let first = ctx.binds.first;
     let most = log_count(out);
@@ -245,7 +253,8 @@ pub fn unbind_others(
     unit: &[u8],
     label: &[u8],
 ) -> LowerCtx
-    ensures { λ d. ⌜ UnbindsOthers below (now (name .entry)) (now (unit .entry)) (now (label .entry)) ctx d (now (out .entry)) (now (bytes .entry)) (now (out .exit)) (now (bytes .exit)) ⌝ }
+    ensures { λ d. ⌜ UnbindsOthers below (now (name .entry)) (now (unit .entry)) (now (label .entry)) ctx d (now (out .entry))
+        (now (bytes .entry)) (now (out .exit)) (now (bytes .exit)) ⌝ }
 {
     let first = ctx.binds.first;
     let found = first_with(out, bytes, first, label);
@@ -288,7 +297,8 @@ pub fn unbind_others(
 
 // Takes out the label's first binding.
 pub fn unlink_first(ctx: LowerCtx, out: &mut [u32], bytes: &mut [u8], label: &[u8]) -> LowerCtx
-    ensures { λ d. ⌜ UnlinksFirst (now (label .entry)) ctx d (now (out .entry)) (now (bytes .entry)) (now (out .exit)) (now (bytes .exit)) ⌝ }
+    ensures { λ d. ⌜ UnlinksFirst (now (label .entry)) ctx d (now (out .entry)) (now (bytes .entry)) (now (out .exit))
+        (now (bytes .exit)) ⌝ }
 {
     let found = first_with(out, bytes, ctx.binds.first, label);
     ctx.unlink_binding(out, bytes, found.previous, found.number)

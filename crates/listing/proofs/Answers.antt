@@ -4,12 +4,12 @@ use mathlib.Core.Path.{_≡_, refl, sym, _∙_}
 use mathlib.Core.List.{List}
 use borrow.Author.Tests.{ne-eqb}
 use lib.ListN.{length, replicate, length-replicate}
-use Rattle.log.specs.ReadBack.{readLog}
-use Rattle.making.specs.State.{State}
-use Rattle.queries.specs.Query.{Answered}
-use Rattle.lowering.specs.Lowered.{fitsIn, meaning, Lowered, turnedDown, short, done}
-use Rattle.two_runs.proofs.WholeRuns.{refusal-number}
-use Rattle.listing.specs.Program.{outLength, bytesLength, answerText, listed}
+use Rattle.log.specs.meaning.ReadBack.{readLog}
+use Rattle.making.specs.meaning.State.{State}
+use Rattle.log.specs.meaning.Answer.{Answered}
+use Rattle.lowering.specs.meaning.Lowered.{fitsIn, meaning, Lowered, turnedDown, short, done}
+use Rattle.input.proofs.Refusals.{refusal-number}
+use Rattle.listing.specs.meaning.Program.{outLength, bytesLength, answerText, listed}
 
 -- whether a log fits goes by the lengths of its buffers
 fits-by-lengths : (s : State) (o p b d : List ℕ) → length o ≡ length p → length b ≡ length d → fitsIn s o b ≡ fitsIn s p d
@@ -18,7 +18,8 @@ fits-by-lengths s o p b d e f = rw (e, f) refl
 
 fits-empty : (s : State) (o b : List ℕ) → length o ≡ outLength → length b ≡ bytesLength
     → fitsIn s o b ≡ fitsIn s (replicate outLength 0) (replicate bytesLength 0)
-fits-empty s o b e f = fits-by-lengths s o _ b _ (e ∙ sym (length-replicate {A = ℕ} outLength 0)) (f ∙ sym (length-replicate {A = ℕ} bytesLength 0))
+fits-empty s o b e f = fits-by-lengths s o _ b _ (e ∙ sym (length-replicate {A = ℕ} outLength 0))
+    (f ∙ sym (length-replicate {A = ℕ} bytesLength 0))
 
 pub answer-listed : {w t o b p d : List ℕ} {a : Answered} → Lowered w t o b a p d → length o ≡ outLength → length b ≡ bytesLength
     → answerText (a .number) (a .returned) (readLog p d) ≡ listed w t

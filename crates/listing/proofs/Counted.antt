@@ -8,20 +8,25 @@ use mathlib.Core.Option.{Option, some, none}
 use native.Mathlib.Omega.{arith}
 use lib.Dec.{eqb}
 use lib.ListN.{length, length-append}
-use Rattle.paths_numbers.specs.Text.{isEmpty}
-use Rattle.paths_numbers.specs.Path.{root, join}
-use Rattle.paths_numbers.specs.Reference.{Target}
+use Rattle.paths_numbers.specs.meaning.Text.{isEmpty}
+use Rattle.paths_numbers.specs.meaning.Path.{root, join}
+use Rattle.paths_numbers.specs.meaning.Reference.{Target}
 use Rattle.paths_numbers.proofs.Texts.{by-test}
-use Rattle.log.specs.Meaning.{Span, Def, Ext, Binding, Diag}
-use Rattle.making.specs.State.{State, start, partRecords, partBytes, bindingsBytes, diagsBytes, define, bind, emit, apart, dropped, extended}
-use Rattle.queries.specs.Kind.{any, setsOverlay}
-use Rattle.queries.specs.Live.{live}
-use Rattle.input.specs.Tree.{Tree, Trees, tree, empty, more, firstOf, nodeKind, propertyKind, directiveKind, preprocessorKind, nameKind, referenceKind}
-use Rattle.input.specs.Name.{fullName, labelsOf}
-use Rattle.input.specs.Phandle.{lowerPhandle}
-use Rattle.post_checks.specs.Resolve.{Resolution, reaches, missing, resolve}
-use Rattle.items.specs.Unbind.{bindsLabelOf, without, unbind}
-use Rattle.items.specs.Lower.{Place, at, aside, discarded, nowhere, placeOf, nodeDef, opened, lowerPlaced, lowerNode, namedProperty, lowerProperty, deleteNode, deleteResolved, deleteTarget, deleteReferenced, deleteNamed, lowerDeleteNode, deletePropertyNamed, lowerDirective, lowerAs, lowerItem, lowerItems, lowered}
+use Rattle.log.specs.meaning.Contents.{Span, Def, Ext, Binding, Diag}
+use Rattle.making.specs.meaning.State.{State, start, partRecords, partBytes, bindingsBytes, diagsBytes, define, bind, emit, apart, dropped}
+use Rattle.making.specs.meaning.State.{extended}
+use Rattle.queries.specs.meaning.Kind.{setsOverlay}
+use Rattle.paths_numbers.specs.meaning.Lists.{any}
+use Rattle.queries.specs.meaning.Live.{live}
+use Rattle.input.specs.meaning.Tree.{Tree, Trees, tree, empty, more, firstOf, nodeKind, propertyKind, directiveKind, preprocessorKind}
+use Rattle.input.specs.meaning.Tree.{nameKind, referenceKind}
+use Rattle.input.specs.meaning.Name.{fullName, labelsOf}
+use Rattle.input.specs.meaning.Phandle.{lowerPhandle}
+use Rattle.resolving.specs.meaning.Resolve.{Resolution, reaches, missing, resolve}
+use Rattle.items.specs.meaning.Unbind.{bindsLabelOf, without, unbind}
+use Rattle.items.specs.meaning.Lower.{Place, at, aside, discarded, nowhere, placeOf, nodeDef, opened, lowerPlaced, lowerNode, namedProperty}
+use Rattle.items.specs.meaning.Lower.{lowerProperty, deleteNode, deleteResolved, deleteTarget, deleteReferenced, deleteNamed}
+use Rattle.items.specs.meaning.Lower.{lowerDeleteNode, deletePropertyNamed, lowerDirective, lowerAs, lowerItem, lowerItems, lowered}
 use Rattle.items.proofs.Labelled.{diags-append}
 
 -- the records and bytes of definitions and their parts
@@ -140,14 +145,16 @@ module _ (parts : Trees) (span : Span) (body : List ℕ → State → State) (b 
   node-counted parent s = then-counted (emit-counted _ s) (placed-counted (placeOf parent parts span s .place) _)
 
 -- properties and directives
-named-counted : (parent : List ℕ) (parts values : Trees) (span : Span) (n : Option (List ℕ)) (s : State) → Counted s (namedProperty parent parts values span n s)
+named-counted : (parent : List ℕ) (parts values : Trees) (span : Span) (n : Option (List ℕ)) (s : State)
+    → Counted s (namedProperty parent parts values span n s)
 named-counted parent parts values span (some n) s = define-counted _ s
 named-counted parent parts values span none s = nothing-more s
 
 property-counted : (parent : List ℕ) (parts values : Trees) (span : Span) (s : State) → Counted s (lowerProperty parent parts values span s)
 unfolding lowerProperty
 property-counted parent parts values span s =
-    counted-if (isEmpty parent) (emit-counted _ s) (then-counted (emit-counted _ s) (named-counted parent parts values span (fullName parts .result) _))
+    counted-if (isEmpty parent) (emit-counted _ s) (then-counted (emit-counted _ s)
+    (named-counted parent parts values span (fullName parts .result) _))
 
 delete-counted : (p : List ℕ) (span : Span) (s : State) → Counted s (deleteNode p span s)
 unfolding deleteNode
@@ -165,7 +172,8 @@ referenced-counted : (span : Span) (r : Option Tree) (s : State) → Counted s (
 referenced-counted span (some r) s = target-counted r span (lowerPhandle r .reports) (lowerPhandle r .result) s
 referenced-counted span none s = nothing-more s
 
-deletion-counted : (parent : List ℕ) (parts : Trees) (span : Span) (n : Option (List ℕ)) (s : State) → Counted s (deleteNamed parent parts span n s)
+deletion-counted : (parent : List ℕ) (parts : Trees) (span : Span) (n : Option (List ℕ)) (s : State)
+    → Counted s (deleteNamed parent parts span n s)
 deletion-counted parent parts span (some n) s = delete-counted (join parent n) span s
 deletion-counted parent parts span none s = referenced-counted span (firstOf referenceKind parts) s
 
@@ -183,7 +191,8 @@ directive-counted w parent parts span s =
     (counted-if (eqb w 5) (property-deletion-counted parent span (firstOf nameKind parts) s)
     (nothing-more s)))))
 
-as-counted : (k w : ℕ) (span : Span) (parts second : Trees) (body : List ℕ → State → State) → ((p : List ℕ) (s : State) → Counted s (body p s)) → (parent : List ℕ) (s : State)
+as-counted : (k w : ℕ) (span : Span) (parts second : Trees) (body : List ℕ → State → State)
+    → ((p : List ℕ) (s : State) → Counted s (body p s)) → (parent : List ℕ) (s : State)
     → Counted s (lowerAs k w span parts second body parent s)
 as-counted k w span parts second body b parent s =
     counted-if (eqb k nodeKind) (node-counted parts span body b parent s)
@@ -197,7 +206,8 @@ mutual
   unfolding lowerItem lowerItems
 
   item-counted : (t : Tree) (p : List ℕ) (s : State) → Counted s (lowerItem t p s)
-  item-counted (tree k text w span parts second) p s = as-counted k w span parts second (λ q u. lowerItems second q u) (λ q u. items-counted second q u) p s
+  item-counted (tree k text w span parts second) p s = as-counted k w span parts second (λ q u. lowerItems second q u)
+      (λ q u. items-counted second q u) p s
 
   items-counted : (ts : Trees) (p : List ℕ) (s : State) → Counted s (lowerItems ts p s)
   items-counted empty p s = nothing-more s

@@ -7,7 +7,7 @@ use borrow.Author.Tests.{lt-ltb, le-ltb, ltb-true, ltb-false}
 use lib.Dec.{ltb}
 use Rattle.io.specs.Digits.{digits, Fewest}
 use Rattle.paths_numbers.proofs.Texts.{by-test}
-use Rattle.listing.specs.Listing.{decimalOf, decimal, mostDigits}
+use Rattle.listing.specs.meaning.Listing.{decimalOf, decimal, mostDigits}
 
 -- so many digits are as many as there are at most, or fewer
 digits-of : (k j n : ℕ) → k ≤ j → Fewest 10 1 n k → digits 10 k n ≡ decimalOf j n
@@ -24,8 +24,12 @@ digits-of (suc (suc i)) (suc j) n h f =
     let low : 10 ^ suc i ≤ n = rw e at (f .2 (omega arith)) in
     let least : 10 ^ 1 ≤ 10 ^ suc i = pow-le-pow-right {n = 10} (omega arith) {i = 1} {j = suc i} (omega arith) in
     let ten : 10 ≤ n = omega (arith, low, least) in
-    let rest : Fewest 10 1 (n / 10) (suc i) =
-    (omega arith, div-lt-iff-lt-mul {k = 10} (omega arith) .1 (rw (pow-suc 10 (suc i)) at (f .1)), λ m. rw d (le-div-iff-mul-le {k = 10} (omega arith) .1 (rw (pow-suc 10 i) at low))) in
+    let rest : Fewest 10 1 (n / 10) (suc i) = (
+      omega arith,
+      div-lt-iff-lt-mul {k = 10} (omega arith) .1 (rw (pow-suc 10 (suc i)) at (f .1)),
+      λ m. rw d
+          (le-div-iff-mul-le {k = 10} (omega arith) .1 (rw (pow-suc 10 i) at low)),
+    ) in
     rw (le-ltb n 10 ten, lt-ltb (n % 10) 10 (mod-lt n (omega arith)), digits-of (suc i) j (n / 10) (omega arith) rest) refl
 
 -- a word has at most ten

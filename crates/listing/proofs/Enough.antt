@@ -8,16 +8,17 @@ use borrow.Author.Tests.{leb-true}
 use lib.Dec.{leb, ltb}
 use lib.ListN.{length, replicate, length-append, length-replicate}
 use Rattle.paths_numbers.proofs.Texts.{by-test, both}
-use Rattle.log.specs.Meaning.{Span, DefValue, node, property, deletedNode, deletedProperty, version, plugin, Def, Binding, Diag}
-use Rattle.log.specs.Record.{outCount}
-use Rattle.making.specs.State.{State, partRecords, partBytes, textsBytes, bindingsBytes}
-use Rattle.queries.specs.Labels.{labelsIn}
-use Rattle.input.specs.Input.{description}
-use Rattle.input.specs.Rows.{Verdict, accepted, refused, verdict}
-use Rattle.post_checks.specs.Post.{postChecks}
-use Rattle.lowering.specs.Lowered.{logOf, recordsMade, bytesMade, fitsIn, meaning}
-use Rattle.listing.specs.Listing.{ascii, decimalOf, decimal, spanField, pathField, definitionLine, labelLine, definitionLines, bindingLine, diagnosticLine, listing, refusalLine}
-use Rattle.listing.specs.Program.{outLength, bytesLength, listedBy, cutShort, wordsIn, textIn, listed, printed, mostPrinted}
+use Rattle.log.specs.meaning.Contents.{Span, DefValue, node, property, deletedNode, deletedProperty, version, plugin, Def, Binding, Diag}
+use Rattle.log.specs.meaning.Record.{outCount}
+use Rattle.making.specs.meaning.State.{State, partRecords, partBytes, textsBytes, bindingsBytes}
+use Rattle.queries.specs.meaning.Labels.{labelsIn}
+use Rattle.input.specs.meaning.Input.{description}
+use Rattle.input.specs.meaning.Rows.{Verdict, accepted, refused, verdict}
+use Rattle.post_checks.specs.meaning.Post.{postChecks}
+use Rattle.lowering.specs.meaning.Lowered.{logOf, recordsMade, bytesMade, fitsIn, meaning}
+use Rattle.listing.specs.meaning.Listing.{ascii, decimalOf, decimal, spanField, pathField, definitionLine, labelLine, definitionLines}
+use Rattle.listing.specs.meaning.Listing.{bindingLine, diagnosticLine, listing, refusalLine}
+use Rattle.listing.specs.meaning.Program.{outLength, bytesLength, listedBy, cutShort, wordsIn, textIn, listed, printed, mostPrinted}
 use Rattle.listing.proofs.Counted.{defsRecords, defsBytes, heldRecords, heldBytes, lowered-records, lowered-bytes}
 
 -- the fields
@@ -108,7 +109,8 @@ fits-limits s o b e =
     let k = both (leb (recordsMade s) 65536) _ (h .1) in
     (leb-true _ _ (h .0), leb-true _ _ (both (leb (bytesMade s) (length b)) _ (k .1) .0))
 
-fits-most : (s : State) (o b : List ℕ) → length o ≡ outLength → length b ≡ bytesLength → fitsIn s o b ≡ true → (recordsMade s ≤ 1024) × (bytesMade s ≤ bytesLength)
+fits-most : (s : State) (o b : List ℕ) → length o ≡ outLength → length b ≡ bytesLength → fitsIn s o b ≡ true
+    → (recordsMade s ≤ 1024) × (bytesMade s ≤ bytesLength)
 fits-most s o b e f h =
     let k = fits-limits s o b h in
     (rw e at (k .0), rw f at (k .1))
@@ -122,7 +124,8 @@ listed-most w t = go (verdict w t) (fitsIn (meaning w t) (replicate outLength 0)
         → length (listedBy v f (logOf (meaning w t))) ≤ mostPrinted
     go (refused n r) f e = omega (arith, refusal-most n r)
     go accepted true e =
-        let h = fits-most (meaning w t) (replicate outLength 0) (replicate bytesLength 0) (length-replicate {A = ℕ} outLength 0) (length-replicate {A = ℕ} bytesLength 0) e in
+        let h = fits-most (meaning w t) (replicate outLength 0) (replicate bytesLength 0) (length-replicate {A = ℕ} outLength 0)
+        (length-replicate {A = ℕ} bytesLength 0) e in
         omega (arith, h .0, h .1, listing-most (meaning w t), lowered-records (description w t), lowered-bytes (description w t))
     go accepted false e = omega (arith, refusal-most 7 0)
 

@@ -6,9 +6,9 @@ use native.Mathlib.Nat.{add-zero}
 use native.Mathlib.Omega.{arith}
 use lib.ListN.{length, getD, take, drop, set}
 use lib.Seq.{getD-drop, drop-drop, take-at}
-use Rattle.paths_numbers.specs.Text.{written}
+use Rattle.paths_numbers.specs.meaning.Text.{written}
 use Rattle.paths_numbers.proofs.Written.{written-nil, written-cons}
-use Rattle.listing.specs.Program.{wordBytes, wordOf, wordsOf}
+use Rattle.listing.specs.meaning.Program.{wordBytes, wordOf, wordsOf}
 
 -- so many words
 pub words-length : (n : ℕ) (s : List ℕ) → length (wordsOf n s) ≡ n
@@ -24,7 +24,8 @@ word-bytes s at = rw (getD-drop at s 0 0, getD-drop at s 1 0, getD-drop at s 2 0
 
 -- words written one by one: d holds those before i, and what is left of them, written behind, gives all
 module _ (d s : List ℕ) (i n : ℕ) (w : List ℕ) (inv : w ≡ written d i (wordsOf (n - i) (drop (i * 4) s))) where
-  pub word-next : i < n → i < length d → (v : ℕ) → v ≡ wordOf (drop (i * 4) s) → w ≡ written (set d i v) (i + 1) (wordsOf (n - (i + 1)) (drop ((i + 1) * 4) s))
+  pub word-next : i < n → i < length d → (v : ℕ) → v ≡ wordOf (drop (i * 4) s)
+      → w ≡ written (set d i v) (i + 1) (wordsOf (n - (i + 1)) (drop ((i + 1) * 4) s))
   unfolding wordsOf
   word-next h k v e =
       let m : n - i ≡ suc (n - (i + 1)) = omega arith in

@@ -8,13 +8,13 @@ use native.Mathlib.Omega.{arith}
 use lib.Dec.{eqb}
 use lib.ListN.{length}
 use Rattle.paths_numbers.proofs.Texts.{no-byte}
-use Rattle.log.specs.Meaning.{Value}
-use Rattle.log.specs.Record.{kindOf, childOf, nodeKind, propertyKind, deletedNodeKind, deletedPropertyKind, pluginKind}
-use Rattle.log.specs.ReadBack.{defAt, defValueAt, readLabels}
-use Rattle.queries.specs.Labels.{labelsIn}
+use Rattle.log.specs.meaning.Contents.{Value}
+use Rattle.log.specs.meaning.Record.{kindOf, childOf, nodeKind, propertyKind, deletedNodeKind, deletedPropertyKind, pluginKind}
+use Rattle.log.specs.meaning.ReadBack.{defAt, defValueAt, readLabels}
+use Rattle.queries.specs.meaning.Labels.{labelsIn}
 use Rattle.queries.proofs.Records.{by-kind, valueOf, labels-kind}
-use Rattle.listing.specs.Listing.{letter, pathField, definitionLine, labelLine, definitionLines}
-use Rattle.listing.specs.Page.{Puts}
+use Rattle.listing.specs.meaning.Listing.{letter, pathField, definitionLine, labelLine, definitionLines}
+use Rattle.listing.specs.machine.Page.{Puts}
 use Rattle.listing.proofs.Pages.{puts-same, then-puts, puts-none}
 
 -- the letter of a kind by its number
@@ -49,7 +49,8 @@ a-path (b ∷ p) h = refl
 
 -- a node's lines, and those of another definition
 module _ (words bytes : List ℕ) (r : ℕ) {a b : List ℕ} {i j : ℕ} (own : Puts (definitionLine (defAt words bytes r)) a i b j) where
-  pub node-lines : {c : List ℕ} {k : ℕ} → eqb (kindOf words r) nodeKind ≡ true → Puts (flatMap labelLine (readLabels words bytes (childOf words r))) b j c k
+  pub node-lines : {c : List ℕ} {k : ℕ} → eqb (kindOf words r) nodeKind ≡ true
+      → Puts (flatMap labelLine (readLabels words bytes (childOf words r))) b j c k
       → Puts (definitionLines (defAt words bytes r)) a i c k
   unfolding definitionLines
   node-lines t p = then-puts own (puts-same (ap (flatMap labelLine) (sym (labels-kind words bytes r ∙ rw t refl))) p)

@@ -1,5 +1,5 @@
--- Laws by subject: pages, numbers in decimal, the fields of a definition, chains walked; then the words of an input, its size, what lowering
--- answers, and that the page is long enough.
+-- Laws by subject: pages, numbers in decimal, the fields of a definition, chains walked; then the words of an input, its size, what
+-- lowering answers, and that the page is long enough.
 pub mod Pages
 pub mod Decimals
 pub mod Letters

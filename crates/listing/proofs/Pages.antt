@@ -10,7 +10,7 @@ use lib.Dec.{ltb}
 use lib.ListN.{length, getD, take, drop, set, length-append, length-set, drop-of-length-le}
 use lib.Seq.{drop-cons, take-all, take-at, take-nil, drop-nil, set-append-seam, append-snoc}
 use Rattle.paths_numbers.proofs.Texts.{by-test}
-use Rattle.listing.specs.Page.{Page, pageAt, putByte, put, Puts, filled}
+use Rattle.listing.specs.machine.Page.{Page, pageAt, putByte, put, Puts, filled}
 
 -- a text and one behind it
 pub put-append : (s t : List ℕ) (p : Page) → put (s ++ t) p ≡ put t (put s p)
@@ -74,7 +74,8 @@ unfolding put putByte
 put-behind [] a b = rw (take-nil {A = ℕ} (length b), add-zero, append-nil) refl
 put-behind (t ∷ s) a [] =
     let n : length (a ++ []) ≡ length a = ap length (append-nil a) in
-    rw (le-ltb (length a) (length (a ++ [])) (omega arith)) (put-behind s a [] ∙ rw (drop-nil {A = ℕ} (length s), drop-nil {A = ℕ} (suc (length s))) refl)
+    rw (le-ltb (length a) (length (a ++ [])) (omega arith)) (put-behind s a []
+    ∙ rw (drop-nil {A = ℕ} (length s), drop-nil {A = ℕ} (suc (length s))) refl)
 put-behind (t ∷ s) a (c ∷ b) =
     let n : length (a ++ t ∷ []) ≡ length a + 1 = length-append a (t ∷ []) in
     let h : length a < length (a ++ c ∷ b) = simp length-append (omega arith) in

@@ -10,11 +10,11 @@ use lib.Dec.{eqb, leb, ltb}
 use lib.ListN.{length, take, drop, length-drop}
 use lib.Seq.{take-all, length-take-le}
 use Rattle.paths_numbers.proofs.Texts.{by-test, rest}
-use Rattle.input.specs.Input.{recordCount}
-use Rattle.input.specs.Rows.{mostRecords, mostText, wrongSize}
+use Rattle.input.specs.meaning.Input.{recordCount}
+use Rattle.input.specs.meaning.Rows.{mostRecords, mostText, wrongSize}
 use Rattle.input.proofs.RowsFound.{verdict-one}
-use Rattle.listing.specs.Listing.{refusalLine}
-use Rattle.listing.specs.Program.{wordBytes, wordsOf, countIn, textFrom, wordsIn, textIn, listed, printed}
+use Rattle.listing.specs.meaning.Listing.{refusalLine}
+use Rattle.listing.specs.meaning.Program.{wordBytes, wordsOf, countIn, textFrom, wordsIn, textIn, listed, printed}
 use Rattle.listing.proofs.InputWords.{words-length}
 
 -- too many records, and too much text
@@ -53,7 +53,8 @@ printed-listed input h = rw (le-ltb (length input) (textFrom input) h) refl
 -- one of too many records
 pub printed-many : (input : List ℕ) → textFrom input ≤ length input → mostRecords < countIn input → refusalLine 1 0 ≡ printed input
 printed-many input h k =
-    let n : recordCount (wordsIn input) ≡ countIn input = rw (words-length (countIn input * 8) (drop wordBytes input)) (mul-div-cancel (countIn input) (omega arith)) in
+    let n : recordCount (wordsIn input) ≡ countIn input = rw (words-length (countIn input * 8) (drop wordBytes input))
+    (mul-div-cancel (countIn input) (omega arith)) in
     wrong-listed (wordsIn input) (textIn input) (many-records (wordsIn input) (textIn input) (omega arith)) ∙ printed-listed input h
 
 -- as it is read: the words from index 4 on, the text from where it starts
@@ -75,7 +76,8 @@ long-printed input h =
     (λ u. printed-many input k (ltb-true _ _ u))
     (λ u.
     let m : countIn input ≤ mostRecords = ltb-false _ _ u in
-    wrong-listed (wordsIn input) (textIn input) (long-text (wordsIn input) (textIn input) (simp length-drop (omega arith))) ∙ printed-listed input k))
+    wrong-listed (wordsIn input) (textIn input) (long-text (wordsIn input) (textIn input) (simp length-drop (omega arith)))
+    ∙ printed-listed input k))
 
 pub first-read : (input : List ℕ) → printed (take 131077 input) ≡ printed input
 first-read input =

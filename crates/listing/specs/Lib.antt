@@ -1,5 +1,3 @@
-pub mod Listing
-pub mod ListingExample
-pub mod Page
-pub mod Program
-pub mod ProgramExample
+pub mod meaning
+pub mod machine
+pub mod examples

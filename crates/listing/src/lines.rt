@@ -2,14 +2,23 @@
 ghost use Prim.Native.Nat.{ℕ};
 ghost use mathlib.Core.Path.{_≡_};
 ghost use mathlib.Core.List.{List, flatMap};
-ghost use Rattle.making.specs.Recs.{meant};
-ghost use Rattle.log.specs.ReadBack.{spanAt, nameSpanAt, readLabels, defValueAt, defAt, bindingAt, diagAt};
-ghost use Rattle.listing.specs.Listing.{letter, pathField, definitionLine, labelLine, definitionLines, bindingLine, diagnosticLine, refusalLine};
-ghost use Rattle.listing.specs.Page.{Puts};
+ghost use Rattle.log.specs.machine.Parts.{meant};
+ghost use Rattle.log.specs.meaning.ReadBack.{spanAt, nameSpanAt, readLabels, defValueAt, defAt, bindingAt, diagAt};
+ghost use Rattle.listing.specs.meaning.Listing.{letter, pathField, definitionLine, labelLine, definitionLines, bindingLine};
+ghost use Rattle.listing.specs.meaning.Listing.{diagnosticLine, refusalLine};
+ghost use Rattle.listing.specs.machine.Page.{Puts};
 use crate::page::put_byte;
 use crate::page::put_number;
 use crate::page::put_span;
 use crate::page::put_text;
+use log::kinds::DELETED_NODE;
+use log::kinds::DELETED_PROPERTY;
+use log::kinds::NODE;
+use log::kinds::PLUGIN;
+use log::kinds::PROPERTY;
+use log::layout;
+use log::parts::name_span_of;
+use log::parts::span_of;
 use log::record::child_of;
 use log::record::first_text;
 use log::record::kind_of;
@@ -17,17 +26,12 @@ use log::record::log_count;
 use log::record::next_of;
 use log::record::out_field;
 use log::record::second_text;
-use making::recs::Span;
-use queries::definition::DELETED_NODE;
-use queries::definition::DELETED_PROPERTY;
-use queries::definition::NODE;
-use queries::definition::PLUGIN;
-use queries::definition::PROPERTY;
 use queries::definition::goes_on;
 
 // A definition with its labels.
 pub fn put_definition(words: &[u32], bytes: &[u8], r: u32, page: &mut [u8], at: usize) -> usize
-    ensures { λ to. ⌜ Puts (definitionLines (defAt (now (words .entry)) (now (bytes .entry)) r)) (now (page .entry)) at (now (page .exit)) to ⌝ }
+    ensures { λ to. ⌜ Puts (definitionLines (defAt (now (words .entry)) (now (bytes .entry)) r)) (now (page .entry)) at (now (page .exit))
+        to ⌝ }
 {
     let end = put_definition_line(words, bytes, r, page, at);
     if kind_of(words, r) == NODE {
@@ -38,7 +42,8 @@ pub fn put_definition(words: &[u32], bytes: &[u8], r: u32, page: &mut [u8], at: 
 
 // A definition's own line.
 fn put_definition_line(words: &[u32], bytes: &[u8], r: u32, page: &mut [u8], at: usize) -> usize
-    ensures { λ to. ⌜ Puts (definitionLine (defAt (now (words .entry)) (now (bytes .entry)) r)) (now (page .entry)) at (now (page .exit)) to ⌝ }
+    ensures { λ to. ⌜ Puts (definitionLine (defAt (now (words .entry)) (now (bytes .entry)) r)) (now (page .entry)) at (now (page .exit))
+        to ⌝ }
 {
     let head = [b'D', b' ', letter_of(words, r), b' '];
     let path = put_text(page, at, &head);
@@ -83,7 +88,8 @@ fn put_path(page: &mut [u8], at: usize, path: &[u8]) -> usize
 
 // A chain of labels.
 fn put_labels(words: &[u32], bytes: &[u8], first: u32, page: &mut [u8], at: usize) -> usize
-    ensures { λ to. ⌜ Puts (flatMap labelLine (readLabels (now (words .entry)) (now (bytes .entry)) first)) (now (page .entry)) at (now (page .exit)) to ⌝ }
+    ensures { λ to. ⌜ Puts (flatMap labelLine (readLabels (now (words .entry)) (now (bytes .entry)) first)) (now (page .entry)) at
+        (now (page .exit)) to ⌝ }
 {
     let mut to = at;
     let mut r = first;
@@ -107,7 +113,8 @@ fn put_label(page: &mut [u8], at: usize, label: &[u8]) -> usize
 
 // A binding.
 pub fn put_binding(words: &[u32], bytes: &[u8], r: u32, page: &mut [u8], at: usize) -> usize
-    ensures { λ to. ⌜ Puts (bindingLine (bindingAt (now (words .entry)) (now (bytes .entry)) r)) (now (page .entry)) at (now (page .exit)) to ⌝ }
+    ensures { λ to. ⌜ Puts (bindingLine (bindingAt (now (words .entry)) (now (bytes .entry)) r)) (now (page .entry)) at (now (page .exit))
+        to ⌝ }
 {
     let label = put_text(page, at, b"B ");
     let between = put_text(page, label, first_text(words, bytes, r));
@@ -119,10 +126,11 @@ pub fn put_binding(words: &[u32], bytes: &[u8], r: u32, page: &mut [u8], at: usi
 
 // A diagnostic, whatever its text is.
 pub fn put_diagnostic(words: &[u32], r: u32, page: &mut [u8], at: usize) -> usize
-    ensures { λ to. ⌜ ((bytes : List ℕ) → Puts (diagnosticLine (diagAt (now (words .entry)) bytes r)) (now (page .entry)) at (now (page .exit)) to) ⌝ }
+    ensures { λ to. ⌜ ((bytes : List ℕ) → Puts (diagnosticLine (diagAt (now (words .entry)) bytes r)) (now (page .entry)) at
+        (now (page .exit)) to) ⌝ }
 {
     let code = put_text(page, at, b"M ");
-    let span = put_number(page, code, out_field(words, r, 7));
+    let span = put_number(page, code, out_field(words, r, layout::N));
     let end = put_span(page, span, span_of(words, r));
     put_byte(page, end, b'\n')
 }
@@ -136,24 +144,4 @@ pub fn put_refusal(page: &mut [u8], at: usize, number: u32, returned: u32) -> us
     let second = put_byte(page, between, b' ');
     let end = put_number(page, second, returned);
     put_byte(page, end, b'\n')
-}
-
-// The span of a record.
-fn span_of(words: &[u32], r: u32) -> Span
-    ensures { λ s. ⌜ meant s ≡ spanAt (now (words .entry)) r ⌝ }
-{
-    Span {
-        from: out_field(words, r, 9),
-        to: out_field(words, r, 10),
-    }
-}
-
-// The name span of a record.
-fn name_span_of(words: &[u32], r: u32) -> Span
-    ensures { λ s. ⌜ meant s ≡ nameSpanAt (now (words .entry)) r ⌝ }
-{
-    Span {
-        from: out_field(words, r, 11),
-        to: out_field(words, r, 12),
-    }
 }

@@ -2,15 +2,16 @@
 ghost use Prim.Native.Nat.{ℕ};
 ghost use mathlib.Core.Path.{_≡_};
 ghost use mathlib.Core.List.{List, flatMap};
-ghost use Rattle.log.specs.ReadBack.{readDefs, readBindings, readDiags, readLog};
-ghost use Rattle.listing.specs.Listing.{definitionLines, bindingLine, diagnosticLine, listing, refusalLine};
-ghost use Rattle.listing.specs.Page.{pageAt, Puts, filled};
-ghost use Rattle.listing.specs.Program.{answerText};
+ghost use Rattle.log.specs.meaning.ReadBack.{readDefs, readBindings, readDiags, readLog};
+ghost use Rattle.listing.specs.meaning.Listing.{definitionLines, bindingLine, diagnosticLine, listing, refusalLine};
+ghost use Rattle.listing.specs.machine.Page.{pageAt, Puts, filled};
+ghost use Rattle.listing.specs.meaning.Program.{answerText};
 use crate::lines::put_binding;
 use crate::lines::put_definition;
 use crate::lines::put_diagnostic;
 use crate::lines::put_refusal;
 use crate::page::put_text;
+use log::layout;
 use log::record::log_count;
 use log::record::next_of;
 use log::record::out_field;
@@ -25,7 +26,8 @@ pub fn list_answer(
     bytes: &[u8],
     page: &mut [u8],
 ) -> usize
-    ensures { λ n. ⌜ pageAt (now (page .exit)) n ≡ filled (now (page .entry)) (answerText number returned (readLog (now (words .entry)) (now (bytes .entry)))) ⌝ }
+    ensures { λ n. ⌜ pageAt (now (page .exit)) n ≡ filled (now (page .entry))
+        (answerText number returned (readLog (now (words .entry)) (now (bytes .entry)))) ⌝ }
 {
     if number != 0 {
         return list_refusal(number, returned, page);
@@ -42,18 +44,37 @@ pub fn list_refusal(number: u32, returned: u32, page: &mut [u8]) -> usize
 
 // The same for a log.
 fn write_listing(words: &[u32], bytes: &[u8], page: &mut [u8]) -> usize
-    ensures { λ n. ⌜ pageAt (now (page .exit)) n ≡ filled (now (page .entry)) (listing (readLog (now (words .entry)) (now (bytes .entry)))) ⌝ }
+    ensures { λ n. ⌜ pageAt (now (page .exit)) n ≡ filled (now (page .entry))
+        (listing (readLog (now (words .entry)) (now (bytes .entry)))) ⌝ }
 {
-    let binds = put_definitions(words, bytes, out_field(words, 0, 1), page, 0);
-    let diags = put_bindings(words, bytes, out_field(words, 0, 3), page, binds);
-    let post = put_diagnostics(words, out_field(words, 0, 4), page, diags);
-    let end = put_diagnostics(words, out_field(words, 0, 6), page, post);
+    let binds = put_definitions(
+        words,
+        bytes,
+        out_field(words, 0, layout::FIRST_DEFINITION),
+        page,
+        0,
+    );
+    let diags = put_bindings(
+        words,
+        bytes,
+        out_field(words, 0, layout::FIRST_BINDING),
+        page,
+        binds,
+    );
+    let post = put_diagnostics(
+        words,
+        out_field(words, 0, layout::FIRST_DIAGNOSTIC),
+        page,
+        diags,
+    );
+    let end = put_diagnostics(words, out_field(words, 0, layout::FIRST_POST), page, post);
     put_text(page, end, b".\n")
 }
 
 // A chain of definitions.
 fn put_definitions(words: &[u32], bytes: &[u8], first: u32, page: &mut [u8], at: usize) -> usize
-    ensures { λ to. ⌜ Puts (flatMap definitionLines (readDefs (now (words .entry)) (now (bytes .entry)) first)) (now (page .entry)) at (now (page .exit)) to ⌝ }
+    ensures { λ to. ⌜ Puts (flatMap definitionLines (readDefs (now (words .entry)) (now (bytes .entry)) first)) (now (page .entry)) at
+        (now (page .exit)) to ⌝ }
 {
     let mut to = at;
     let mut r = first;
@@ -68,7 +89,8 @@ fn put_definitions(words: &[u32], bytes: &[u8], first: u32, page: &mut [u8], at:
 
 // A chain of bindings.
 fn put_bindings(words: &[u32], bytes: &[u8], first: u32, page: &mut [u8], at: usize) -> usize
-    ensures { λ to. ⌜ Puts (flatMap bindingLine (readBindings (now (words .entry)) (now (bytes .entry)) first)) (now (page .entry)) at (now (page .exit)) to ⌝ }
+    ensures { λ to. ⌜ Puts (flatMap bindingLine (readBindings (now (words .entry)) (now (bytes .entry)) first)) (now (page .entry)) at
+        (now (page .exit)) to ⌝ }
 {
     let mut to = at;
     let mut r = first;
@@ -83,7 +105,8 @@ fn put_bindings(words: &[u32], bytes: &[u8], first: u32, page: &mut [u8], at: us
 
 // A chain of diagnostics, whatever their texts are.
 fn put_diagnostics(words: &[u32], first: u32, page: &mut [u8], at: usize) -> usize
-    ensures { λ to. ⌜ ((bytes : List ℕ) → Puts (flatMap diagnosticLine (readDiags (now (words .entry)) bytes first)) (now (page .entry)) at (now (page .exit)) to) ⌝ }
+    ensures { λ to. ⌜ ((bytes : List ℕ) → Puts (flatMap diagnosticLine (readDiags (now (words .entry)) bytes first)) (now (page .entry)) at
+        (now (page .exit)) to) ⌝ }
 {
     let mut to = at;
     let mut r = first;

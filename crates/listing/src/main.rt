@@ -3,8 +3,8 @@ ghost use Prim.Native.Nat.{_*_, _≤_};
 ghost use mathlib.Core.Path.{_≡_};
 ghost use lib.ListN.{length, take};
 ghost use Rattle.io.specs.Counts.{Counts};
-ghost use Rattle.listing.specs.Page.{pageAt, filled};
-ghost use Rattle.listing.specs.Program.{wordBytes, mostWords, wordsOf, outLength, bytesLength, listed, printed, mostPrinted};
+ghost use Rattle.listing.specs.machine.Page.{pageAt, filled};
+ghost use Rattle.listing.specs.meaning.Program.{wordBytes, mostWords, wordsOf, outLength, bytesLength, listed, printed, mostPrinted};
 
 mod lines;
 mod listing;
@@ -74,7 +74,8 @@ fn list_input(input: &[u8], page: &mut [u8]) -> usize
 // The same for the bytes of `n` words, and a text.
 fn list_records(records: &[u8], n: usize, text: &[u8], page: &mut [u8]) -> usize
     requires { ⌜ (n * wordBytes ≤ length (now records)) × (n ≤ mostWords) ⌝ }
-    ensures { λ to. ⌜ pageAt (now (page .exit)) to ≡ filled (now (page .entry)) (listed (wordsOf n (now (records .entry))) (now (text .entry))) ⌝ }
+    ensures { λ to. ⌜ pageAt (now (page .exit)) to ≡ filled (now (page .entry))
+        (listed (wordsOf n (now (records .entry))) (now (text .entry))) ⌝ }
 {
     let mut words = [0u32; MOST_WORDS];
     read_words(records, n, &mut words);

@@ -1,10 +1,10 @@
 // Texts, numbers and spans put on a page, one behind the other. Each function answers where the next
 // one goes; what does not fit is cut at the page's end.
 ghost use mathlib.Core.List.{[], _∷_};
-ghost use Rattle.making.specs.Recs.{meant};
-ghost use Rattle.listing.specs.Listing.{decimal, spanField};
-ghost use Rattle.listing.specs.Page.{Puts};
-use making::recs::Span;
+ghost use Rattle.log.specs.machine.Parts.{meant};
+ghost use Rattle.listing.specs.meaning.Listing.{decimal, spanField};
+ghost use Rattle.listing.specs.machine.Page.{Puts};
+use log::parts::Span;
 
 // A byte.
 pub fn put_byte(page: &mut [u8], at: usize, b: u8) -> usize

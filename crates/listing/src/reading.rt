@@ -2,8 +2,8 @@
 ghost use Prim.Native.Nat.{_+_, _*_, _≤_};
 ghost use mathlib.Core.Path.{_≡_};
 ghost use lib.ListN.{length, drop};
-ghost use Rattle.paths_numbers.specs.Text.{written};
-ghost use Rattle.listing.specs.Program.{wordBytes, wordOf, wordsOf};
+ghost use Rattle.paths_numbers.specs.meaning.Text.{written};
+ghost use Rattle.listing.specs.meaning.Program.{wordBytes, wordOf, wordsOf};
 
 // The word at an index, low byte first.
 pub fn word_at(s: &[u8], at: usize) -> u32

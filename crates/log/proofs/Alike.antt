@@ -2,14 +2,15 @@
 use Prim.Native.Nat.{ℕ}
 use mathlib.Core.Path.{_≡_, sym, _∙_}
 use mathlib.Core.List.{List}
-use Rattle.log.specs.ReadBack.{Log, readLog}
-use Rattle.log.specs.Written.{Written}
+use Rattle.log.specs.meaning.ReadBack.{Log, readLog}
+use Rattle.log.specs.meaning.Written.{Written}
 
 pub written-alike : {w b w′ b′ : List ℕ} {n m n′ m′ : ℕ} {l l′ : Log} → Written w b n m l → Written w′ b′ n′ m′ l′ → l ≡ l′
     → readLog w b ≡ readLog w′ b′
 written-alike x y e = x .reads ∙ e ∙ sym (y .reads)
 
 -- and the other way round
-pub alike-written : {w b w′ b′ : List ℕ} {n m n′ m′ : ℕ} {l l′ : Log} → Written w b n m l → Written w′ b′ n′ m′ l′ → readLog w b ≡ readLog w′ b′
+pub alike-written : {w b w′ b′ : List ℕ} {n m n′ m′ : ℕ} {l l′ : Log} → Written w b n m l → Written w′ b′ n′ m′ l′
+    → readLog w b ≡ readLog w′ b′
     → l ≡ l′
 alike-written x y e = sym (x .reads) ∙ e ∙ y .reads

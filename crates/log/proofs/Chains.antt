@@ -9,12 +9,13 @@ use borrow.Author.Tests.{eq-eqb, eqb-true, eqb-false}
 use lib.Dec.{eqb}
 use lib.ListN.{length}
 use Rattle.paths_numbers.proofs.Texts.{by-test}
-use Rattle.log.specs.Record.{kindOf, nextOf, childOf, mOf, extensionKind, hasChildren, logCount, leads}
-use Rattle.log.specs.ReadBack.{chainFrom, chainOf}
-use Rattle.log.specs.Sound.{Place, times, sound, lowestFault, soundness}
+use Rattle.log.specs.meaning.Record.{kindOf, nextOf, childOf, mOf, extensionKind, hasChildren, logCount, leads}
+use Rattle.log.specs.meaning.ReadBack.{chainFrom, chainOf}
+use Rattle.log.specs.meaning.Sound.{Place, times, sound, lowestFault, soundness}
 use Rattle.log.proofs.Counts.{times-same, times-more, unmet, unmet-le, unmet-new}
 use Rattle.log.proofs.Walk.{toOf, outs, outs-followed, two-followed}
-use Rattle.log.proofs.Reached.{Reached, EndOrReached, sound-rules, reached-leads, reached-inside, reached-once, next-reached, child-reached, body-reached, times-to, times-outs, Head, head-led, head-reached}
+use Rattle.log.proofs.Reached.{Reached, EndOrReached, sound-rules, reached-leads, reached-inside, reached-once, next-reached}
+use Rattle.log.proofs.Reached.{child-reached, body-reached, times-to, times-outs, Head, head-led, head-reached}
 
 -- a record that is next to no record that is reached: a chain starts there
 abbrev pub Start : List ℕ → ℕ → Type 0
@@ -54,7 +55,8 @@ none-from zero words = refl
 none-from (suc left) words = refl
 
 -- one that starts at a record has it first
-from-suc : (left : ℕ) (words : List ℕ) (r : ℕ) → leads words r ≡ true → chainFrom (suc left) words r ≡ r ∷ chainFrom left words (nextOf words r)
+from-suc : (left : ℕ) (words : List ℕ) (r : ℕ) → leads words r ≡ true
+    → chainFrom (suc left) words r ≡ r ∷ chainFrom left words (nextOf words r)
 unfolding chainFrom
 from-suc left words r e = rw e refl
 
@@ -74,7 +76,12 @@ before {words} {t} {r = r} (past {v} {r = q} p m e) h x k =
   where
     go : (x ≡ t) ⊎ Before words v x → (x ≡ t) ⊎ Before words (q ∷ v) x
     go (inl z) = inl z
-    go (inr b) = inr (record { it = b .it; passed = omega (arith, b .passed, times-more q (b .it) v); reached = b .reached; next = b .next })
+    go (inr b) = inr (record {
+      it = b .it;
+      passed = omega (arith, b .passed, times-more q (b .it) v);
+      reached = b .reached;
+      next = b .next;
+    })
 
 module _ (words bytes : List ℕ) (ok : lowestFault words bytes ≡ sound) where
   -- no two records that are reached have one next record
@@ -133,7 +140,8 @@ module _ (words bytes : List ℕ) (ok : lowestFault words bytes ≡ sound) where
         (λ f. let z : times a v ≡ 0 = rw (eqb-true q a f) at (new p m) in rw f (omega arith))
         (λ f. rw f (omega (arith, once-in p a)))
 
-    once-from : (left : ℕ) {v : List ℕ} {r : ℕ} → Passed words t v r → EndOrReached words r → (a : ℕ) → times a v + times a (chainFrom left words r) ≤ 1
+    once-from : (left : ℕ) {v : List ℕ} {r : ℕ} → Passed words t v r → EndOrReached words r → (a : ℕ)
+        → times a v + times a (chainFrom left words r) ≤ 1
     unfolding chainFrom times
     once-from zero p q a = omega (arith, once-in p a)
     once-from (suc left) p (inl z) a = rw z (omega (arith, once-in p a))
@@ -253,8 +261,8 @@ chain-reached (ends z) a h = absurd (omega arith)
 chain-reached (goes-on {r} k c) a h =
     by-test (eqb r a) (λ e. rw (eqb-true r a e) at k) (λ e. chain-reached c a (omega (arith, rw e at h)))
 
--- what a walk along a chain can count on: its records lie in the log, none is record 0 or stands twice in it, each is next to the one before,
--- and 0 ends it
+-- what a walk along a chain can count on: its records lie in the log, none is record 0 or stands twice in it, each is next to the one
+-- before, and 0 ends it
 pub record ChainReads (words : List ℕ) (t : ℕ) : Type 0 where
   pub inside : (a : ℕ) → 1 ≤ times a (chainOf words t) → (0 < a) × (a < logCount words)
   pub once : (a : ℕ) → times a (chainOf words t) ≤ 1

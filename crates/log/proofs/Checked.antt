@@ -8,9 +8,9 @@ use borrow.Author.Tests.{eqb-true, eqb-false}
 use lib.Dec.{eqb, leb}
 use lib.ListN.{length, getD, replicate, length-replicate, getD-replicate}
 use Rattle.paths_numbers.proofs.Texts.{by-test, not-both}
-use Rattle.log.specs.Record.{recordWords, mostRecords, outCount, logCount}
-use Rattle.log.specs.Sound.{Soundness, broken, soundness, lowestFault, firstFault, followed, headsOut, wrongCount}
-use Rattle.log.specs.Walk.{allMarks, faultBy, firstBy}
+use Rattle.log.specs.meaning.Record.{recordWords, mostRecords, outCount, logCount}
+use Rattle.log.specs.meaning.Sound.{Soundness, broken, soundness, lowestFault, firstFault, followed, headsOut, wrongCount}
+use Rattle.log.specs.machine.Walk.{allMarks, faultBy, firstBy}
 use Rattle.log.proofs.Marks.{marked, first-by-marks}
 use Rattle.log.proofs.Walked.{marks-say}
 
@@ -43,7 +43,8 @@ lowest-by-marks w b x s h =
     go n k e rest = rw (e, rest) refl
 
 -- the lowest record at fault, of marks that start as zeros
-pub checked : (n : ℕ) (w b m q x : List ℕ) (f : Soundness) → x ≡ allMarks w m q → f ≡ firstBy (logCount w) w b x 0 → m ≡ replicate n 0 → q ≡ replicate n 0 → logCount w ≤ n
+pub checked : (n : ℕ) (w b m q x : List ℕ) (f : Soundness) → x ≡ allMarks w m q → f ≡ firstBy (logCount w) w b x 0 → m ≡ replicate n 0
+    → q ≡ replicate n 0 → logCount w ≤ n
     → wrongCount w ≡ false → f ≡ soundness w b
 unfolding soundness
 checked n w b m q x f e g a d h t =

@@ -7,7 +7,7 @@ use native.Mathlib.Omega.{arith}
 use borrow.Author.Tests.{eq-eqb, ne-eqb, eqb-true, eqb-false}
 use lib.Dec.{eqb}
 use Rattle.paths_numbers.proofs.Texts.{by-test}
-use Rattle.log.specs.Sound.{times}
+use Rattle.log.specs.meaning.Sound.{times}
 
 -- over two lists
 pub times-append : (r : ℕ) (x y : List ℕ) → times r (x ++ y) ≡ times r x + times r y
@@ -70,7 +70,8 @@ unmet-new (suc n) a l h e =
     (λ t.
     let q = eqb-true a n t in
     let k : eqb (times n l) 0 ≡ true = eq-eqb (times n l) 0 (rw q at e) in
-    let m : eqb (times n (a ∷ l)) 0 ≡ false = ne-eqb (times n (a ∷ l)) 0 (λ (z : times n (a ∷ l) ≡ 0). omega (arith, times-same n l, rw q at z)) in
+    let m : eqb (times n (a ∷ l)) 0 ≡ false = ne-eqb (times n (a ∷ l)) 0
+    (λ (z : times n (a ∷ l) ≡ 0). omega (arith, times-same n l, rw q at z)) in
     rw (k, m) (omega (arith, unmet-more n a l)))
     (λ t.
     let q = eqb-false a n t in

@@ -11,9 +11,10 @@ use lib.Dec.{eqb, leb}
 use lib.ListN.{length, getD, set, take, length-set, length-map}
 use lib.Seq.{take-suc-set, length-take-le, take-all}
 use Rattle.paths_numbers.proofs.Texts.{by-test}
-use Rattle.log.specs.Record.{kindOf, nextOf, childOf, mOf, firstDef, firstExt, firstBind, firstDiag, firstPost, hasChildren, extensionKind, logCount, leads, outCount, mostRecords}
-use Rattle.log.specs.Sound.{Place, definitions, Link, below, linkTo, linksOf, headLinks}
-use Rattle.log.specs.Walk.{placeOf, linkIn, linkOf, stored, firstMark, Held, held, follow, followAll}
+use Rattle.log.specs.meaning.Record.{kindOf, nextOf, childOf, mOf, firstDef, firstExt, firstBind, firstDiag, firstPost, hasChildren}
+use Rattle.log.specs.meaning.Record.{extensionKind, logCount, leads, outCount, mostRecords}
+use Rattle.log.specs.meaning.Sound.{Place, definitions, Link, below, linkTo, linksOf, headLinks}
+use Rattle.log.specs.machine.Walk.{placeOf, linkIn, linkOf, stored, firstMark, Held, held, follow, followAll}
 
 -- a link in one word
 pub link-word : (r place : ℕ) → place < 8 → linkOf (r * 8 + place) ≡ linkIn r place
@@ -29,7 +30,8 @@ map-last [] c = refl
 map-last (a ∷ l) c = rw (map-last l c) refl
 
 -- put behind the others it is the last
-pub put-last : (q : List ℕ) (n r place : ℕ) → n < length q → place < 8 → map linkOf (take (n + 1) (set q n (r * 8 + place))) ≡ map linkOf (take n q) ++ linkIn r place ∷ []
+pub put-last : (q : List ℕ) (n r place : ℕ) → n < length q → place < 8
+    → map linkOf (take (n + 1) (set q n (r * 8 + place))) ≡ map linkOf (take n q) ++ linkIn r place ∷ []
 put-last q n r place h k = rw (add-one, take-suc-set q n (r * 8 + place) h, map-last (take n q) (r * 8 + place), link-word r place k) refl
 
 -- how many links the first n words are
@@ -59,7 +61,8 @@ module _ (w m q : List ℕ) (n r place : ℕ) where
   link-full m' t z e h = rw (t, z, e, length-met-all q n h, le-ltb (length q) (length q) (omega arith)) refl
 
   -- and with room
-  pub link-first : (m' : List ℕ) → leads w r ≡ true → getD m r 0 ≡ 0 → m' ≡ stored m r (firstMark w (linkIn r place)) → n < length q → place < 8
+  pub link-first : (m' : List ℕ) → leads w r ≡ true → getD m r 0 ≡ 0 → m' ≡ stored m r (firstMark w (linkIn r place)) → n < length q
+      → place < 8
       → held m' (set q n (r * 8 + place)) (n + 1) ≡ followAll w (linkTo w r (placeOf place)) (held m q n)
   unfolding followAll linkTo follow held
   link-first m' t z e h k =

@@ -19,3 +19,4 @@ pub mod Marks
 pub mod Walked
 pub mod Search
 pub mod Checked
+pub mod Answers

@@ -8,8 +8,10 @@ use native.Mathlib.Omega.{arith}
 use borrow.Author.Tests.{eq-eqb, eqb-true}
 use lib.Dec.{eqb}
 use Rattle.paths_numbers.proofs.Texts.{by-test}
-use Rattle.log.specs.Record.{kindOf, nextOf, childOf, mOf, firstDef, firstExt, firstBind, firstDiag, firstPost, extensionKind, hasChildren, leads}
-use Rattle.log.specs.Sound.{Place, definitions, extensions, bindings, diagnostics, below, Link, linkTo, headLinks, linksOf, targets, times, walk, mostLinks, followed, timesReached}
+use Rattle.log.specs.meaning.Record.{kindOf, nextOf, childOf, mOf, firstDef, firstExt, firstBind, firstDiag, firstPost, extensionKind}
+use Rattle.log.specs.meaning.Record.{hasChildren, leads}
+use Rattle.log.specs.meaning.Sound.{Place, definitions, extensions, bindings, diagnostics, below, Link, linkTo, headLinks, linksOf}
+use Rattle.log.specs.meaning.Sound.{targets, times, walk, mostLinks, followed, timesReached}
 use Rattle.log.proofs.Walk.{heads-followed, outs-followed}
 use Rattle.log.proofs.Reached.{Reached, times-to, times-outs, Head, defs, exts, binds, diags, post, head-led}
 
@@ -26,12 +28,30 @@ pub data Linked (words : List ℕ) : ℕ → Place → Type 0 where
 pub linked-reached : {words : List ℕ} {r : ℕ} {p : Place} → Linked words r p → Reached words r
 linked-reached {words} (from-head {t} x l) = omega (arith, head-led x l, heads-followed words t)
 linked-reached {words} (by-next {r} k l) =
-    omega (arith, outs-followed words r (nextOf words r) (linked-reached k), times-outs words r (nextOf words r), times-to words (nextOf words r) l)
+    omega (
+      arith,
+      outs-followed words r (nextOf words r) (linked-reached k),
+      times-outs words r (nextOf words r),
+      times-to words
+          (nextOf words r) l,
+    )
 linked-reached {words} (by-child {r} k c l) =
-    omega (arith, outs-followed words r (childOf words r) (linked-reached k), rw c at (times-outs words r (childOf words r)), times-to words (childOf words r) l)
+    omega (
+      arith,
+      outs-followed words r (childOf words r) (linked-reached k),
+      rw c at (times-outs words r (childOf words r)),
+      times-to words
+          (childOf words r) l,
+    )
 linked-reached {words} (by-body {r} k e l) =
     let c : eqb (kindOf words r) extensionKind ≡ true = eq-eqb (kindOf words r) extensionKind e in
-    omega (arith, outs-followed words r (mOf words r) (linked-reached k), rw c at (times-outs words r (mOf words r)), times-to words (mOf words r) l)
+    omega (
+      arith,
+      outs-followed words r (mOf words r) (linked-reached k),
+      rw c at (times-outs words r (mOf words r)),
+      times-to words
+          (mOf words r) l,
+    )
 
 -- links to such records
 data AllLinked (words : List ℕ) : List Link → Type 0 where
@@ -55,8 +75,10 @@ unfolding linksOf
 linked-of words l k =
     both-linked
     (both-linked (linked-to words (nextOf words (l .to)) (l .place) (by-next k))
-    (linked-if (hasChildren (kindOf words (l .to))) (λ c. linked-to words (childOf words (l .to)) (below (kindOf words (l .to))) (by-child k c))))
-    (linked-if (eqb (kindOf words (l .to)) extensionKind) (λ c. linked-to words (mOf words (l .to)) definitions (by-body k (eqb-true (kindOf words (l .to)) extensionKind c))))
+    (linked-if (hasChildren (kindOf words (l .to))) (λ c. linked-to words (childOf words (l .to)) (below (kindOf words (l .to)))
+    (by-child k c))))
+    (linked-if (eqb (kindOf words (l .to)) extensionKind) (λ c. linked-to words (mOf words (l .to)) definitions
+    (by-body k (eqb-true (kindOf words (l .to)) extensionKind c))))
 
 linked-heads : (words : List ℕ) → AllLinked words (headLinks words)
 unfolding headLinks
@@ -64,12 +86,14 @@ linked-heads words =
     both-linked
     (both-linked
     (both-linked
-    (both-linked (linked-to words (firstDef words) definitions (from-head defs)) (linked-to words (firstExt words) extensions (from-head exts)))
+    (both-linked (linked-to words (firstDef words) definitions (from-head defs))
+    (linked-to words (firstExt words) extensions (from-head exts)))
     (linked-to words (firstBind words) bindings (from-head binds)))
     (linked-to words (firstDiag words) diagnostics (from-head diags)))
     (linked-to words (firstPost words) diagnostics (from-head post))
 
-linked-walk : (left : ℕ) (words met : List ℕ) {waiting : List Link} → AllLinked words waiting → AllLinked words (walk left words met waiting)
+linked-walk : (left : ℕ) (words met : List ℕ) {waiting : List Link} → AllLinked words waiting
+    → AllLinked words (walk left words met waiting)
 unfolding walk
 linked-walk zero words met h = no-link
 linked-walk (suc left) words met no-link = no-link

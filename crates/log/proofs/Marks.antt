@@ -10,9 +10,10 @@ use borrow.Author.Tests.{le-leb, lt-leb, eqb-true, leb-true, leb-false, ne-eqb}
 use lib.Dec.{eqb, leb}
 use lib.ListN.{getD}
 use Rattle.paths_numbers.proofs.Texts.{by-test}
-use Rattle.log.specs.Record.{oneOf, kindOf}
-use Rattle.log.specs.Sound.{Link, kindsIn, targets, times, timesReached, unfit, anyOf, linksOut, textsOut, recordFault, atFault, firstFault}
-use Rattle.log.specs.Walk.{firstMark, nextMark, recordWrong, faultBy, firstBy}
+use Rattle.log.specs.meaning.Record.{oneOf, kindOf}
+use Rattle.log.specs.meaning.Sound.{Link, kindsIn, targets, times, timesReached, unfit, anyOf, linksOut, textsOut, recordFault}
+use Rattle.log.specs.meaning.Sound.{atFault, firstFault}
+use Rattle.log.specs.machine.Walk.{firstMark, nextMark, recordWrong, faultBy, firstBy}
 
 -- the mark of a record after links, from the one it has
 unfoldable pub marked : List ℕ → List Link → ℕ → ℕ → ℕ
@@ -98,4 +99,9 @@ pub first-by-marks : (left : ℕ) (w b m : List ℕ) (ls : List Link) (r : ℕ) 
 unfolding firstBy firstFault
 first-by-marks zero w b m ls r p h = refl
 first-by-marks (suc left) w b m ls r p h =
-    rw (h r (omega arith), fault-by-mark w b ls r (ne-eqb r 0 (λ e. omega (arith, e))), first-by-marks left w b m ls (r + 1) (omega arith) (λ k l. h k (omega arith))) refl
+    rw (
+      h r (omega arith),
+      fault-by-mark w b ls r (ne-eqb r 0 (λ e. omega (arith, e))),
+      first-by-marks left w b m ls (r + 1) (omega arith)
+          (λ k l. h k (omega arith)),
+    ) refl

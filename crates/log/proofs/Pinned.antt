@@ -8,16 +8,23 @@ use native.Mathlib.Omega.{arith}
 use borrow.Author.Tests.{ne-eqb, eqb-true, eqb-false, le-leb, lt-leb}
 use lib.Dec.{eqb}
 use lib.ListN.{length, getD, take, drop}
-use Rattle.paths_numbers.specs.Reference.{Target, label, labelPath, path, unreadable, labelOf, pathOf}
+use Rattle.paths_numbers.specs.meaning.Reference.{Target, label, labelPath, path, unreadable, labelOf, pathOf}
 use Rattle.paths_numbers.proofs.Texts.{by-test, not-both}
-use Rattle.log.specs.Meaning.{Span, Cell, number, reference, Value, string, cellList, bytestring, phandle, DefValue, node, property, deletedNode, deletedProperty, version, plugin, Def, Ext, Binding, Diag}
-use Rattle.log.specs.Record.{recordWords, outField, kindOf, nextOf, textStart, textLength, secondStart, secondLength, childOf, nOf, mOf, extensionKind, referenceKind, oneOf, defKinds, hasChildren, hasSpan, hasNameSpan, firstText, secondText}
-use Rattle.log.specs.ReadBack.{chainOf, spanAt, nameSpanAt, targetAt, readLabels, cellAt, readCells, valueAt, readValues, defValueAt, defAt, readDefs, extTarget, extAt, readExts, bindingAt, readBindings, diagAt, readDiags, Log, readLog}
-use Rattle.log.specs.Sound.{Place, definitions, extensions, bindings, diagnostics, labels, values, cells, references, kindsIn, below, followed, timesReached, sound, lowestFault}
-use Rattle.log.specs.Written.{hasText, hasSecondText, hasN, hasM, named, Kept, Written}
-use Rattle.log.specs.Alike.{AlikeWords, AlikeAll, none, more, AlikeValue, AlikeDef, AlikeExt, AlikeLog, Words32}
+use Rattle.log.specs.meaning.Contents.{Span, Cell, number, reference, Value, string, cellList, bytestring, phandle, DefValue, node}
+use Rattle.log.specs.meaning.Contents.{property, deletedNode, deletedProperty, version, plugin, Def, Ext, Binding, Diag}
+use Rattle.log.specs.meaning.Record.{recordWords, outField, kindOf, nextOf, textStart, textLength, secondStart, secondLength, childOf}
+use Rattle.log.specs.meaning.Record.{nOf, mOf, extensionKind, referenceKind, oneOf, defKinds, hasChildren, hasSpan, hasNameSpan}
+use Rattle.log.specs.meaning.Record.{firstText, secondText}
+use Rattle.log.specs.meaning.ReadBack.{chainOf, spanAt, nameSpanAt, targetAt, readLabels, cellAt, readCells, valueAt, readValues}
+use Rattle.log.specs.meaning.ReadBack.{defValueAt, defAt, readDefs, extTarget, extAt, readExts, bindingAt, readBindings, diagAt}
+use Rattle.log.specs.meaning.ReadBack.{readDiags, Log, readLog}
+use Rattle.log.specs.meaning.Sound.{Place, definitions, extensions, bindings, diagnostics, labels, values, cells, references, kindsIn}
+use Rattle.log.specs.meaning.Sound.{below, followed, timesReached, sound, lowestFault}
+use Rattle.log.specs.meaning.Written.{hasText, hasSecondText, hasN, hasM, named, Kept, Written}
+use Rattle.log.specs.meaning.Alike.{AlikeWords, AlikeAll, none, more, AlikeValue, AlikeDef, AlikeExt, AlikeLog, Words32}
 use Rattle.log.proofs.Reached.{Reached, reached-leads, reached-inside, text-length, childless, Head, defs, exts, binds, diags, post}
-use Rattle.log.proofs.Chains.{Chain, ends, goes-on, Starts, chain-list, chain-end, along-start, along-chain, head-starts, child-starts, body-starts}
+use Rattle.log.proofs.Chains.{Chain, ends, goes-on, Starts, chain-list, chain-end, along-start, along-chain, head-starts}
+use Rattle.log.proofs.Chains.{child-starts, body-starts}
 use Rattle.log.proofs.Places.{Stands, EndOrStands, stands-reached, stands-kind, next-stands, child-stands, body-stands, head-stands}
 
 -- one of several kinds
@@ -50,7 +57,8 @@ pub data AllStand (w : List ℕ) (p : Place) : List ℕ → Type 0 where
   no-record : AllStand w p []
   one-record : {r : ℕ} {rs : List ℕ} → Stands w r p → AllStand w p rs → AllStand w p (r ∷ rs)
 
-pub chain-stands : (w b : List ℕ) → lowestFault w b ≡ sound → (p : Place) {t : ℕ} {rs : List ℕ} → Chain w t rs → EndOrStands w t p → AllStand w p rs
+pub chain-stands : (w b : List ℕ) → lowestFault w b ≡ sound → (p : Place) {t : ℕ} {rs : List ℕ} → Chain w t rs → EndOrStands w t p
+    → AllStand w p rs
 chain-stands w b ok p (ends z) e = no-record
 chain-stands w b ok p (goes-on {r} h c) (inl z) = absurd (omega (arith, reached-inside w r h))
 chain-stands w b ok p (goes-on {r} h c) (inr i) = one-record i (chain-stands w b ok p c (next-stands w b ok r p i))
@@ -94,12 +102,14 @@ module _ (w b : List ℕ) (r : ℕ) where
   target-label : oneOf (nOf w r) (1 ∷ 2 ∷ []) ≡ true → labelOf (targetAt w b r) ≡ firstText w b r
   unfolding targetAt
   target-label h =
-      by-kind (λ k. nOf w r ≡ k → labelOf (targetAt w b r) ≡ firstText w b r) (also (λ e. rw e refl) (also (λ e. rw e refl) done)) (nOf w r) h refl
+      by-kind (λ k. nOf w r ≡ k → labelOf (targetAt w b r) ≡ firstText w b r) (also (λ e. rw e refl) (also (λ e. rw e refl) done)) (nOf w r)
+      h refl
 
   target-path : oneOf (nOf w r) (2 ∷ 3 ∷ []) ≡ true → pathOf (targetAt w b r) ≡ secondText w b r
   unfolding targetAt
   target-path h =
-      by-kind (λ k. nOf w r ≡ k → pathOf (targetAt w b r) ≡ secondText w b r) (also (λ e. rw e refl) (also (λ e. rw e refl) done)) (nOf w r) h refl
+      by-kind (λ k. nOf w r ≡ k → pathOf (targetAt w b r) ≡ secondText w b r) (also (λ e. rw e refl) (also (λ e. rw e refl) done)) (nOf w r)
+      h refl
 
 -- the kind of what is read
 cellKind : Cell → ℕ
@@ -136,7 +146,8 @@ module _ (w b : List ℕ) (r : ℕ) where
   unfolding defKind defValueAt
   def-kind h =
       by-kind (λ k. kindOf w r ≡ k → defKind (defValueAt w b r) ≡ k)
-      (also (λ e. rw e refl) (also (λ e. rw e refl) (also (λ e. rw e refl) (also (λ e. rw e refl) (also (λ e. rw e refl) (also (λ e. rw e refl) done))))))
+      (also (λ e. rw e refl) (also (λ e. rw e refl) (also (λ e. rw e refl)
+      (also (λ e. rw e refl) (also (λ e. rw e refl) (also (λ e. rw e refl) done))))))
       (kindOf w r) h refl
 
   -- what is read of a record of a known kind
@@ -199,7 +210,8 @@ def-n : (k : ℕ) → oneOf k defKinds ≡ true → hasN k ≡ true → k ≡ 1
 unfolding oneOf
 def-n k e =
     by-kind (λ a. hasN a ≡ true → a ≡ 1)
-    (also (λ z. refl) (also (λ z. absurd (not-both z refl)) (also (λ z. absurd (not-both z refl)) (also (λ z. absurd (not-both z refl)) (also (λ z. absurd (not-both z refl)) (also (λ z. absurd (not-both z refl)) done))))))
+    (also (λ z. refl) (also (λ z. absurd (not-both z refl)) (also (λ z. absurd (not-both z refl))
+    (also (λ z. absurd (not-both z refl)) (also (λ z. absurd (not-both z refl)) (also (λ z. absurd (not-both z refl)) done))))))
     k e
 
 -- a chain of one record
@@ -215,7 +227,17 @@ led t (inr a) n = a
 named-last : (k n i : ℕ) → 13 ≤ i → named k n i ≡ false
 unfolding named
 named-last k n i h =
-    simp (lt-leb i 1 (omega arith), lt-leb i 3 (omega arith), lt-leb i 5 (omega arith), ne-eqb i 6 (λ e. omega arith), ne-eqb i 7 (λ e. omega arith), ne-eqb i 8 (λ e. omega arith), lt-leb i 10 (omega arith), lt-leb i 12 (omega arith))
+    simp (
+      lt-leb i 1 (omega arith),
+      lt-leb i 3 (omega arith),
+      lt-leb i 5 (omega arith),
+      ne-eqb i 6 (λ e. omega arith),
+      ne-eqb i 7
+          (λ e. omega arith),
+      ne-eqb i 8 (λ e. omega arith),
+      lt-leb i 10 (omega arith),
+      lt-leb i 12 (omega arith),
+    )
 
 -- a text without bytes
 no-bytes : (bytes : List ℕ) (start size : ℕ) → size ≡ 0 → _≡_ {A = List ℕ} (take size (drop start bytes)) []
@@ -239,7 +261,8 @@ module _ {w b v c : List ℕ} {n m n′ m′ : ℕ} {l l′ : Log} (x : Written 
 
     module _ (same : nOf w r ≡ nOf v s) where
       -- a word that is not named
-      same-word : (i : ℕ) → i < recordWords → (named (kindOf w r) (nOf w r) i ≡ true → outField w r i ≡ outField v s i) → outField w r i ≡ outField v s i
+      same-word : (i : ℕ) → i < recordWords → (named (kindOf w r) (nOf w r) i ≡ true → outField w r i ≡ outField v s i)
+          → outField w r i ≡ outField v s i
       same-word i j f =
           by-test (named (kindOf w r) (nOf w r) i) f
           (λ e. kept-left .unnamed i j e ∙ sym (kept-right .unnamed i j (rw (kind, same) at e)))
@@ -252,7 +275,8 @@ module _ {w b v c : List ℕ} {n m n′ m′ : ℕ} {l l′ : Log} (x : Written 
           no-bytes b (textStart w r) (textLength w r) (kept-left .unnamed 3 (omega arith) e)
           ∙ sym (no-bytes c (textStart v s) (textLength v s) (kept-right .unnamed 3 (omega arith) (rw (kind, same) at e))))
 
-      same-second : (hasSecondText (kindOf w r) (nOf w r) ≡ true → secondText w b r ≡ secondText v c s) → secondText w b r ≡ secondText v c s
+      same-second : (hasSecondText (kindOf w r) (nOf w r) ≡ true → secondText w b r ≡ secondText v c s)
+          → secondText w b r ≡ secondText v c s
       unfolding named
       same-second f =
           by-test (hasSecondText (kindOf w r) (nOf w r)) f
@@ -286,19 +310,24 @@ module _ {w b v c : List ℕ} {n m n′ m′ : ℕ} {l l′ : Log} (x : Written 
           }
 
   -- a chain, where its records are alike
-  chains : {A : Type 0} (f g : ℕ → A) (R : ℕ → ℕ → Type 0) (p : Place) (t u : ℕ) → Starts w t → Starts v u → EndOrStands w t p → EndOrStands v u p
-      → ((r s : ℕ) → Stands w r p → Stands v s p → f r ≡ g s → R r s) → map f (chainOf w t) ≡ map g (chainOf v u) → AlikeAll R (chainOf w t) (chainOf v u)
+  chains : {A : Type 0} (f g : ℕ → A) (R : ℕ → ℕ → Type 0) (p : Place) (t u : ℕ) → Starts w t → Starts v u → EndOrStands w t p
+      → EndOrStands v u p
+      → ((r s : ℕ) → Stands w r p → Stands v s p → f r ≡ g s → R r s) → map f (chainOf w t) ≡ map g (chainOf v u)
+      → AlikeAll R (chainOf w t) (chainOf v u)
   chains f g R p t u a d i j h e =
-      zip f g R (chain-stands w b (x .rules) p (chain-list w b (x .rules) t a) i) (chain-stands v c (y .rules) p (chain-list v c (y .rules) u d) j) h e
+      zip f g R (chain-stands w b (x .rules) p (chain-list w b (x .rules) t a) i)
+      (chain-stands v c (y .rules) p (chain-list v c (y .rules) u d) j) h e
 
   -- records without children
-  no-children : (R : ℕ → ℕ → Type 0) (r s : ℕ) → Reached w r → Reached v s → hasChildren (kindOf w r) ≡ false → hasChildren (kindOf v s) ≡ false
+  no-children : (R : ℕ → ℕ → Type 0) (r s : ℕ) → Reached w r → Reached v s → hasChildren (kindOf w r) ≡ false
+      → hasChildren (kindOf v s) ≡ false
       → AlikeAll R (chainOf w (childOf w r)) (chainOf v (childOf v s))
   no-children R r s h k e f = rw (childless w b (x .rules) r h e, childless v c (y .rules) s k f, chain-end w, chain-end v) none
 
   module _ (r s : ℕ) (h : Reached w r) (k : Reached v s) where
     -- records that have a text and no more: labels, strings, bytestrings
-    only-text : (a : ℕ) → kindOf w r ≡ a → kindOf v s ≡ a → hasN a ≡ false → ((i : ℕ) → hasSecondText a i ≡ false) → hasM a ≡ false → hasSpan a ≡ false
+    only-text : (a : ℕ) → kindOf w r ≡ a → kindOf v s ≡ a → hasN a ≡ false → ((i : ℕ) → hasSecondText a i ≡ false) → hasM a ≡ false
+        → hasSpan a ≡ false
         → hasNameSpan a ≡ false → firstText w b r ≡ firstText v c s → AlikeWords w b v c r s
     only-text a e f n₀ s₀ m₀ p₀ q₀ t =
         own r s h k (e ∙ sym f) (same-n r s h k (e ∙ sym f) (λ z. absurd (not-both (rw e at z) n₀)))
@@ -448,7 +477,8 @@ module _ {w b v c : List ℕ} {n m n′ m′ : ℕ} {l l′ : Log} (x : Written 
         }
 
     -- definitions
-    def-own : (r s : ℕ) → Stands w r definitions → Stands v s definitions → kindOf w r ≡ kindOf v s → defAt w b r ≡ defAt v c s → AlikeWords w b v c r s
+    def-own : (r s : ℕ) → Stands w r definitions → Stands v s definitions → kindOf w r ≡ kindOf v s → defAt w b r ≡ defAt v c s
+        → AlikeWords w b v c r s
     unfolding defAt
     def-own r s i j kind t =
         own r s h k kind (same-n r s h k kind (λ z. go (def-n (kindOf w r) kr z)))
@@ -518,7 +548,8 @@ module _ {w b v c : List ℕ} {n m n′ m′ : ℕ} {l l′ : Log} (x : Written 
     unfolding defAt
     def-alike r s i j t =
         let value = ap (λ (d : Def). d .value) t in
-        let kind : kindOf w r ≡ kindOf v s = sym (def-kind w b r (stands-kind w b (x .rules) r definitions i)) ∙ ap defKind value ∙ def-kind v c s (stands-kind v c (y .rules) s definitions j) in
+        let kind : kindOf w r ≡ kindOf v s = sym (def-kind w b r (stands-kind w b (x .rules) r definitions i)) ∙ ap defKind value
+        ∙ def-kind v c s (stands-kind v c (y .rules) s definitions j) in
         record { own = def-own r s i j kind t; below = def-below r s i j kind value }
 
     -- bindings
@@ -553,7 +584,8 @@ module _ {w b v c : List ℕ} {n m n′ m′ : ℕ} {l l′ : Log} (x : Written 
 
     -- extensions
     ext-reference : (r s : ℕ) → Stands w r extensions → Stands v s extensions → kindOf w r ≡ 13 → kindOf v s ≡ 13
-        → extTarget w b (childOf w r) ≡ extTarget v c (childOf v s) → AlikeAll (AlikeWords w b v c) (chainOf w (childOf w r)) (chainOf v (childOf v s))
+        → extTarget w b (childOf w r) ≡ extTarget v c (childOf v s)
+        → AlikeAll (AlikeWords w b v c) (chainOf w (childOf w r)) (chainOf v (childOf v s))
     unfolding oneOf
     ext-reference r s i j e f t =
         let h = stands-reached w b (x .rules) r extensions i in
@@ -569,8 +601,12 @@ module _ {w b v c : List ℕ} {n m n′ m′ : ℕ} {l l′ : Log} (x : Written 
         let h₂ = stands-reached v c (y .rules) (childOf v s) references i₂ in
         let e₁ = only-kind (kindOf w (childOf w r)) 12 (stands-kind w b (x .rules) (childOf w r) references i₁) in
         let e₂ = only-kind (kindOf v (childOf v s)) 12 (stands-kind v c (y .rules) (childOf v s) references i₂) in
-        let q : targetAt w b (childOf w r) ≡ targetAt v c (childOf v s) = rw (reached-leads w (childOf w r) h₁, reached-leads v (childOf v s) h₂) at t in
-        rw (one-record-chain w b (x .rules) (childOf w r) (child-starts w b (x .rules) r h a) n₁ (kept-left r s h k kind .oneReference e), one-record-chain v c (y .rules) (childOf v s) (child-starts v c (y .rules) s k d) n₂ (kept-right r s h k kind .oneReference f))
+        let q : targetAt w b (childOf w r) ≡ targetAt v c (childOf v s) = rw
+        (reached-leads w (childOf w r) h₁, reached-leads v (childOf v s) h₂) at t in
+        rw (
+          one-record-chain w b (x .rules) (childOf w r) (child-starts w b (x .rules) r h a) n₁ (kept-left r s h k kind .oneReference e),
+          one-record-chain v c (y .rules) (childOf v s) (child-starts v c (y .rules) s k d) n₂ (kept-right r s h k kind .oneReference f),
+        )
         (more (reference-alike (childOf w r) (childOf v s) h₁ h₂ e₁ e₂ q) none)
 
     pub ext-alike : (r s : ℕ) → Stands w r extensions → Stands v s extensions → extAt w b r ≡ extAt v c s → AlikeExt w b v c r s
@@ -599,9 +635,11 @@ module _ {w b v c : List ℕ} {n m n′ m′ : ℕ} {l l′ : Log} (x : Written 
 
     -- one of record 0's chains
     pub head-alike : {A : Type 0} (f g : ℕ → A) (R : ℕ → ℕ → Type 0) {p : Place} {t u : ℕ} → Head w t p → Head v u p
-        → ((r s : ℕ) → Stands w r p → Stands v s p → f r ≡ g s → R r s) → map f (chainOf w t) ≡ map g (chainOf v u) → AlikeAll R (chainOf w t) (chainOf v u)
+        → ((r s : ℕ) → Stands w r p → Stands v s p → f r ≡ g s → R r s) → map f (chainOf w t) ≡ map g (chainOf v u)
+        → AlikeAll R (chainOf w t) (chainOf v u)
     head-alike f g R {p} {t} {u} a d h e =
-        chains f g R p t u (head-starts w b (x .rules) a) (head-starts v c (y .rules) d) (head-stands w b (x .rules) a) (head-stands v c (y .rules) d) h e
+        chains f g R p t u (head-starts w b (x .rules) a) (head-starts v c (y .rules) d) (head-stands w b (x .rules) a)
+        (head-stands v c (y .rules) d) h e
 
     -- whole logs
     pub written-pinned : l ≡ l′ → AlikeLog w b v c

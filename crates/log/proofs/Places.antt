@@ -1,5 +1,5 @@
--- Where the records of a log stand that keeps row 8's rules: in the chain that leads to them, with a kind that fits it, and what their links lead
--- to stands where 01 says.
+-- Where the records of a log stand that keeps row 8's rules: in the chain that leads to them, with a kind that fits it, and what their
+-- links lead to stands where 01 says.
 use Prim.Native.Nat.{ℕ, zero, suc, _+_, _*_, _≤_}
 use mathlib.Core.Path.{_≡_, refl, sym, ap, _∙_}
 use mathlib.Core.Logic.{_⊎_, inl, inr}
@@ -10,17 +10,22 @@ use borrow.Author.Tests.{eq-eqb, eqb-false}
 use lib.Dec.{eqb}
 use lib.ListN.{length}
 use Rattle.paths_numbers.proofs.Texts.{by-test, not-both}
-use Rattle.log.specs.Record.{kindOf, nextOf, childOf, mOf, extensionKind, hasChildren, oneOf, logCount, leads, firstDef, firstExt, firstBind, firstDiag, firstPost}
-use Rattle.log.specs.Sound.{Place, definitions, extensions, bindings, diagnostics, kindsIn, below, Link, linkTo, headLinks, linksOf, targets, times, walk, mostLinks, followed, timesReached, unfit, sound, lowestFault}
+use Rattle.log.specs.meaning.Record.{kindOf, nextOf, childOf, mOf, extensionKind, hasChildren, oneOf, logCount, leads, firstDef}
+use Rattle.log.specs.meaning.Record.{firstExt, firstBind, firstDiag, firstPost}
+use Rattle.log.specs.meaning.Sound.{Place, definitions, extensions, bindings, diagnostics, kindsIn, below, Link, linkTo, headLinks}
+use Rattle.log.specs.meaning.Sound.{linksOf, targets, times, walk, mostLinks, followed, timesReached, unfit, sound, lowestFault}
 use Rattle.log.proofs.Counts.{times-other, unmet, unmet-le}
-use Rattle.log.proofs.Walk.{nextPart, childPart, bodyPart, Inside, none, one, inside-append, inside-if, inside-of, inside-heads, length-heads, enough-left}
-use Rattle.log.proofs.Reached.{Reached, EndOrReached, good, reached-leads, reached-once, next-reached, child-reached, body-reached, head-reached, Head, defs, exts, binds, diags, post}
+use Rattle.log.proofs.Walk.{nextPart, childPart, bodyPart, Inside, none, one, inside-append, inside-if, inside-of, inside-heads}
+use Rattle.log.proofs.Walk.{length-heads, enough-left}
+use Rattle.log.proofs.Reached.{Reached, EndOrReached, good, reached-leads, reached-once, next-reached, child-reached, body-reached}
+use Rattle.log.proofs.Reached.{head-reached, Head, defs, exts, binds, diags, post}
 
 abbrev In : Link → List Link → Type 0
 In l ls = List·Memᴰ l ls
 
 -- a link that waits is followed
-waits : (left : ℕ) (words met : List ℕ) {waiting : List Link} → Inside words waiting → length waiting + 3 * unmet (logCount words) met ≤ left
+waits : (left : ℕ) (words met : List ℕ) {waiting : List Link} → Inside words waiting
+    → length waiting + 3 * unmet (logCount words) met ≤ left
     → (m : Link) → In m waiting → In m (walk left words met waiting)
 unfolding walk
 waits zero words met none k m i = i
@@ -39,7 +44,8 @@ in-reached l (List·Memᴰ·head {x} e) = rw (eq-eqb (x .to) (l .to) (ap (λ (y 
 in-reached l (List·Memᴰ·tail {x} i) = omega (arith, in-reached l i)
 
 -- and the links of the record that it leads to, where no other leads there
-closed : (left : ℕ) (words met : List ℕ) {waiting : List Link} → Inside words waiting → length waiting + 3 * unmet (logCount words) met ≤ left
+closed : (left : ℕ) (words met : List ℕ) {waiting : List Link} → Inside words waiting
+    → length waiting + 3 * unmet (logCount words) met ≤ left
     → (l m : Link) → In l (walk left words met waiting) → times (l .to) met ≡ 0 → timesReached (walk left words met waiting) (l .to) ≤ 1
     → In m (linksOf words l) → In m (walk left words met waiting)
 unfolding walk targets times
@@ -138,7 +144,8 @@ module _ (words bytes : List ℕ) (ok : lowestFault words bytes ≡ sound) where
   -- record 0's chains
   heads-stand : (m : Link) → In m (headLinks words) → In m (followed words)
   unfolding followed
-  heads-stand m i = waits (mostLinks words) words [] (inside-heads words) (omega (arith, length-heads words, unmet-le (logCount words) [])) m i
+  heads-stand m i = waits (mostLinks words) words [] (inside-heads words) (omega (arith, length-heads words, unmet-le (logCount words) []))
+      m i
 
   pub head-stands : {t : ℕ} {p : Place} → Head words t p → EndOrStands words t p
   head-stands {t} {p} x = go (head-reached words bytes ok x)
@@ -159,7 +166,8 @@ module _ (words bytes : List ℕ) (ok : lowestFault words bytes ≡ sound) where
     stands-out : (m : Link) → In m (linksOf words (record { to = r; place = p })) → In m (followed words)
     unfolding followed times
     stands-out m j =
-        closed (mostLinks words) words [] (inside-heads words) (omega (arith, length-heads words, unmet-le (logCount words) [])) (record { to = r; place = p }) m i refl (omega (arith, reached-once words bytes ok r stands-reached)) j
+        closed (mostLinks words) words [] (inside-heads words) (omega (arith, length-heads words, unmet-le (logCount words) []))
+        (record { to = r; place = p }) m i refl (omega (arith, reached-once words bytes ok r stands-reached)) j
 
     -- its next record stands in the same chain, its children where its kind has them, a body among definitions
     pub next-stands : EndOrStands words (nextOf words r) p
@@ -185,7 +193,8 @@ module _ (words bytes : List ℕ) (ok : lowestFault words bytes ≡ sound) where
             (stands-out (record { to = childOf words r; place = below (kindOf words r) })
             (Memᴰ·append-left (bodyPart words r)
             (Memᴰ·append-right (nextPart words (record { to = r; place = p }))
-            (in-if (hasChildren (kindOf words r)) c (in-to words (childOf words r) (below (kindOf words r)) (reached-leads words (childOf words r) h))))))
+            (in-if (hasChildren (kindOf words r)) c (in-to words (childOf words r) (below (kindOf words r))
+            (reached-leads words (childOf words r) h))))))
 
     pub body-stands : kindOf words r ≡ extensionKind → EndOrStands words (mOf words r) definitions
     unfolding linksOf
@@ -197,4 +206,5 @@ module _ (words bytes : List ℕ) (ok : lowestFault words bytes ≡ sound) where
             inr
             (stands-out (record { to = mOf words r; place = definitions })
             (Memᴰ·append-right (nextPart words (record { to = r; place = p }) ++ childPart words r)
-            (in-if (eqb (kindOf words r) extensionKind) (eq-eqb (kindOf words r) extensionKind k) (in-to words (mOf words r) definitions (reached-leads words (mOf words r) h)))))
+            (in-if (eqb (kindOf words r) extensionKind) (eq-eqb (kindOf words r) extensionKind k)
+            (in-to words (mOf words r) definitions (reached-leads words (mOf words r) h)))))

@@ -1,5 +1,5 @@
--- What row 8's rules give for each record that is reached: it is reached once, its links and texts stay inside, and what its links lead to is
--- reached.
+-- What row 8's rules give for each record that is reached: it is reached once, its links and texts stay inside, and what its links lead to
+-- is reached.
 use Prim.Native.Nat.{ℕ, zero, suc, _+_, _-_, _*_, _≤_, _<_}
 use mathlib.Core.Path.{_≡_, refl, _∙_}
 use mathlib.Core.Logic.{_⊎_, inl, inr}
@@ -11,10 +11,16 @@ use lib.Dec.{eqb, leb, ltb}
 use lib.ListN.{length, drop, length-drop}
 use lib.Seq.{length-take-le}
 use Rattle.paths_numbers.proofs.Texts.{by-test, not-both}
-use Rattle.log.specs.Record.{recordWords, kindOf, nextOf, textStart, textLength, secondStart, secondLength, childOf, mOf, firstDef, firstExt, firstBind, firstDiag, firstPost, extensionKind, hasChildren, firstText, secondText, outCount, mostRecords, logCount, leads, leadsOut}
-use Rattle.log.specs.Sound.{Place, definitions, extensions, bindings, diagnostics, Link, linkTo, targets, times, headLinks, followed, timesReached, anyOf, headsOut, linksOut, reachedTwice, unfit, textsOut, spansReversed, pathWrong, recordFault, atFault, Soundness, sound, broken, firstFault, lowestFault, wrongCount, soundness}
+use Rattle.log.specs.meaning.Record.{recordWords, kindOf, nextOf, textStart, textLength, secondStart, secondLength, childOf, mOf}
+use Rattle.log.specs.meaning.Record.{firstDef, firstExt, firstBind, firstDiag, firstPost, extensionKind, hasChildren, firstText}
+use Rattle.log.specs.meaning.Record.{secondText, outCount, mostRecords, logCount, leads, leadsOut}
+use Rattle.log.specs.meaning.Sound.{Place, definitions, extensions, bindings, diagnostics, Link, linkTo, targets, times, headLinks}
+use Rattle.log.specs.meaning.Sound.{followed, timesReached, anyOf, headsOut, linksOut, reachedTwice, unfit, textsOut, spansReversed}
+use Rattle.log.specs.meaning.Sound.{pathWrong, recordFault, atFault, Soundness, sound, broken, firstFault, lowestFault, wrongCount}
+use Rattle.log.specs.meaning.Sound.{soundness}
 use Rattle.log.proofs.Counts.{times-append}
-use Rattle.log.proofs.Walk.{targets-to, reached-append, toOf, outs, Inside, none, one, inside-followed, leads-below, heads-followed, outs-followed}
+use Rattle.log.proofs.Walk.{targets-to, reached-append, toOf, outs, Inside, none, one, inside-followed, leads-below, heads-followed}
+use Rattle.log.proofs.Walk.{outs-followed}
 
 -- a record that some link leads to
 abbrev pub Reached : List ℕ → ℕ → Type 0
@@ -136,7 +142,8 @@ pub times-outs : (words : List ℕ) (r t : ℕ) → times t (outs words r) ≡
     + times t (cond (eqb (kindOf words r) extensionKind) (toOf words (mOf words r)) [])
 unfolding outs
 times-outs words r t =
-    times-append t (toOf words (nextOf words r) ++ cond (hasChildren (kindOf words r)) (toOf words (childOf words r)) []) (cond (eqb (kindOf words r) extensionKind) (toOf words (mOf words r)) [])
+    times-append t (toOf words (nextOf words r) ++ cond (hasChildren (kindOf words r)) (toOf words (childOf words r)) [])
+    (cond (eqb (kindOf words r) extensionKind) (toOf words (mOf words r)) [])
     ∙ rw (times-append t (toOf words (nextOf words r)) (cond (hasChildren (kindOf words r)) (toOf words (childOf words r)) [])) refl
 
 -- what is once among the links of a record that is reached is reached
@@ -155,7 +162,11 @@ module _ (words bytes : List ℕ) (ok : lowestFault words bytes ≡ sound) (r : 
       let t = good words bytes ok r h .texts in
       by-test (ltb (length bytes) (textStart words r + textLength words r))
       (λ e. absurd (not-both {t = true} refl (rw e at t)))
-      (λ e. (ltb-false (length bytes) (textStart words r + textLength words r) e, ltb-false (length bytes) (secondStart words r + secondLength words r) (rw e at t)))
+      (λ e. (
+        ltb-false (length bytes) (textStart words r + textLength words r) e,
+        ltb-false (length bytes)
+            (secondStart words r + secondLength words r) (rw e at t),
+      ))
 
   -- so that they are as long as their words say
   pub text-length : (length (firstText words bytes r) ≡ textLength words r) × (length (secondText words bytes r) ≡ secondLength words r)
@@ -181,7 +192,12 @@ module _ (words bytes : List ℕ) (ok : lowestFault words bytes ≡ sound) (r : 
       go : (nextOf words r ≡ 0) ⊎ (leads words (nextOf words r) ≡ true) → EndOrReached words (nextOf words r)
       go (inl z) = inl z
       go (inr l) =
-          inr (out-reached words r (nextOf words r) h (omega (arith, times-outs words r (nextOf words r), times-to words (nextOf words r) l)))
+          inr (out-reached words r (nextOf words r) h (omega (
+            arith,
+            times-outs words r (nextOf words r),
+            times-to words (nextOf words r)
+                l,
+          )))
 
   pub child-reached : hasChildren (kindOf words r) ≡ true → EndOrReached words (childOf words r)
   child-reached c = go (leads-or words (childOf words r) (rw c at (parts .1)))
@@ -189,7 +205,12 @@ module _ (words bytes : List ℕ) (ok : lowestFault words bytes ≡ sound) (r : 
       go : (childOf words r ≡ 0) ⊎ (leads words (childOf words r) ≡ true) → EndOrReached words (childOf words r)
       go (inl z) = inl z
       go (inr l) =
-          inr (out-reached words r (childOf words r) h (omega (arith, rw c at (times-outs words r (childOf words r)), times-to words (childOf words r) l)))
+          inr (out-reached words r (childOf words r) h (omega (
+            arith,
+            rw c at (times-outs words r (childOf words r)),
+            times-to words
+                (childOf words r) l,
+          )))
 
   pub childless : hasChildren (kindOf words r) ≡ false → childOf words r ≡ 0
   childless c = eqb-true (childOf words r) 0 (not-false (eqb (childOf words r) 0) (rw c at (parts .1)))
@@ -203,7 +224,12 @@ module _ (words bytes : List ℕ) (ok : lowestFault words bytes ≡ sound) (r : 
       go : (mOf words r ≡ 0) ⊎ (leads words (mOf words r) ≡ true) → EndOrReached words (mOf words r)
       go (inl z) = inl z
       go (inr l) =
-          inr (out-reached words r (mOf words r) h (omega (arith, rw c at (times-outs words r (mOf words r)), times-to words (mOf words r) l)))
+          inr (out-reached words r (mOf words r) h (omega (
+            arith,
+            rw c at (times-outs words r (mOf words r)),
+            times-to words (mOf words r)
+                l,
+          )))
 
 -- how often t is among what record 0's links lead to
 pub times-heads : (words : List ℕ) (t : ℕ) → timesReached (headLinks words) t ≡
@@ -220,7 +246,18 @@ times-heads words t =
     let d = linkTo words (firstDiag words) diagnostics in
     let e = linkTo words (firstPost words) diagnostics in
     reached-append (a ++ b ++ c ++ d) e t
-    ∙ rw (reached-append (a ++ b ++ c) d t, reached-append (a ++ b) c t, reached-append a b t, targets-to words (firstDef words) definitions, targets-to words (firstExt words) extensions, targets-to words (firstBind words) bindings, targets-to words (firstDiag words) diagnostics, targets-to words (firstPost words) diagnostics)
+    ∙ rw (
+      reached-append (a ++ b ++ c) d t,
+      reached-append (a ++ b) c t,
+      reached-append a b t,
+      targets-to words (firstDef words)
+          definitions,
+      targets-to words (firstExt words) extensions,
+      targets-to words (firstBind words) bindings,
+      targets-to words
+          (firstDiag words) diagnostics,
+      targets-to words (firstPost words) diagnostics,
+    )
     refl
 
 -- the first records of record 0's five chains

@@ -9,8 +9,8 @@ use borrow.Author.Tests.{le-ltb, lt-ltb}
 use lib.Dec.{ltb}
 use lib.ListN.{length, getD, take, length-map, length-take, List·getD-map}
 use lib.Seq.{getD-take}
-use Rattle.log.specs.Sound.{Soundness, sound, broken, linksOf, headLinks}
-use Rattle.log.specs.Walk.{held, linkOf, followAll, expand, allMarks, faultBy, firstBy}
+use Rattle.log.specs.meaning.Sound.{Soundness, sound, broken, linksOf, headLinks}
+use Rattle.log.specs.machine.Walk.{held, linkOf, followAll, expand, allMarks, faultBy, firstBy}
 use Rattle.log.proofs.Follow.{length-met}
 
 -- a word of the queue is one of the links

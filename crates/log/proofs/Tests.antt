@@ -7,7 +7,7 @@ use native.Mathlib.Numerals.{add-one}
 use borrow.Author.Tests.{eq-eqb, ne-eqb}
 use lib.ListN.{length, getD, drop, drop-of-length-le}
 use lib.Seq.{drop-cons}
-use Rattle.log.specs.Record.{oneOf}
+use Rattle.log.specs.meaning.Record.{oneOf}
 
 -- w is whether k is in the list, and the invariant of a search says that it is decided by what is left of it
 module _ (k : ℕ) (l : List ℕ) (i : ℕ) (w : Bool) (inv : w ≡ oneOf k (drop i l)) where

@@ -5,12 +5,13 @@ use mathlib.Core.List.{List, [], _∷_, _++_}
 use native.Mathlib.Omega.{arith}
 use lib.ListN.{length, getD, take, drop, set, drop-of-length-le, length-drop, length-set}
 use lib.Seq.{take-all, take-nil, length-take-le, getD-take, getD-drop}
-use Rattle.paths_numbers.specs.Text.{written}
+use Rattle.paths_numbers.specs.meaning.Text.{written}
 use Rattle.paths_numbers.proofs.Texts.{rest, no-rest}
 use Rattle.paths_numbers.proofs.Written.{written-nil, written-cons}
 
 -- a text that starts behind the bytes is empty
-pub text-behind : (bytes : List ℕ) (start size : ℕ) → length bytes ≤ start → take (length bytes - length bytes) (drop (length bytes) bytes) ≡ take size (drop start bytes)
+pub text-behind : (bytes : List ℕ) (start size : ℕ) → length bytes ≤ start
+    → take (length bytes - length bytes) (drop (length bytes) bytes) ≡ take size (drop start bytes)
 text-behind bytes start size h = no-rest bytes ∙ rw (drop-of-length-le bytes h) (sym (take-nil size))
 
 -- one that ends within them
@@ -20,7 +21,8 @@ text-within bytes start size =
     rw e refl
 
 -- one that would end behind them ends with them
-pub text-to-end : (bytes : List ℕ) (start size : ℕ) → length bytes - start ≤ size → take (length bytes - start) (drop start bytes) ≡ take size (drop start bytes)
+pub text-to-end : (bytes : List ℕ) (start size : ℕ) → length bytes - start ≤ size
+    → take (length bytes - start) (drop start bytes) ≡ take size (drop start bytes)
 text-to-end bytes start size h = rest bytes start ∙ sym (take-all size (drop start bytes) (rw length-drop h))
 
 -- a part of a list

@@ -8,8 +8,10 @@ use borrow.Author.Tests.{eq-eqb, ne-eqb, eqb-true, eqb-false, ltb-true}
 use lib.Dec.{eqb}
 use lib.ListN.{length, length-append}
 use Rattle.paths_numbers.proofs.Texts.{by-test, not-both}
-use Rattle.log.specs.Record.{kindOf, nextOf, childOf, mOf, firstDef, firstExt, firstBind, firstDiag, firstPost, extensionKind, hasChildren, logCount, leads}
-use Rattle.log.specs.Sound.{Place, definitions, extensions, bindings, diagnostics, below, Link, linkTo, headLinks, linksOf, targets, times, walk, mostLinks, followed, timesReached}
+use Rattle.log.specs.meaning.Record.{kindOf, nextOf, childOf, mOf, firstDef, firstExt, firstBind, firstDiag, firstPost, extensionKind}
+use Rattle.log.specs.meaning.Record.{hasChildren, logCount, leads}
+use Rattle.log.specs.meaning.Sound.{Place, definitions, extensions, bindings, diagnostics, below, Link, linkTo, headLinks, linksOf}
+use Rattle.log.specs.meaning.Sound.{targets, times, walk, mostLinks, followed, timesReached}
 use Rattle.log.proofs.Counts.{times-append, times-other, times-more, unmet, unmet-le, unmet-more, unmet-new}
 
 pub targets-append : (x y : List Link) → targets (x ++ y) ≡ targets x ++ targets y
@@ -122,8 +124,10 @@ length-of words l =
     (omega (
       arith,
       length-to words (nextOf words (l .to)) (l .place),
-      at-most-if (hasChildren (kindOf words (l .to))) (linkTo words (childOf words (l .to)) (below (kindOf words (l .to)))) (length-to words (childOf words (l .to)) (below (kindOf words (l .to)))),
-      at-most-if (eqb (kindOf words (l .to)) extensionKind) (linkTo words (mOf words (l .to)) definitions) (length-to words (mOf words (l .to)) definitions),
+      at-most-if (hasChildren (kindOf words (l .to))) (linkTo words (childOf words (l .to)) (below (kindOf words (l .to))))
+          (length-to words (childOf words (l .to)) (below (kindOf words (l .to)))),
+      at-most-if (eqb (kindOf words (l .to)) extensionKind) (linkTo words (mOf words (l .to)) definitions)
+          (length-to words (mOf words (l .to)) definitions),
     ))
 
 pub length-heads : (words : List ℕ) → length (headLinks words) ≤ 5
@@ -154,7 +158,8 @@ fromNew words met (l ∷ ls) t = cond (eqb (times (l .to) met) 0) (times t (outs
 pub reached-append : (x y : List Link) (t : ℕ) → timesReached (x ++ y) t ≡ timesReached x t + timesReached y t
 reached-append x y t = rw (targets-append x y) (times-append t (targets x) (targets y))
 
-reached-if : (words : List ℕ) (l : Link) (q : Bool) (t : ℕ) → timesReached (cond q (linksOf words l) []) t ≡ cond q (times t (outs words (l .to))) 0
+reached-if : (words : List ℕ) (l : Link) (q : Bool) (t : ℕ) → timesReached (cond q (linksOf words l) []) t ≡ cond q
+    (times t (outs words (l .to))) 0
 unfolding targets times
 reached-if words l true t = rw (targets-of words l) refl
 reached-if words l false t = refl
@@ -172,10 +177,12 @@ pub enough-left : (left : ℕ) (words met : List ℕ) (l : Link) (waiting : List
 enough-left left words met l waiting e k =
     let new = cond (eqb (times (l .to) met) 0) (linksOf words l) [] in
     rw (length-append waiting new)
-    (enough left (logCount words) (length new) (length waiting) words met l (eqb (times (l .to) met) 0) refl (leads-below words (l .to) e .1) k refl)
+    (enough left (logCount words) (length new) (length waiting) words met l (eqb (times (l .to) met) 0) refl
+    (leads-below words (l .to) e .1) k refl)
 
 -- the links followed to t are those that wait and those from records that are met for the first time
-count-walk : (left : ℕ) (words met : List ℕ) {waiting : List Link} → Inside words waiting → length waiting + 3 * unmet (logCount words) met ≤ left
+count-walk : (left : ℕ) (words met : List ℕ) {waiting : List Link} → Inside words waiting
+    → length waiting + 3 * unmet (logCount words) met ≤ left
     → (t : ℕ) → timesReached (walk left words met waiting) t ≡ timesReached waiting t + fromNew words met (walk left words met waiting) t
 unfolding walk fromNew targets times
 count-walk zero words met none k t = refl
@@ -191,12 +198,14 @@ count-walk (suc left) words met (one {l} {ls = waiting} e h) k t =
     omega (arith, ih, reached-append waiting new t, reached-if words l q t)
 
 -- a record that is reached adds its links, and two records add both's
-new-one : (words met : List ℕ) (ls : List Link) (a t : ℕ) → 1 ≤ timesReached ls a → times a met ≡ 0 → times t (outs words a) ≤ fromNew words met ls t
+new-one : (words met : List ℕ) (ls : List Link) (a t : ℕ) → 1 ≤ timesReached ls a → times a met ≡ 0
+    → times t (outs words a) ≤ fromNew words met ls t
 unfolding fromNew targets times
 new-one words met [] a t h n = absurd (omega arith)
 new-one words met (l ∷ ls) a t h n =
     by-test (eqb (l .to) a)
-    (λ e. let q = eqb-true (l .to) a e in let z : eqb (times (l .to) met) 0 ≡ true = eq-eqb (times (l .to) met) 0 (rw q n) in rw (z, q) (omega arith))
+    (λ e. let q = eqb-true (l .to) a e in let z : eqb (times (l .to) met) 0 ≡ true = eq-eqb (times (l .to) met) 0 (rw q n) in rw (z, q)
+    (omega arith))
     (λ e.
     let q = eqb-false (l .to) a e in
     let r = new-one words (l .to ∷ met) ls a t (omega (arith, rw e at h)) (times-other (l .to) a met q ∙ n) in
@@ -227,11 +236,13 @@ new-two words met (l ∷ ls) a b t d h k n m =
     rw z (omega (arith, r, s)))
     (λ f.
     let p = eqb-false (l .to) b f in
-    let r = new-two words (l .to ∷ met) ls a b t d (omega (arith, rw e at h)) (omega (arith, rw f at k)) o (times-other (l .to) b met p ∙ m) in
+    let r = new-two words (l .to ∷ met) ls a b t d (omega (arith, rw e at h)) (omega (arith, rw f at k)) o (times-other (l .to) b met p ∙ m)
+    in
     omega (arith, r)))
 
 -- no record that is not met yet leads to t
-pub new-none : (words met : List ℕ) (ls : List Link) (t : ℕ) → ((a : ℕ) → 1 ≤ timesReached ls a → times a met ≡ 0 → times t (outs words a) ≡ 0)
+pub new-none : (words met : List ℕ) (ls : List Link) (t : ℕ) → ((a : ℕ) → 1 ≤ timesReached ls a → times a met ≡ 0
+    → times t (outs words a) ≡ 0)
     → fromNew words met ls t ≡ 0
 unfolding fromNew targets times
 new-none words met [] t f = refl
@@ -252,7 +263,8 @@ new-most words met (l ∷ ls) t f g =
     let own : 1 ≤ timesReached (l ∷ ls) (l .to) = rw (eq-eqb (l .to) (l .to) refl) (omega arith) in
     let ih = new-most words (l .to ∷ met) ls t (λ a b h k. f a b (omega arith) (omega arith)) (λ a h. g a (omega arith)) in
     by-test (eqb (times t (outs words (l .to))) 0)
-    (λ z. let unled = eqb-true (times t (outs words (l .to))) 0 z in by-test (eqb (times (l .to) met) 0) (λ e. rw e (omega (arith, ih))) (λ e. rw e (omega (arith, ih))))
+    (λ z. let unled = eqb-true (times t (outs words (l .to))) 0 z in by-test (eqb (times (l .to) met) 0) (λ e. rw e (omega (arith, ih)))
+    (λ e. rw e (omega (arith, ih))))
     (λ z.
     let some : 1 ≤ times t (outs words (l .to)) = omega (arith, eqb-false (times t (outs words (l .to))) 0 z) in
     let rest : fromNew words (l .to ∷ met) ls t ≡ 0 =

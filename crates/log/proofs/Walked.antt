@@ -13,9 +13,11 @@ use lib.Dec.{eqb, ltb}
 use lib.ListN.{length, getD, set, drop, length-append, length-set, drop-of-length-le}
 use lib.Seq.{drop-cons, drop-append-le, getD-set-same, getD-set-other}
 use Rattle.paths_numbers.proofs.Texts.{by-test}
-use Rattle.log.specs.Record.{kindOf, nextOf, childOf, mOf, hasChildren, extensionKind, firstDef, firstExt, firstBind, firstDiag, firstPost, oneOf, logCount, leads}
-use Rattle.log.specs.Sound.{Place, definitions, extensions, bindings, diagnostics, below, kindsIn, Link, linkTo, linksOf, headLinks, times, walk, mostLinks, followed}
-use Rattle.log.specs.Walk.{linkOf, stored, firstMark, nextMark, Held, held, follow, followAll, expand, allMarks}
+use Rattle.log.specs.meaning.Record.{kindOf, nextOf, childOf, mOf, hasChildren, extensionKind, firstDef, firstExt, firstBind}
+use Rattle.log.specs.meaning.Record.{firstDiag, firstPost, oneOf, logCount, leads}
+use Rattle.log.specs.meaning.Sound.{Place, definitions, extensions, bindings, diagnostics, below, kindsIn, Link, linkTo, linksOf}
+use Rattle.log.specs.meaning.Sound.{headLinks, times, walk, mostLinks, followed}
+use Rattle.log.specs.machine.Walk.{linkOf, stored, firstMark, nextMark, Held, held, follow, followAll, expand, allMarks}
 use Rattle.log.proofs.Walk.{leads-below}
 use Rattle.log.proofs.Marks.{marked}
 
@@ -186,11 +188,18 @@ walk-none zero w met = refl
 walk-none (suc left) w met = refl
 
 -- what following one link changes
-module _ (w : List ℕ) (head left : ℕ) (s : Held) (met : List ℕ) (l : Link) (ls : List Link) (ready : Ready w head (suc left) s met (l ∷ ls)) (lt : l .to < logCount w) where
+module _ (w : List ℕ) (head left : ℕ) (s : Held) (met : List ℕ) (l : Link) (ls : List Link) (ready : Ready w head (suc left) s met (l ∷ ls))
+    (lt : l .to < logCount w) where
   -- there is room for a record that is met first
   room-for : getD (s .marks) (l .to) 0 ≡ 0 → length (s .met) < s .room
   room-for z =
-      omega (arith, ready .room, ready .inside, rw z at (unmarked-set (s .marks) (l .to) 1 (omega (arith, ready .inside)) (λ e. omega arith) (logCount w) lt))
+      omega (
+        arith,
+        ready .room,
+        ready .inside,
+        rw z at (unmarked-set (s .marks) (l .to) 1 (omega (arith, ready .inside)) (λ e. omega arith)
+            (logCount w) lt),
+      )
 
   -- the queue with it
   met-new : getD (s .marks) (l .to) 0 ≡ 0 → follow w l s .met ≡ s .met ++ l ∷ []
@@ -203,7 +212,8 @@ module _ (w : List ℕ) (head left : ℕ) (s : Held) (met : List ℕ) (l : Link)
   met-old n = rw (ne-eqb _ _ n) refl
 
   -- a record's mark
-  mark-after : (r : ℕ) → r < logCount w → getD (follow w l s .marks) r 0 ≡ cond (eqb (l .to) r) (nextMark w l (getD (s .marks) r 0)) (getD (s .marks) r 0)
+  mark-after : (r : ℕ) → r < logCount w → getD (follow w l s .marks) r 0 ≡ cond (eqb (l .to) r) (nextMark w l (getD (s .marks) r 0))
+      (getD (s .marks) r 0)
   unfolding follow stored
   mark-after r h =
       by-test (eqb (l .to) r)
@@ -213,10 +223,12 @@ module _ (w : List ℕ) (head left : ℕ) (s : Held) (met : List ℕ) (l : Link)
       (λ t. rw t (getD-set-other (s .marks) (l .to) r _ 0 (λ e. eqb-false (l .to) r t (sym e))))
 
   -- the records that are not met yet
-  unmarked-after : unmarked (logCount w) (s .marks) ≡ cond (eqb (getD (s .marks) (l .to) 0) 0) 1 0 + unmarked (logCount w) (follow w l s .marks)
+  unmarked-after : unmarked (logCount w) (s .marks) ≡ cond (eqb (getD (s .marks) (l .to) 0) 0) 1 0 + unmarked (logCount w)
+      (follow w l s .marks)
   unfolding follow stored
   unmarked-after =
-      unmarked-set (s .marks) (l .to) (nextMark w l (getD (s .marks) (l .to) 0)) (omega (arith, ready .inside)) (next-not-zero w l (getD (s .marks) (l .to) 0)) (logCount w) lt
+      unmarked-set (s .marks) (l .to) (nextMark w l (getD (s .marks) (l .to) 0)) (omega (arith, ready .inside))
+      (next-not-zero w l (getD (s .marks) (l .to) 0)) (logCount w) lt
 
   -- the number of marks
   length-after : length (follow w l s .marks) ≡ length (s .marks)
@@ -233,7 +245,8 @@ module _ (w : List ℕ) (head left : ℕ) (s : Held) (met : List ℕ) (l : Link)
   waits-new z = rw (met-new z, drop-append-le head (s .met) (l ∷ []) (ready .begun)) (flat-last w (drop head (s .met)) l)
 
   -- and of any, as in the walk
-  waits-after : (ls ++ flat w (drop head (s .met))) ++ cond (eqb (times (l .to) met) 0) (linksOf w l) [] ≡ ls ++ flat w (drop head (follow w l s .met))
+  waits-after : (ls ++ flat w (drop head (s .met))) ++ cond (eqb (times (l .to) met) 0) (linksOf w l) [] ≡ ls ++ flat w
+      (drop head (follow w l s .met))
   waits-after =
       by-test (eqb (times (l .to) met) 0)
       (λ t. rw (t, waits-new (eqb-true _ _ (ready .agree (l .to) lt ∙ t))) (append-assoc ls (flat w (drop head (s .met))) (linksOf w l)))
@@ -288,7 +301,8 @@ record Went (w : List ℕ) (head : ℕ) (s : Held) (r final : ℕ) : Type 0 wher
 module _ (w : List ℕ) (head r final : ℕ) (lt : r < logCount w) where
   -- links followed before them
   went-links : (ls : List Link) (left : ℕ) (s : Held) (met : List ℕ) → Inside (logCount w) ls → Ready w head left s met ls
-      → final ≡ marked w (walk left w met (ls ++ flat w (drop head (s .met)))) r (getD (s .marks) r 0) → Went w head (followAll w ls s) r final
+      → final ≡ marked w (walk left w met (ls ++ flat w (drop head (s .met)))) r (getD (s .marks) r 0)
+      → Went w head (followAll w ls s) r final
   unfolding followAll walk marked
   went-links [] left s met i y e = record { left = left; met = met; ready = y; same = e }
   went-links (l ∷ ls) zero s met i y e = absurd (omega (arith, y .fuel))
@@ -315,7 +329,8 @@ module _ (w : List ℕ) (r final : ℕ) (lt : r < logCount w) where
   unfolding flat
   went-next head s g h =
       let l = getD (s .met) head (linkOf 0) in
-      let e : flat w (drop head (s .met)) ≡ linksOf w l ++ flat w (drop (head + 1) (s .met)) = rw (drop-cons (s .met) head (linkOf 0) h, add-one) refl in
+      let e : flat w (drop head (s .met)) ≡ linksOf w l ++ flat w (drop (head + 1) (s .met)) = rw
+      (drop-cons (s .met) head (linkOf 0) h, add-one) refl in
       let n : length (flat w (drop head (s .met))) ≡ length (linksOf w l) + length (flat w (drop (head + 1) (s .met))) =
       ap length e ∙ length-append (linksOf w l) (flat w (drop (head + 1) (s .met))) in
       let y = g .ready in

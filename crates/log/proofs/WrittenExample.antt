@@ -5,22 +5,26 @@ use mathlib.Core.Bool.{true}
 use mathlib.Core.List.{List, [], _∷_, _++_}
 use native.Mathlib.Omega.{arith}
 use lib.ListN.{set}
-use Rattle.paths_numbers.specs.Text.{same, isEmpty, startsWith}
-use Rattle.paths_numbers.specs.Path.{goodPath, components}
-use Rattle.log.specs.Record.{outField, oneOf, logCount}
-use Rattle.log.specs.ReadBack.{Log, readLog}
-use Rattle.log.specs.Sound.{linkTo, headLinks, linksOf, targets, times, walk, followed, anyOf, headsOut, linksOut, unfit, textsOut, spansReversed, pathWrong, recordFault, atFault, firstFault, lowestFault, sound}
-use Rattle.log.specs.Written.{named, holdersIn, Written}
-use Rattle.log.specs.RecordExample.{listing, listingBytes, kinds, kindsBytes, but}
-use Rattle.log.proofs.WrittenTest.{allBelow, allOf, zeroOrNamed, keptTest, restTest, reachedTest, sharedTest, wordTest, byteTest, writtenTest, written-by-test}
+use Rattle.paths_numbers.specs.meaning.Text.{same, isEmpty, startsWith}
+use Rattle.paths_numbers.specs.meaning.Path.{goodPath, components}
+use Rattle.log.specs.meaning.Record.{outField, oneOf, logCount}
+use Rattle.log.specs.meaning.ReadBack.{Log, readLog}
+use Rattle.log.specs.meaning.Sound.{linkTo, headLinks, linksOf, targets, times, walk, followed, anyOf, headsOut, linksOut, unfit}
+use Rattle.log.specs.meaning.Sound.{textsOut, spansReversed, pathWrong, recordFault, atFault, firstFault, lowestFault, sound}
+use Rattle.log.specs.meaning.Written.{named, holdersIn, Written}
+use Rattle.log.specs.examples.RecordExample.{listing, listingBytes, kinds, kindsBytes, but}
+use Rattle.log.proofs.WrittenTest.{allBelow, allOf, zeroOrNamed, keptTest, restTest, reachedTest, sharedTest, wordTest, byteTest}
+use Rattle.log.proofs.WrittenTest.{writtenTest, written-by-test}
 
 -- they keep row 8's rules and pass the tests of the others
 listing-kept : lowestFault listing listingBytes ≡ sound
-unfolding lowestFault firstFault atFault recordFault pathWrong spansReversed textsOut unfit linksOut headsOut anyOf followed walk times targets linksOf headLinks linkTo logCount oneOf outField goodPath components isEmpty same startsWith
+unfolding lowestFault firstFault atFault recordFault pathWrong spansReversed textsOut unfit linksOut headsOut anyOf followed walk times
+    targets linksOf headLinks linkTo logCount oneOf outField goodPath components isEmpty same startsWith
 listing-kept = refl
 
 listing-tested : writtenTest listing listingBytes ≡ true
-unfolding writtenTest allOf allBelow restTest reachedTest keptTest zeroOrNamed sharedTest wordTest byteTest named holdersIn followed walk times targets linksOf headLinks linkTo logCount oneOf outField
+unfolding writtenTest allOf allBelow restTest reachedTest keptTest zeroOrNamed sharedTest wordTest byteTest named holdersIn followed walk
+    times targets linksOf headLinks linkTo logCount oneOf outField
 listing-tested = refl
 
 pub listing-written : Written listing listingBytes 6 7 (readLog listing listingBytes)
@@ -28,11 +32,13 @@ unfolding outField
 listing-written = written-by-test listing listingBytes listing-kept listing-tested
 
 kinds-kept : lowestFault kinds kindsBytes ≡ sound
-unfolding lowestFault firstFault atFault recordFault pathWrong spansReversed textsOut unfit linksOut headsOut anyOf followed walk times targets linksOf headLinks linkTo logCount oneOf outField goodPath components isEmpty same startsWith
+unfolding lowestFault firstFault atFault recordFault pathWrong spansReversed textsOut unfit linksOut headsOut anyOf followed walk times
+    targets linksOf headLinks linkTo logCount oneOf outField goodPath components isEmpty same startsWith
 kinds-kept = refl
 
 kinds-tested : writtenTest kinds kindsBytes ≡ true
-unfolding writtenTest allOf allBelow restTest reachedTest keptTest zeroOrNamed sharedTest wordTest byteTest named holdersIn followed walk times targets linksOf headLinks linkTo logCount oneOf outField
+unfolding writtenTest allOf allBelow restTest reachedTest keptTest zeroOrNamed sharedTest wordTest byteTest named holdersIn followed walk
+    times targets linksOf headLinks linkTo logCount oneOf outField
 kinds-tested = refl
 
 pub kinds-written : Written kinds kindsBytes 16 19 (readLog kinds kindsBytes)
@@ -44,11 +50,13 @@ abbrev odd : ℕ → List ℕ
 odd v = listing ++ 0 ∷ v ∷ []
 
 odd-kept : lowestFault (odd 0) listingBytes ≡ sound
-unfolding lowestFault firstFault atFault recordFault pathWrong spansReversed textsOut unfit linksOut headsOut anyOf followed walk times targets linksOf headLinks linkTo logCount oneOf outField goodPath components isEmpty same startsWith
+unfolding lowestFault firstFault atFault recordFault pathWrong spansReversed textsOut unfit linksOut headsOut anyOf followed walk times
+    targets linksOf headLinks linkTo logCount oneOf outField goodPath components isEmpty same startsWith
 odd-kept = refl
 
 odd-tested : writtenTest (odd 0) listingBytes ≡ true
-unfolding writtenTest allOf allBelow restTest reachedTest keptTest zeroOrNamed sharedTest wordTest byteTest named holdersIn followed walk times targets linksOf headLinks linkTo logCount oneOf outField
+unfolding writtenTest allOf allBelow restTest reachedTest keptTest zeroOrNamed sharedTest wordTest byteTest named holdersIn followed walk
+    times targets linksOf headLinks linkTo logCount oneOf outField
 odd-tested = refl
 
 pub odd-written : Written (odd 0) listingBytes 6 7 (readLog (odd 0) listingBytes)

@@ -8,10 +8,11 @@ use borrow.Author.Tests.{eq-eqb, eqb-true, eqb-false, le-leb, leb-true, ltb-true
 use lib.Dec.{eqb, leb, ltb}
 use lib.ListN.{length, getD, List·getD-eq-default}
 use Rattle.paths_numbers.proofs.Texts.{by-test, not-both, both}
-use Rattle.log.specs.Record.{recordWords, headWords, outField, kindOf, nextOf, childOf, textStart, textLength, secondStart, secondLength, nOf, recordsUsed, bytesUsed, extensionKind, logCount}
-use Rattle.log.specs.ReadBack.{readLog}
-use Rattle.log.specs.Sound.{Link, targets, times, followed, timesReached, isReached, sound, lowestFault}
-use Rattle.log.specs.Written.{named, largestN, holds, holdersIn, holders, Kept, Written}
+use Rattle.log.specs.meaning.Record.{recordWords, headWords, outField, kindOf, nextOf, childOf, textStart, textLength, secondStart}
+use Rattle.log.specs.meaning.Record.{secondLength, nOf, recordsUsed, bytesUsed, extensionKind, logCount}
+use Rattle.log.specs.meaning.ReadBack.{readLog}
+use Rattle.log.specs.meaning.Sound.{Link, targets, times, followed, timesReached, isReached, sound, lowestFault}
+use Rattle.log.specs.meaning.Written.{named, largestN, holds, holdersIn, holders, Kept, Written}
 use Rattle.log.proofs.Reached.{reached-inside, texts-inside}
 
 -- a test of all numbers below n
@@ -77,7 +78,8 @@ kept-by-test words r e =
     let f = all-of _ _ (d .1) in
     let g = all-of _ _ (f .1) in
     record {
-      unnamed = λ i h n. or-zero (named (kindOf words r) (nOf words r) i) (outField words r i) (all-below recordWords (zeroOrNamed words r) (a .0) i h) n;
+      unnamed = λ i h n. or-zero (named (kindOf words r) (nOf words r) i) (outField words r i)
+          (all-below recordWords (zeroOrNamed words r) (a .0) i h) n;
       emptyText = implies-zero (textLength words r) (textStart words r) (b .0);
       emptySecond = implies-zero (secondLength words r) (secondStart words r) (c .0);
       n = leb-true (nOf words r) (largestN (kindOf words r) (nOf words r)) (d .0);
@@ -85,11 +87,13 @@ kept-by-test words r e =
           λ k.
           eqb-false (childOf words r) 0
           (not-true (eqb (childOf words r) 0)
-          (by-implies (eqb (kindOf words r) extensionKind) (not (eqb (childOf words r) 0)) (g .0) (eq-eqb (kindOf words r) extensionKind k)));
+          (by-implies (eqb (kindOf words r) extensionKind) (not (eqb (childOf words r) 0)) (g .0)
+          (eq-eqb (kindOf words r) extensionKind k)));
       oneReference =
           λ k.
           eqb-true (nextOf words (childOf words r)) 0
-          (by-implies (eqb (kindOf words r) extensionKind) (eqb (nextOf words (childOf words r)) 0) (f .0) (eq-eqb (kindOf words r) extensionKind k));
+          (by-implies (eqb (kindOf words r) extensionKind) (eqb (nextOf words (childOf words r)) 0) (f .0)
+          (eq-eqb (kindOf words r) extensionKind k));
     }
 
 -- of both buffers
@@ -129,7 +133,11 @@ unfolding holdersIn targets times
 none-hold words m i k [] f = refl
 none-hold words m i k (l ∷ ls) f =
     let t = f (l .to) (rw (eq-eqb (l .to) (l .to) refl) (omega arith)) in
-    rw (not-held (textStart words (l .to)) (textLength words (l .to)) i m (t .0) k, not-held (secondStart words (l .to)) (secondLength words (l .to)) i m (t .1) k)
+    rw (
+      not-held (textStart words (l .to)) (textLength words (l .to)) i m (t .0) k,
+      not-held (secondStart words (l .to))
+          (secondLength words (l .to)) i m (t .1) k,
+    )
     (omega (arith, none-hold words m i k ls (λ r h. f r (omega arith))))
 
 module _ (words bytes : List ℕ) (ok : lowestFault words bytes ≡ sound) (e : writtenTest words bytes ≡ true) where
@@ -153,13 +161,15 @@ module _ (words bytes : List ℕ) (ok : lowestFault words bytes ≡ sound) (e : 
   rest-by-test : (i : ℕ) → headWords ≤ i → i < recordWords → outField words 0 i ≡ 0
   unfolding restTest
   rest-by-test i h k =
-      eqb-true (outField words 0 i) 0 (by-implies (leb headWords i) (eqb (outField words 0 i) 0) (all-below recordWords (restTest words) (tests .0) i k) (le-leb headWords i h))
+      eqb-true (outField words 0 i) 0 (by-implies (leb headWords i) (eqb (outField words 0 i) 0)
+      (all-below recordWords (restTest words) (tests .0) i k) (le-leb headWords i h))
 
   reached-by-test : (r : ℕ) → isReached words r ≡ true → Kept words r
   unfolding reachedTest
   reached-by-test r h =
       let k = reached-inside words r (leb-true 1 (timesReached (followed words) r) h) in
-      kept-by-test words r (by-implies (isReached words r) (keptTest words r) (all-below (logCount words) (reachedTest words) (tests .1) r (k .1)) h)
+      kept-by-test words r (by-implies (isReached words r) (keptTest words r)
+      (all-below (logCount words) (reachedTest words) (tests .1) r (k .1)) h)
 
   shared-by-test : (i : ℕ) → holders words i ≤ 1
   unfolding sharedTest
@@ -174,7 +184,8 @@ module _ (words bytes : List ℕ) (ok : lowestFault words bytes ≡ sound) (e : 
       by-test (ltb i (length words))
       (λ t.
       or-zero (isReached words (i / recordWords)) (getD words i 0)
-      (by-implies (leb recordWords i) (cond (isReached words (i / recordWords)) true (eqb (getD words i 0) 0)) (all-below (length words) (wordTest words) (tests .3) i (ltb-true i (length words) t)) (le-leb recordWords i h))
+      (by-implies (leb recordWords i) (cond (isReached words (i / recordWords)) true (eqb (getD words i 0) 0))
+      (all-below (length words) (wordTest words) (tests .3) i (ltb-true i (length words) t)) (le-leb recordWords i h))
       n)
       (λ t. List·getD-eq-default words 0 (ltb-false i (length words) t))
 
@@ -182,7 +193,8 @@ module _ (words bytes : List ℕ) (ok : lowestFault words bytes ≡ sound) (e : 
   unfolding byteTest
   byte-by-test i h =
       by-test (ltb i (length bytes))
-      (λ t. implies-zero (holders words i) (getD bytes i 0) (all-below (length bytes) (byteTest words bytes) (tests .4) i (ltb-true i (length bytes) t)) h)
+      (λ t. implies-zero (holders words i) (getD bytes i 0) (all-below (length bytes) (byteTest words bytes) (tests .4) i
+      (ltb-true i (length bytes) t)) h)
       (λ t. List·getD-eq-default bytes 0 (ltb-false i (length bytes) t))
 
   -- a log that passes the tests is written: as what it reads as, with the counts that record 0 has

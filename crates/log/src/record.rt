@@ -2,13 +2,15 @@
 // and a text ends where the bytes do.
 ghost use mathlib.Core.Path.{_≡_};
 ghost use lib.ListN.{take, drop};
-ghost use Rattle.log.specs.Record.{outField, kindOf, nextOf, childOf, logCount, leads, textIn, firstText, secondText};
+ghost use Rattle.log.specs.meaning.Record.{outField, kindOf, nextOf, childOf, logCount, leads, textIn, firstText, secondText};
+use crate::layout;
+use crate::limits::MOST_RECORDS;
 
 // Word i of a record.
 pub fn out_field(words: &[u32], r: u32, i: u32) -> u32
     ensures { λ v. ⌜ v ≡ outField (now (words .entry)) r i ⌝ }
 {
-    let at = (r as usize) * 16 + (i as usize);
+    let at = (r as usize) * layout::RECORD_WORDS + (i as usize);
     if at < words.len() {
         return words[at];
     }
@@ -19,32 +21,32 @@ pub fn out_field(words: &[u32], r: u32, i: u32) -> u32
 pub fn kind_of(words: &[u32], r: u32) -> u32
     ensures { λ v. ⌜ v ≡ kindOf (now (words .entry)) r ⌝ }
 {
-    out_field(words, r, 0)
+    out_field(words, r, layout::KIND)
 }
 
 // The record that follows in its chain, 0 where it is the last.
 pub fn next_of(words: &[u32], r: u32) -> u32
     ensures { λ v. ⌜ v ≡ nextOf (now (words .entry)) r ⌝ }
 {
-    out_field(words, r, 1)
+    out_field(words, r, layout::NEXT)
 }
 
 // The first of a record's children, 0 where it has none.
 pub fn child_of(words: &[u32], r: u32) -> u32
     ensures { λ v. ⌜ v ≡ childOf (now (words .entry)) r ⌝ }
 {
-    out_field(words, r, 6)
+    out_field(words, r, layout::CHILD)
 }
 
 // How many records a log can have: links lead below this number.
 pub fn log_count(words: &[u32]) -> u32
     ensures { λ n. ⌜ n ≡ logCount (now (words .entry)) ⌝ }
 {
-    let n = words.len() / 16;
-    if n <= 65536 {
+    let n = words.len() / layout::RECORD_WORDS;
+    if n <= MOST_RECORDS {
         return n as u32;
     }
-    65536
+    MOST_RECORDS as u32
 }
 
 // Whether a link leads to a record of a log of this many records.
@@ -78,12 +80,20 @@ pub fn text_in(bytes: &[u8], start: u32, size: u32) -> &[u8]
 pub fn first_text<'a, 'b>(words: &'b [u32], bytes: &'a [u8], r: u32) -> &'a [u8]
     ensures { λ t. ⌜ now t ≡ firstText (now (words .entry)) (now (bytes .entry)) r ⌝ }
 {
-    text_in(bytes, out_field(words, r, 2), out_field(words, r, 3))
+    text_in(
+        bytes,
+        out_field(words, r, layout::TEXT_START),
+        out_field(words, r, layout::TEXT_LENGTH),
+    )
 }
 
 // A record's second text.
 pub fn second_text<'a, 'b>(words: &'b [u32], bytes: &'a [u8], r: u32) -> &'a [u8]
     ensures { λ t. ⌜ now t ≡ secondText (now (words .entry)) (now (bytes .entry)) r ⌝ }
 {
-    text_in(bytes, out_field(words, r, 4), out_field(words, r, 5))
+    text_in(
+        bytes,
+        out_field(words, r, layout::SECOND_START),
+        out_field(words, r, layout::SECOND_LENGTH),
+    )
 }

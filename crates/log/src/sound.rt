@@ -5,11 +5,21 @@ ghost use mathlib.Core.Bool.{true, false, not, cond};
 ghost use mathlib.Core.Path.{_≡_};
 ghost use lib.Dec.{eqb, ltb};
 ghost use lib.ListN.{getD};
-ghost use Rattle.log.specs.Record.{oneOf, defKinds, hasChildren, hasSpan, hasNameSpan, logCount, kindOf, childOf, mOf, outField, spanStart, spanEnd, nameStart, nameEnd, leadsOut, extensionKind};
-ghost use Rattle.log.specs.Sound.{below, kindsIn, linkTo, linksOf, headLinks, headsOut, linksOut, textOut, textsOut, spansReversed, nonemptyPath, pathWrong, wrongCount, soundness};
-ghost use Rattle.log.specs.SoundAnswer.{told};
-ghost use Rattle.log.specs.Walk.{placeOf, linkIn, linkOf, firstMark, stored, held, followAll, allMarks, recordWrong, faultBy, firstBy};
+ghost use Rattle.log.specs.meaning.Record.{oneOf, defKinds, hasChildren, hasSpan, hasNameSpan, logCount, kindOf, childOf, mOf};
+ghost use Rattle.log.specs.meaning.Record.{outField, spanStart, spanEnd, nameStart, nameEnd, leadsOut, extensionKind};
+ghost use Rattle.log.specs.meaning.Sound.{below, kindsIn, linkTo, linksOf, headLinks, headsOut, linksOut, textOut, textsOut};
+ghost use Rattle.log.specs.meaning.Sound.{spansReversed, nonemptyPath, pathWrong, wrongCount, soundness};
+ghost use Rattle.log.specs.meaning.SoundAnswer.{told};
+ghost use Rattle.log.specs.meaning.Answer.{told as answered, passed, soundAnswer};
+ghost use Rattle.log.specs.machine.Walk.{placeOf, linkIn, linkOf, firstMark, stored, held, followAll, allMarks, recordWrong, faultBy};
+ghost use Rattle.log.specs.machine.Walk.{firstBy};
+use crate::answer::Answer;
+use crate::answer::REFUSED_LOG;
+use crate::answer::SUCCESS;
 use crate::kinds;
+use crate::layout;
+use crate::limits::FEW_RECORDS;
+use crate::limits::MOST_RECORDS;
 use crate::record::child_of;
 use crate::record::first_text;
 use crate::record::kind_of;
@@ -19,12 +29,6 @@ use crate::record::next_of;
 use crate::record::out_field;
 use crate::record::second_text;
 use paths_numbers::mir::good_path;
-
-// A log's records, at most.
-const MOST_RECORDS: usize = 65536;
-
-// Up to so many records a log is tested with smaller arrays, which are set up sooner.
-const FEW_RECORDS: usize = 8192;
 
 // The chains, by number.
 const DEFINITIONS: u32 = 0;
@@ -59,6 +63,22 @@ pub enum Soundness {
     Broken(u32),
 }
 
+// Row 8 as an answer: number 8 with the lowest record that breaks a rule, else number 0.
+pub fn log_refused(words: &[u32], bytes: &[u8]) -> Answer
+    ensures { λ r. ⌜ answered r ≡ soundAnswer (soundness (now (words .entry)) (now (bytes .entry))) passed ⌝ }
+{
+    match check_log(words, bytes) {
+        Soundness::Broken(r) => Answer {
+            number: REFUSED_LOG,
+            returned: r,
+        },
+        Soundness::Sound => Answer {
+            number: SUCCESS,
+            returned: 0,
+        },
+    }
+}
+
 // Row 8's test of any words and bytes.
 pub fn check_log(words: &[u32], bytes: &[u8]) -> Soundness
     ensures { λ f. ⌜ told f ≡ soundness (now (words .entry)) (now (bytes .entry)) ⌝ }
@@ -66,7 +86,7 @@ pub fn check_log(words: &[u32], bytes: &[u8]) -> Soundness
     if words.len() == 0 {
         return Soundness::Broken(0);
     }
-    if words.len() % 16 != 0 {
+    if words.len() % layout::RECORD_WORDS != 0 {
         return Soundness::Broken(0);
     }
     if log_count(words) as usize <= FEW_RECORDS {
@@ -153,18 +173,55 @@ fn walk(words: &[u32], marks: &mut [u8], queue: &mut [u32])
 
 // Record 0's links followed.
 fn walk_heads(words: &[u32], marks: &mut [u8], queue: &mut [u32]) -> usize
-    ensures { λ m. ⌜ held (now (marks .exit)) (now (queue .exit)) m ≡ followAll (now (words .entry)) (headLinks (now (words .entry))) (held (now (marks .entry)) (now (queue .entry)) 0) ⌝ }
+    ensures { λ m. ⌜ held (now (marks .exit)) (now (queue .exit)) m ≡ followAll (now (words .entry)) (headLinks (now (words .entry)))
+        (held (now (marks .entry)) (now (queue .entry)) 0) ⌝ }
 {
-    let a = follow(words, out_field(words, 0, 1), DEFINITIONS, marks, queue, 0);
-    let b = follow(words, out_field(words, 0, 2), EXTENSIONS, marks, queue, a);
-    let c = follow(words, out_field(words, 0, 3), BINDINGS, marks, queue, b);
-    let d = follow(words, out_field(words, 0, 4), DIAGNOSTICS, marks, queue, c);
-    follow(words, out_field(words, 0, 6), DIAGNOSTICS, marks, queue, d)
+    let a = follow(
+        words,
+        out_field(words, 0, layout::FIRST_DEFINITION),
+        DEFINITIONS,
+        marks,
+        queue,
+        0,
+    );
+    let b = follow(
+        words,
+        out_field(words, 0, layout::FIRST_EXTENSION),
+        EXTENSIONS,
+        marks,
+        queue,
+        a,
+    );
+    let c = follow(
+        words,
+        out_field(words, 0, layout::FIRST_BINDING),
+        BINDINGS,
+        marks,
+        queue,
+        b,
+    );
+    let d = follow(
+        words,
+        out_field(words, 0, layout::FIRST_DIAGNOSTIC),
+        DIAGNOSTICS,
+        marks,
+        queue,
+        c,
+    );
+    follow(
+        words,
+        out_field(words, 0, layout::FIRST_POST),
+        DIAGNOSTICS,
+        marks,
+        queue,
+        d,
+    )
 }
 
 // The links of a record followed; code has the record and the chain that it was met in.
 fn walk_record(words: &[u32], code: u32, marks: &mut [u8], queue: &mut [u32], n: usize) -> usize
-    ensures { λ m. ⌜ held (now (marks .exit)) (now (queue .exit)) m ≡ followAll (now (words .entry)) (linksOf (now (words .entry)) (linkOf code)) (held (now (marks .entry)) (now (queue .entry)) n) ⌝ }
+    ensures { λ m. ⌜ held (now (marks .exit)) (now (queue .exit)) m ≡ followAll (now (words .entry))
+        (linksOf (now (words .entry)) (linkOf code)) (held (now (marks .entry)) (now (queue .entry)) n) ⌝ }
 {
     let r = code / CHAINS;
     let a = follow(words, next_of(words, r), code % CHAINS, marks, queue, n);
@@ -173,10 +230,12 @@ fn walk_record(words: &[u32], code: u32, marks: &mut [u8], queue: &mut [u32], n:
     follow(words, body_link(words, r), DEFINITIONS, marks, queue, b)
 }
 
-// A link followed, if it leads to a record: the record is marked, and put in the queue if it was not met before. Returns how many are in it.
+// A link followed, if it leads to a record: the record is marked, and put in the queue if it was not met before. Returns how many are in
+// it.
 fn follow(words: &[u32], r: u32, place: u32, marks: &mut [u8], queue: &mut [u32], n: usize) -> usize
     requires { ⌜ place < 8 ⌝ }
-    ensures { λ m. ⌜ held (now (marks .exit)) (now (queue .exit)) m ≡ followAll (now (words .entry)) (linkTo (now (words .entry)) r (placeOf place)) (held (now (marks .entry)) (now (queue .entry)) n) ⌝ }
+    ensures { λ m. ⌜ held (now (marks .exit)) (now (queue .exit)) m ≡ followAll (now (words .entry))
+        (linkTo (now (words .entry)) r (placeOf place)) (held (now (marks .entry)) (now (queue .entry)) n) ⌝ }
 {
     if !leads_to(words, r) {
         return n;
@@ -291,7 +350,7 @@ fn body_link(words: &[u32], r: u32) -> u32
     ensures { λ v. ⌜ v ≡ cond (eqb (kindOf (now (words .entry)) r) extensionKind) (mOf (now (words .entry)) r) 0 ⌝ }
 {
     if kind_of(words, r) == kinds::EXTENSION {
-        return out_field(words, r, 8);
+        return out_field(words, r, layout::M);
     }
     0
 }
@@ -300,26 +359,26 @@ fn body_link(words: &[u32], r: u32) -> u32
 fn heads_out(words: &[u32]) -> bool
     ensures { λ t. ⌜ t ≡ headsOut (now (words .entry)) ⌝ }
 {
-    if leads_out(words, 0, 1) {
+    if leads_out(words, 0, layout::FIRST_DEFINITION) {
         return true;
     }
-    if leads_out(words, 0, 2) {
+    if leads_out(words, 0, layout::FIRST_EXTENSION) {
         return true;
     }
-    if leads_out(words, 0, 3) {
+    if leads_out(words, 0, layout::FIRST_BINDING) {
         return true;
     }
-    if leads_out(words, 0, 4) {
+    if leads_out(words, 0, layout::FIRST_DIAGNOSTIC) {
         return true;
     }
-    leads_out(words, 0, 6)
+    leads_out(words, 0, layout::FIRST_POST)
 }
 
 // Whether one of a record's links leads out of the log.
 fn links_out(words: &[u32], r: u32) -> bool
     ensures { λ t. ⌜ t ≡ linksOut (now (words .entry)) r ⌝ }
 {
-    if leads_out(words, r, 1) {
+    if leads_out(words, r, layout::NEXT) {
         return true;
     }
     if links_out_child(words, r) {
@@ -330,20 +389,22 @@ fn links_out(words: &[u32], r: u32) -> bool
 
 // Whether its child does, or is there where its kind has no children.
 fn links_out_child(words: &[u32], r: u32) -> bool
-    ensures { λ t. ⌜ t ≡ cond (hasChildren (kindOf (now (words .entry)) r)) (leadsOut (now (words .entry)) (childOf (now (words .entry)) r)) (not (eqb (childOf (now (words .entry)) r) 0)) ⌝ }
+    ensures { λ t. ⌜ t ≡ cond (hasChildren (kindOf (now (words .entry)) r)) (leadsOut (now (words .entry)) (childOf (now (words .entry)) r))
+        (not (eqb (childOf (now (words .entry)) r) 0)) ⌝ }
 {
     if has_children(kind_of(words, r)) {
-        return leads_out(words, r, 6);
+        return leads_out(words, r, layout::CHILD);
     }
     child_of(words, r) != 0
 }
 
 // Whether an extension's body does.
 fn links_out_body(words: &[u32], r: u32) -> bool
-    ensures { λ t. ⌜ t ≡ cond (eqb (kindOf (now (words .entry)) r) extensionKind) (leadsOut (now (words .entry)) (mOf (now (words .entry)) r)) false ⌝ }
+    ensures { λ t. ⌜ t ≡ cond (eqb (kindOf (now (words .entry)) r) extensionKind)
+        (leadsOut (now (words .entry)) (mOf (now (words .entry)) r)) false ⌝ }
 {
     if kind_of(words, r) == kinds::EXTENSION {
-        return leads_out(words, r, 8);
+        return leads_out(words, r, layout::M);
     }
     false
 }
@@ -359,10 +420,18 @@ fn leads_out(words: &[u32], r: u32, i: u32) -> bool
 fn texts_out(words: &[u32], bytes: &[u8], r: u32) -> bool
     ensures { λ t. ⌜ t ≡ textsOut (now (words .entry)) (now (bytes .entry)) r ⌝ }
 {
-    if text_out(bytes, out_field(words, r, 2), out_field(words, r, 3)) {
+    if text_out(
+        bytes,
+        out_field(words, r, layout::TEXT_START),
+        out_field(words, r, layout::TEXT_LENGTH),
+    ) {
         return true;
     }
-    text_out(bytes, out_field(words, r, 4), out_field(words, r, 5))
+    text_out(
+        bytes,
+        out_field(words, r, layout::SECOND_START),
+        out_field(words, r, layout::SECOND_LENGTH),
+    )
 }
 
 // Whether a text ends behind the bytes.
@@ -384,20 +453,22 @@ fn spans_reversed(words: &[u32], r: u32) -> bool
 
 // Whether the record has a span that does.
 fn spans_reversed_whole(words: &[u32], r: u32) -> bool
-    ensures { λ t. ⌜ t ≡ cond (hasSpan (kindOf (now (words .entry)) r)) (ltb (spanEnd (now (words .entry)) r) (spanStart (now (words .entry)) r)) false ⌝ }
+    ensures { λ t. ⌜ t ≡ cond (hasSpan (kindOf (now (words .entry)) r))
+        (ltb (spanEnd (now (words .entry)) r) (spanStart (now (words .entry)) r)) false ⌝ }
 {
     if has_span(kind_of(words, r)) {
-        return out_field(words, r, 10) < out_field(words, r, 9);
+        return out_field(words, r, layout::SPAN_END) < out_field(words, r, layout::SPAN_START);
     }
     false
 }
 
 // Whether it has a name span that does.
 fn spans_reversed_name(words: &[u32], r: u32) -> bool
-    ensures { λ t. ⌜ t ≡ cond (hasNameSpan (kindOf (now (words .entry)) r)) (ltb (nameEnd (now (words .entry)) r) (nameStart (now (words .entry)) r)) false ⌝ }
+    ensures { λ t. ⌜ t ≡ cond (hasNameSpan (kindOf (now (words .entry)) r))
+        (ltb (nameEnd (now (words .entry)) r) (nameStart (now (words .entry)) r)) false ⌝ }
 {
     if has_name_span(kind_of(words, r)) {
-        return out_field(words, r, 12) < out_field(words, r, 11);
+        return out_field(words, r, layout::NAME_END) < out_field(words, r, layout::NAME_START);
     }
     false
 }

@@ -5,21 +5,24 @@ use mathlib.Core.List.{List, [], _∷_, _++_}
 use mathlib.Core.Option.{Option, some, none}
 use native.Mathlib.Omega.{arith}
 use lib.Dec.{eqb}
-use Rattle.paths_numbers.specs.Text.{isEmpty}
-use Rattle.paths_numbers.specs.Path.{root, join}
-use Rattle.paths_numbers.specs.Reference.{Target}
-use Rattle.log.specs.Meaning.{Span, deletedProperty, version, plugin, Ext, Diag}
-use Rattle.making.specs.State.{State, define, bind, emit, apart, dropped, extended}
-use Rattle.queries.specs.Kind.{setsOverlay}
-use Rattle.input.specs.Tree.{Tree, Trees, tree, empty, more, firstOf, nodeKind, propertyKind, directiveKind, preprocessorKind, nameKind, referenceKind}
-use Rattle.input.specs.Report.{Got, report}
-use Rattle.input.specs.Name.{fullName, labelsOf}
-use Rattle.input.specs.Phandle.{lowerPhandle}
-use Rattle.post_checks.specs.Resolve.{Resolution, reaches, missing, resolve, unresolved}
-use Rattle.input.specs.Property.{lowerValues}
-use Rattle.items.specs.Unbind.{unbind}
-use Rattle.items.specs.Lower.{Place, at, aside, discarded, nowhere, placeOf, nodeDef, opened, settled, lowerPlaced, lowerNode, namedProperty, lowerProperty, bare, deleteNode, deleteResolved, deleteTarget, deleteReferenced, deleteNamed, lowerDeleteNode, deletePropertyNamed, lowerDirective, lowerAs, lowerItem, lowerItems}
-use Rattle.post_checks.proofs.Lowers.{Grows, define-grows, bind-grows, emit-grows}
+use Rattle.paths_numbers.specs.meaning.Text.{isEmpty}
+use Rattle.paths_numbers.specs.meaning.Path.{root, join}
+use Rattle.paths_numbers.specs.meaning.Reference.{Target}
+use Rattle.log.specs.meaning.Contents.{Span, deletedProperty, version, plugin, Ext, Diag}
+use Rattle.making.specs.meaning.State.{State, define, bind, emit, apart, dropped, extended}
+use Rattle.queries.specs.meaning.Kind.{setsOverlay}
+use Rattle.input.specs.meaning.Tree.{Tree, Trees, tree, empty, more, firstOf, nodeKind, propertyKind, directiveKind, preprocessorKind}
+use Rattle.input.specs.meaning.Tree.{nameKind, referenceKind}
+use Rattle.input.specs.meaning.Report.{Got, report}
+use Rattle.input.specs.meaning.Name.{fullName, labelsOf}
+use Rattle.input.specs.meaning.Phandle.{lowerPhandle}
+use Rattle.resolving.specs.meaning.Resolve.{Resolution, reaches, missing, resolve, unresolved}
+use Rattle.input.specs.meaning.Property.{lowerValues}
+use Rattle.items.specs.meaning.Unbind.{unbind}
+use Rattle.items.specs.meaning.Lower.{Place, at, aside, discarded, nowhere, placeOf, nodeDef, opened, settled, lowerPlaced, lowerNode}
+use Rattle.items.specs.meaning.Lower.{namedProperty, lowerProperty, bare, deleteNode, deleteResolved, deleteTarget, deleteReferenced}
+use Rattle.items.specs.meaning.Lower.{deleteNamed, lowerDeleteNode, deletePropertyNamed, lowerDirective, lowerAs, lowerItem, lowerItems}
+use Rattle.resolving.proofs.Lowers.{Grows, define-grows, bind-grows, emit-grows}
 
 -- from one state to another neither count falls
 pub record Above (s t : State) : Type 0 where
@@ -71,14 +74,16 @@ module _ (parts : Trees) (span : Span) (body : List ℕ → State → State) (b 
   node-above parent s = then-above (emit-above _ s) (placed-above (placeOf parent parts span s .place) _)
 
 -- properties and directives
-named-above : (parent : List ℕ) (parts values : Trees) (span : Span) (n : Option (List ℕ)) (s : State) → Above s (namedProperty parent parts values span n s)
+named-above : (parent : List ℕ) (parts values : Trees) (span : Span) (n : Option (List ℕ)) (s : State)
+    → Above s (namedProperty parent parts values span n s)
 named-above parent parts values span (some n) s = by-growth (define-grows _) s
 named-above parent parts values span none s = same-counts s
 
 pub property-above : (parent : List ℕ) (parts values : Trees) (span : Span) (s : State) → Above s (lowerProperty parent parts values span s)
 unfolding lowerProperty
 property-above parent parts values span s =
-    above-if (isEmpty parent) (emit-above _ s) (then-above (emit-above _ s) (named-above parent parts values span (fullName parts .result) _))
+    above-if (isEmpty parent) (emit-above _ s) (then-above (emit-above _ s)
+    (named-above parent parts values span (fullName parts .result) _))
 
 delete-above : (p : List ℕ) (span : Span) (s : State) → Above s (deleteNode p span s)
 unfolding deleteNode unbind define
@@ -96,7 +101,8 @@ referenced-above : (span : Span) (r : Option Tree) (s : State) → Above s (dele
 referenced-above span (some r) s = target-above r span (lowerPhandle r .reports) (lowerPhandle r .result) s
 referenced-above span none s = same-counts s
 
-deletion-above : (parent : List ℕ) (parts : Trees) (span : Span) (n : Option (List ℕ)) (s : State) → Above s (deleteNamed parent parts span n s)
+deletion-above : (parent : List ℕ) (parts : Trees) (span : Span) (n : Option (List ℕ)) (s : State)
+    → Above s (deleteNamed parent parts span n s)
 deletion-above parent parts span (some n) s = delete-above (join parent n) span s
 deletion-above parent parts span none s = referenced-above span (firstOf referenceKind parts) s
 
@@ -114,7 +120,8 @@ directive-above w parent parts span s =
     (above-if (eqb w 5) (property-deletion-above parent span (firstOf nameKind parts) s)
     (same-counts s)))))
 
-pub as-above : (k w : ℕ) (span : Span) (parts second : Trees) (body : List ℕ → State → State) → ((p : List ℕ) (s : State) → Above s (body p s)) → (parent : List ℕ) (s : State)
+pub as-above : (k w : ℕ) (span : Span) (parts second : Trees) (body : List ℕ → State → State)
+    → ((p : List ℕ) (s : State) → Above s (body p s)) → (parent : List ℕ) (s : State)
     → Above s (lowerAs k w span parts second body parent s)
 as-above k w span parts second body b parent s =
     above-if (eqb k nodeKind) (node-above parts span body b parent s)
@@ -128,7 +135,8 @@ mutual
   unfolding lowerItem lowerItems
 
   item-above : (t : Tree) (p : List ℕ) (s : State) → Above s (lowerItem t p s)
-  item-above (tree k text w span parts second) p s = as-above k w span parts second (λ q u. lowerItems second q u) (λ q u. items-above second q u) p s
+  item-above (tree k text w span parts second) p s = as-above k w span parts second (λ q u. lowerItems second q u)
+      (λ q u. items-above second q u) p s
 
   items-above : (ts : Trees) (p : List ℕ) (s : State) → Above s (lowerItems ts p s)
   items-above empty p s = same-counts s
@@ -140,7 +148,8 @@ item-grows t p = record { records = λ s. item-above t p s .records; bytes = λ 
 pub items-grow : (ts : Trees) (p : List ℕ) → Grows (lowerItems ts p)
 items-grow ts p = record { records = λ s. items-above ts p s .records; bytes = λ s. items-above ts p s .bytes }
 
-pub node-grows : (parts second : Trees) (span : Span) (p : List ℕ) → Grows (λ (s : State). lowerNode p parts span (λ (q : List ℕ) (u : State). lowerItems second q u) s)
+pub node-grows : (parts second : Trees) (span : Span) (p : List ℕ)
+    → Grows (λ (s : State). lowerNode p parts span (λ (q : List ℕ) (u : State). lowerItems second q u) s)
 node-grows parts second span p =
     record {
       records = λ s. node-above parts span (λ q u. lowerItems second q u) (λ q u. items-above second q u) p s .records;

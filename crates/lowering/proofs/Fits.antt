@@ -9,13 +9,13 @@ use lib.Dec.{leb}
 use lib.ListN.{length}
 use Rattle.paths_numbers.proofs.Texts.{by-test, not-both, is-false, both}
 use Rattle.making.specs.declared.ctx.LowerCtx.{LowerCtx}
-use Rattle.making.specs.State.{State, emit}
-use Rattle.log.specs.Record.{outCount, logCount}
-use Rattle.making.specs.Represents.{Context, TooMuch, records-over, bytes-over, most-over, Represents, going, over, checking}
+use Rattle.making.specs.meaning.State.{State, emit}
+use Rattle.log.specs.meaning.Record.{outCount, logCount, mostRecords, mostBytes}
+use Rattle.making.specs.machine.Represents.{Context, TooMuch, records-over, bytes-over, most-over, Represents, going, over, checking}
 use Rattle.making.proofs.Layouts.{count-most}
-use Rattle.post_checks.specs.Post.{postChecks}
-use Rattle.lowering.specs.Lowered.{recordsMade, bytesMade, mostRecords, mostBytes, fitsIn}
-use Rattle.post_checks.proofs.Lowers.{need-of}
+use Rattle.post_checks.specs.meaning.Post.{postChecks}
+use Rattle.lowering.specs.meaning.Lowered.{recordsMade, bytesMade, fitsIn}
+use Rattle.resolving.proofs.Lowers.{need-of}
 
 -- a log's records: no more than the words hold, and no more than 65,536
 count-whole : (w : List ℕ) → logCount w ≤ outCount w
@@ -52,7 +52,8 @@ fits-room {s} {out} {bytes} t =
     }
 
 -- the log after the post checks, in buffers as long as those that were lent
-module _ (s : State) (out₀ bytes₀ : List ℕ) {k : Context} {c : LowerCtx} {out bytes : List ℕ} (words : length out ≡ length out₀) (size : length bytes ≡ length bytes₀)
+module _ (s : State) (out₀ bytes₀ : List ℕ) {k : Context} {c : LowerCtx} {out bytes : List ℕ} (words : length out ≡ length out₀)
+    (size : length bytes ≡ length bytes₀)
     (h : Represents k c out bytes (emit (postChecks s) (checking s))) where
   pub fits : c .short ≡ false → fitsIn s out₀ bytes₀ ≡ true
   unfolding emit recordsMade bytesMade

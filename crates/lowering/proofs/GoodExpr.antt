@@ -5,17 +5,19 @@ use mathlib.Core.Bool.{Bool, true, cond}
 use mathlib.Core.List.{List, [], _∷_}
 use lib.Dec.{eqb}
 use lib.IntN.{ℤ}
-use Rattle.paths_numbers.specs.Number.{signedNumber, intCode}
-use Rattle.paths_numbers.specs.Expression.{evalPrefix, evalInfix, isTrue, ofTruth}
+use Rattle.paths_numbers.specs.meaning.Number.{signedNumber, intCode}
+use Rattle.paths_numbers.specs.meaning.Expression.{evalPrefix, evalInfix, isTrue, ofTruth}
 use Rattle.paths_numbers.specs.declared.expr_eval.ParsedI64.{ParsedI64}
 use Rattle.paths_numbers.specs.declared.expr_eval.ParsedI64.the-variants as I
 use Rattle.paths_numbers.specs.declared.operators.Evaluated.{Evaluated}
 use Rattle.paths_numbers.specs.declared.operators.Evaluated.the-variants.{Value, Outside, ZeroDivisor, ShiftAmount, Missing}
 use Rattle.paths_numbers.proofs.Texts.{cond-in}
-use Rattle.log.specs.Meaning.{Span}
-use Rattle.log.specs.Good.{all, inOrder, goodDiag}
-use Rattle.input.specs.Tree.{Tree, Trees, tree, empty, more, macroKind, numberKind, characterKind, prefixKind, parenthesisKind, infixKind}
-use Rattle.input.specs.Expr.{Outcome, value, fails, evaluated, literal, withValue, firstOperand, applied, infixOf, prefixOf, combined, eval, evals}
+use Rattle.log.specs.meaning.Contents.{Span}
+use Rattle.log.specs.machine.Good.{all, inOrder, goodDiag}
+use Rattle.input.specs.meaning.Tree.{Tree, Trees, tree, empty, more, macroKind, numberKind, characterKind, prefixKind, parenthesisKind}
+use Rattle.input.specs.meaning.Tree.{infixKind}
+use Rattle.input.specs.meaning.Expr.{Outcome, value, fails, evaluated, literal, withValue, firstOperand, applied, infixOf, prefixOf}
+use Rattle.input.specs.meaning.Expr.{combined, eval, evals}
 use Rattle.lowering.proofs.GoodLists.{all-first, all-rest}
 use Rattle.lowering.proofs.GoodReports.{no-reports, good-report}
 use Rattle.input.proofs.Spans.{spans, spansIn, own-span, child-spans, chain-spans}
@@ -78,7 +80,8 @@ module _ (op : ℕ) (span : Span) (g : inOrder span ≡ true) where
       let hy = all-first goodOutcome y (z ∷ l) r in
       let hz = all-first goodOutcome z l (all-rest goodOutcome y (z ∷ l) r) in
       cond-in GoodOutcome (eqb op 0) missing-good
-      (cond-in GoodOutcome (eqb op 19) (with-good x (λ a. cond (isTrue a) y z) hx (λ a. cond-in GoodOutcome (isTrue a) hy hz)) (two-good x y hx hy))
+      (cond-in GoodOutcome (eqb op 19) (with-good x (λ a. cond (isTrue a) y z) hx (λ a. cond-in GoodOutcome (isTrue a) hy hz))
+      (two-good x y hx hy))
 
   prefix-good : (l : List Outcome) → GoodOutcomes l → GoodOutcome (prefixOf op span l)
   prefix-good [] h = missing-good
@@ -86,7 +89,8 @@ module _ (op : ℕ) (span : Span) (g : inOrder span ≡ true) where
       cond-in GoodOutcome (eqb op 0) missing-good
       (with-good x (λ a. evaluated span (evalPrefix op a)) (all-first goodOutcome x l h) (λ a. evaluated-good span g (evalPrefix op a)))
 
-combined-good : (k : ℕ) (text : List ℕ) (w : ℕ) (span : Span) (l : List Outcome) → inOrder span ≡ true → GoodOutcomes l → GoodOutcome (combined k text w span l)
+combined-good : (k : ℕ) (text : List ℕ) (w : ℕ) (span : Span) (l : List Outcome) → inOrder span ≡ true → GoodOutcomes l
+    → GoodOutcome (combined k text w span l)
 combined-good k text w span l g h =
     cond-in GoodOutcome (eqb k macroKind) (good-report 10 text span g)
     (cond-in GoodOutcome (eqb k numberKind) (literal-good span g (signedNumber text))

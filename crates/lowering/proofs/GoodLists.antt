@@ -3,8 +3,8 @@ use mathlib.Core.Path.{_≡_, refl}
 use mathlib.Core.Bool.{Bool, true, false}
 use mathlib.Core.List.{List, [], _∷_, _++_}
 use Rattle.paths_numbers.proofs.Texts.{by-test, not-both, both}
-use Rattle.log.specs.Good.{all}
-use Rattle.queries.specs.Kind.{any}
+use Rattle.log.specs.machine.Good.{all}
+use Rattle.paths_numbers.specs.meaning.Lists.{any}
 
 module _ {A : Type 0} (p : A → Bool) where
   pub all-one : (a : A) → p a ≡ true → all p (a ∷ []) ≡ true

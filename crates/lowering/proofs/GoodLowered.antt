@@ -5,26 +5,29 @@ use mathlib.Core.Bool.{true}
 use mathlib.Core.List.{List, [], _∷_}
 use mathlib.Core.Option.{Option, some, none}
 use lib.Dec.{eqb}
-use Rattle.paths_numbers.specs.Text.{isEmpty}
-use Rattle.paths_numbers.specs.Path.{join, goodPath}
-use Rattle.paths_numbers.specs.Reference.{Target}
+use Rattle.paths_numbers.specs.meaning.Text.{isEmpty}
+use Rattle.paths_numbers.specs.meaning.Path.{join, goodPath}
+use Rattle.paths_numbers.specs.meaning.Reference.{Target}
 use Rattle.paths_numbers.proofs.Texts.{both, cond-in}
-use Rattle.log.specs.Meaning.{Span, DefValue, deletedNode, deletedProperty, version, plugin, Diag}
-use Rattle.log.specs.Sound.{nonemptyPath}
-use Rattle.making.specs.State.{State}
-use Rattle.log.specs.Good.{inOrder, pathFits, goodDef, goodDiag, goodLog}
-use Rattle.input.specs.Tree.{Tree, Trees, tree, empty, more, textOf, spanOf, firstOf, nodeKind, propertyKind, directiveKind, preprocessorKind, nameKind, referenceKind}
-use Rattle.input.specs.Report.{report}
-use Rattle.input.specs.Name.{fullName}
-use Rattle.input.specs.Phandle.{lowerPhandle}
-use Rattle.post_checks.specs.Resolve.{Resolution, reaches, missing, resolve, unresolved}
-use Rattle.input.specs.Property.{lowerValues}
-use Rattle.input.specs.GoodName.{goodNames, goodNamesIn}
-use Rattle.items.specs.Lower.{namedProperty, lowerProperty, bare, deleteNode, deleteResolved, deleteTarget, deleteReferenced, deleteNamed, lowerDeleteNode, deletePropertyNamed, lowerDirective, lowerAs, lowerItem, lowerItems, lowered}
-use Rattle.input.specs.Input.{description}
-use Rattle.input.specs.Place.{items}
-use Rattle.input.specs.Rows.{accepted, verdict}
-use Rattle.lowering.specs.Lowered.{logOf, meaning}
+use Rattle.log.specs.meaning.Contents.{Span, DefValue, deletedNode, deletedProperty, version, plugin, Diag}
+use Rattle.log.specs.meaning.Sound.{nonemptyPath}
+use Rattle.making.specs.meaning.State.{State}
+use Rattle.log.specs.machine.Good.{inOrder, pathFits, goodDef, goodDiag, goodLog}
+use Rattle.input.specs.meaning.Tree.{Tree, Trees, tree, empty, more, textOf, spanOf, firstOf, nodeKind, propertyKind, directiveKind}
+use Rattle.input.specs.meaning.Tree.{preprocessorKind, nameKind, referenceKind}
+use Rattle.input.specs.meaning.Report.{report}
+use Rattle.input.specs.meaning.Name.{fullName}
+use Rattle.input.specs.meaning.Phandle.{lowerPhandle}
+use Rattle.resolving.specs.meaning.Resolve.{Resolution, reaches, missing, resolve, unresolved}
+use Rattle.input.specs.meaning.Property.{lowerValues}
+use Rattle.input.specs.meaning.GoodName.{goodNames, goodNamesIn}
+use Rattle.items.specs.meaning.Lower.{namedProperty, lowerProperty, bare, deleteNode, deleteResolved, deleteTarget, deleteReferenced}
+use Rattle.items.specs.meaning.Lower.{deleteNamed, lowerDeleteNode, deletePropertyNamed, lowerDirective, lowerAs, lowerItem, lowerItems}
+use Rattle.items.specs.meaning.Lower.{lowered}
+use Rattle.input.specs.meaning.Input.{description}
+use Rattle.input.specs.meaning.Place.{items}
+use Rattle.input.specs.meaning.Rows.{accepted, verdict}
+use Rattle.lowering.specs.meaning.Lowered.{logOf, meaning}
 use Rattle.input.proofs.GoodNames.{full-plain, first-plain, good-parts, good-second}
 use Rattle.input.proofs.Rows.{accepted-names, accepted-places}
 use Rattle.input.proofs.Spans.{spans, spansIn, fits-spans, own-span, child-spans, second-spans, chain-spans, first-spans, property-span}
@@ -46,21 +49,25 @@ module _ {s : State} (g : GoodState s) (span : Span) (e : inOrder span ≡ true)
   delete-good p f = good-define (good-unbind g p) (bare p deletedNode span) (bare-good p deletedNode f)
 
   -- a node deleted by reference
-  delete-resolved : (r : Tree) → inOrder (spanOf r) ≡ true → (o : Resolution) → goodResolution o ≡ true → GoodState (deleteResolved r span o s)
+  delete-resolved : (r : Tree) → inOrder (spanOf r) ≡ true → (o : Resolution) → goodResolution o ≡ true
+      → GoodState (deleteResolved r span o s)
   delete-resolved r i (reaches p) f = delete-good p f
   delete-resolved r i (missing code text) f = good-emit g (unresolved r code text (s .defs)) (unresolved-good r code text (s .defs) i)
 
-  delete-target : (r : Tree) → inOrder (spanOf r) ≡ true → (ds : List Diag) → GoodDiags ds → (o : Option Target) → GoodState (deleteTarget r span ds o s)
+  delete-target : (r : Tree) → inOrder (spanOf r) ≡ true → (ds : List Diag) → GoodDiags ds → (o : Option Target)
+      → GoodState (deleteTarget r span ds o s)
   delete-target r i ds h (some t) = delete-resolved r i (resolve t (s .binds) (s .defs)) (resolution-good g t)
   delete-target r i ds h none = good-emit g ds h
 
-  delete-referenced : (parts : Trees) → GoodTrees parts → (o : Option Tree) → firstOf referenceKind parts ≡ o → GoodState (deleteReferenced span o s)
+  delete-referenced : (parts : Trees) → GoodTrees parts → (o : Option Tree) → firstOf referenceKind parts ≡ o
+      → GoodState (deleteReferenced span o s)
   delete-referenced parts t (some r) q =
       let h = first-spans referenceKind parts r (t .spans) q in
       delete-target r (own-span r h) (lowerPhandle r .reports) (phandle-reports r h) (lowerPhandle r .result)
   delete-referenced parts t none q = g
 
-module _ {s : State} (g : GoodState s) (parent : List ℕ) (f : goodPath parent ≡ true) (parts : Trees) (t : GoodTrees parts) (span : Span) (e : inOrder span ≡ true) where
+module _ {s : State} (g : GoodState s) (parent : List ℕ) (f : goodPath parent ≡ true) (parts : Trees) (t : GoodTrees parts) (span : Span)
+    (e : inOrder span ≡ true) where
   -- a node or a property deleted by name
   delete-named : (o : Option (List ℕ)) → fullName parts .result ≡ o → GoodState (deleteNamed parent parts span o s)
   delete-named (some name) q = delete-good g span e (join parent name) (name-path parent name f (full-plain parts name (t .names) q))
@@ -78,11 +85,13 @@ module _ {s : State} (g : GoodState s) (parent : List ℕ) (f : goodPath parent 
       good-define g _ (good-def _ e (property-span parts span (t .spans) e) (name-path parent name f (full-plain parts name (t .names) q)))
   named-good values none q = g
 
-module _ {s : State} (g : GoodState s) (parent : List ℕ) (f : goodPath parent ≡ true) (parts : Trees) (t : GoodTrees parts) (span : Span) (e : inOrder span ≡ true) where
+module _ {s : State} (g : GoodState s) (parent : List ℕ) (f : goodPath parent ≡ true) (parts : Trees) (t : GoodTrees parts) (span : Span)
+    (e : inOrder span ≡ true) where
   property-good : (values : Trees) → spansIn values ≡ true → GoodState (lowerProperty parent parts values span s)
   unfolding lowerProperty
   property-good values v =
-      let reports = all-append goodDiag (lowerValues values .reports) (fullName parts .reports) (value-reports values v) (full-reports parts (t .spans)) in
+      let reports = all-append goodDiag (lowerValues values .reports) (fullName parts .reports) (value-reports values v)
+      (full-reports parts (t .spans)) in
       cond-in GoodState (isEmpty parent) (good-emit g (report 7 [] span ∷ []) (good-report 7 [] span e))
       (named-good (good-emit g _ reports) parent f parts t span e values (fullName parts .result) refl)
 
@@ -93,7 +102,8 @@ module _ {s : State} (g : GoodState s) (parent : List ℕ) (f : goodPath parent 
       (cond-in GoodState (eqb w 2) (good-define g (bare parent plugin span) (bare-good g span e parent plugin f))
       (cond-in GoodState (eqb w 3) (good-emit g (report 2 [] span ∷ []) (good-report 2 [] span e))
       (cond-in GoodState (eqb w 4)
-      (delete-named (good-emit g (fullName parts .reports) (full-reports parts (t .spans))) parent f parts t span e (fullName parts .result) refl)
+      (delete-named (good-emit g (fullName parts .reports) (full-reports parts (t .spans))) parent f parts t span e (fullName parts .result)
+      refl)
       (cond-in GoodState (eqb w 5) (delete-property g parent f parts t span e (firstOf nameKind parts) refl)
       g))))
 
@@ -136,5 +146,6 @@ pub accepted-good : (words text : List ℕ) → verdict words text ≡ accepted 
 unfolding lowered goodPath isEmpty
 accepted-good words text e =
     log-good
-    (items-good (description words text) [] _ (accepted-names words text e) (fits-spans (description words text) items (accepted-places words text e)) refl
+    (items-good (description words text) [] _ (accepted-names words text e)
+    (fits-spans (description words text) items (accepted-places words text e)) refl
     good-start)

@@ -5,27 +5,30 @@ use mathlib.Core.Bool.{Bool, true}
 use mathlib.Core.List.{List, [], _∷_, _++_}
 use mathlib.Core.Option.{Option, some, none}
 use lib.Dec.{eqb}
-use Rattle.paths_numbers.specs.Text.{same, isEmpty}
-use Rattle.paths_numbers.specs.Path.{root, join, goodPath}
-use Rattle.paths_numbers.specs.Reference.{Target}
+use Rattle.paths_numbers.specs.meaning.Text.{same, isEmpty}
+use Rattle.paths_numbers.specs.meaning.Path.{root, join, goodPath}
+use Rattle.paths_numbers.specs.meaning.Reference.{Target}
 use Rattle.paths_numbers.proofs.Texts.{cond-in}
-use Rattle.log.specs.Meaning.{Span, Def, Binding, Diag}
-use Rattle.log.specs.Sound.{nonemptyPath}
-use Rattle.making.specs.State.{State}
-use Rattle.log.specs.Good.{all, inOrder, goodBinding, goodDiag}
-use Rattle.queries.specs.Kind.{setsOverlay}
-use Rattle.input.specs.Tree.{Tree, Trees, empty, more, kindOf, spanOf, childrenOf, firstOf, has, labelKind, referenceKind, slashKind}
-use Rattle.input.specs.Report.{Got, Made, andThen, report}
-use Rattle.input.specs.Name.{nameOrMacro, fullName, nodeNameSpan, labelled, labelsOf}
-use Rattle.input.specs.Phandle.{lowerPhandle}
-use Rattle.post_checks.specs.Resolve.{Resolution, reaches, missing, resolve, unresolved}
-use Rattle.input.specs.GoodName.{goodNamesIn}
-use Rattle.items.specs.Lower.{Place, at, aside, discarded, nowhere, Placed, byResolution, byTarget, placedAs, byName, byParts, placeOf, nodeDef, opened, settled, lowerPlaced, lowerNode}
+use Rattle.log.specs.meaning.Contents.{Span, Def, Binding, Diag}
+use Rattle.log.specs.meaning.Sound.{nonemptyPath}
+use Rattle.making.specs.meaning.State.{State}
+use Rattle.log.specs.machine.Good.{all, inOrder, goodBinding, goodDiag}
+use Rattle.queries.specs.meaning.Kind.{setsOverlay}
+use Rattle.input.specs.meaning.Tree.{Tree, Trees, empty, more, kindOf, spanOf, childrenOf, firstOf, has, labelKind, referenceKind}
+use Rattle.input.specs.meaning.Tree.{slashKind}
+use Rattle.input.specs.meaning.Report.{Got, Made, andThen, report}
+use Rattle.input.specs.meaning.Name.{nameOrMacro, fullName, nodeNameSpan, labelled, labelsOf}
+use Rattle.input.specs.meaning.Phandle.{lowerPhandle}
+use Rattle.resolving.specs.meaning.Resolve.{Resolution, reaches, missing, resolve, unresolved}
+use Rattle.input.specs.meaning.GoodName.{goodNamesIn}
+use Rattle.items.specs.meaning.Lower.{Place, at, aside, discarded, nowhere, Placed, byResolution, byTarget, placedAs, byName, byParts}
+use Rattle.items.specs.meaning.Lower.{placeOf, nodeDef, opened, settled, lowerPlaced, lowerNode}
 use Rattle.input.proofs.GoodNames.{full-plain}
 use Rattle.input.proofs.Spans.{spansIn, own-span, child-spans, chain-spans, first-spans, node-span}
 use Rattle.lowering.proofs.GoodLists.{all-append}
 use Rattle.lowering.proofs.GoodReports.{GoodDiags, no-reports, good-report, name-reports, full-reports, phandle-reports}
-use Rattle.lowering.proofs.GoodState.{GoodState, good-def, good-define, good-bind, good-emit, good-apart, good-dropped, good-extended}
+use Rattle.lowering.proofs.GoodState.{GoodState, good-def, good-define, good-bind, good-emit, good-apart, good-dropped}
+use Rattle.lowering.proofs.GoodState.{good-extended}
 use Rattle.lowering.proofs.GoodPaths.{nonempty-good, root-good, name-path, root-path, goodResolution, resolution-good}
 
 -- a chain of records with good names and spans in order
@@ -75,7 +78,8 @@ record GoodPlaced (x : Placed) : Type 0 where
   place : goodPlace (x .place) ≡ true
   reports : GoodDiags (x .reports)
 
-pub unresolved-good : (r : Tree) (code : ℕ) (text : List ℕ) (defs : List Def) → inOrder (spanOf r) ≡ true → GoodDiags (unresolved r code text defs)
+pub unresolved-good : (r : Tree) (code : ℕ) (text : List ℕ) (defs : List Def) → inOrder (spanOf r) ≡ true
+    → GoodDiags (unresolved r code text defs)
 unresolved-good r code text defs e = cond-in GoodDiags (setsOverlay defs) no-reports (good-report code text (spanOf r) e)
 
 by-resolution : (r : Tree) (t : Target) (defs : List Def) (o : Resolution) → inOrder (spanOf r) ≡ true → goodResolution o ≡ true
@@ -88,7 +92,8 @@ by-target : {s : State} → GoodState s → (r : Tree) (ds : List Diag) (o : Opt
 by-target {s} g r ds (some t) e h = by-resolution r t (s .defs) (resolve t (s .binds) (s .defs)) e (resolution-good g t)
 by-target g r ds none e h = record { place = refl; reports = h }
 
-placed-as : (parent name : List ℕ) (span : Span) (ds : List Diag) → nonemptyPath (join parent name) ≡ true → inOrder span ≡ true → GoodDiags ds
+placed-as : (parent name : List ℕ) (span : Span) (ds : List Diag) → nonemptyPath (join parent name) ≡ true → inOrder span ≡ true
+    → GoodDiags ds
     → GoodPlaced (placedAs parent name span ds)
 placed-as parent name span ds f e h =
     let here : GoodPlaced (record { place = at (join parent name); reports = ds }) = record { place = f; reports = h } in
@@ -102,7 +107,8 @@ placed-as parent name span ds f e h =
 module _ (parent : List ℕ) (f : goodPath parent ≡ true) (parts : Trees) (t : GoodTrees parts) (span : Span) (e : inOrder span ≡ true) where
   by-name : (o : Option (List ℕ)) → fullName parts .result ≡ o → GoodPlaced (byName parent parts span (fullName parts .reports) o)
   by-name (some name) q =
-      placed-as parent name span (fullName parts .reports) (name-path parent name f (full-plain parts name (t .names) q)) e (full-reports parts (t .spans))
+      placed-as parent name span (fullName parts .reports) (name-path parent name f (full-plain parts name (t .names) q)) e
+      (full-reports parts (t .spans))
   by-name none q =
       cond-in GoodPlaced (has slashKind parts)
       (placed-as parent root span (fullName parts .reports) (root-path parent) e (full-reports parts (t .spans)))
@@ -123,7 +129,8 @@ module _ (parts : Trees) (t : GoodTrees parts) (span : Span) (e : inOrder span �
   unfolding opened
   opened-good g p f =
       let l = labels-good p f parts (t .spans) in
-      good-define (good-bind (good-emit g (labelsOf p parts .reports) (l .reports)) (labelsOf p parts .made) (l .bound)) (nodeDef p parts span)
+      good-define (good-bind (good-emit g (labelsOf p parts .reports) (l .reports)) (labelsOf p parts .made) (l .bound))
+      (nodeDef p parts span)
       (good-def (nodeDef p parts span) e (node-span parts span (t .spans) e) f)
 
   settled-good : {s u : State} → GoodState s → GoodState u → (x : Target) (refSpan : Span) → inOrder refSpan ≡ true
@@ -144,5 +151,6 @@ module _ (parts : Trees) (t : GoodTrees parts) (span : Span) (e : inOrder span �
       → GoodState (lowerNode parent parts span body s)
   unfolding lowerNode placeOf
   node-good {s} g body k parent f =
-      let x = by-parts parent f parts t (nodeNameSpan parts span) (node-span parts span (t .spans) e) g (firstOf referenceKind parts) refl in
+      let x = by-parts parent f parts t (nodeNameSpan parts span) (node-span parts span (t .spans) e) g (firstOf referenceKind parts) refl
+      in
       placed-good (good-emit g (placeOf parent parts span s .reports) (x .reports)) body k (placeOf parent parts span s .place) (x .place)

@@ -1,21 +1,22 @@
--- Where nodes and deletions go in a good state: a name joined to a good parent, a binding's path, a live node's path are good and not empty.
+-- Where nodes and deletions go in a good state: a name joined to a good parent, a binding's path, a live node's path are good and not
+-- empty.
 use Prim.Native.Nat.{ℕ}
 use mathlib.Core.Path.{_≡_, refl}
 use mathlib.Core.Bool.{Bool, true, false}
 use mathlib.Core.List.{List, [], _∷_}
 use mathlib.Core.Option.{Option, some, none}
-use Rattle.paths_numbers.specs.Text.{same, isEmpty}
-use Rattle.paths_numbers.specs.Path.{root, join, goodPath}
-use Rattle.paths_numbers.specs.Reference.{Target, label, labelPath, path, unreadable}
+use Rattle.paths_numbers.specs.meaning.Text.{same, isEmpty}
+use Rattle.paths_numbers.specs.meaning.Path.{root, join, goodPath}
+use Rattle.paths_numbers.specs.meaning.Reference.{Target, label, labelPath, path, unreadable}
 use Rattle.paths_numbers.proofs.Texts.{by-test, not-both, both, same-true}
 use Rattle.paths_numbers.proofs.Good.{good-join}
-use Rattle.log.specs.Meaning.{DefValue, node, property, deletedNode, deletedProperty, version, plugin, Def, Binding}
-use Rattle.log.specs.Sound.{nonemptyPath}
-use Rattle.making.specs.State.{State}
-use Rattle.log.specs.Good.{all, pathFits, goodDef, goodBinding}
-use Rattle.queries.specs.Kind.{isNode}
-use Rattle.queries.specs.Live.{live, nodeAt, containsNode}
-use Rattle.post_checks.specs.Resolve.{firstBinding, Resolution, reaches, missing, liveAt, byLabel, belowLabel, resolve}
+use Rattle.log.specs.meaning.Contents.{DefValue, node, property, deletedNode, deletedProperty, version, plugin, Def, Binding}
+use Rattle.log.specs.meaning.Sound.{nonemptyPath}
+use Rattle.making.specs.meaning.State.{State}
+use Rattle.log.specs.machine.Good.{all, pathFits, goodDef, goodBinding}
+use Rattle.queries.specs.meaning.Kind.{isNode}
+use Rattle.queries.specs.meaning.Live.{live, nodeAt, containsNode}
+use Rattle.resolving.specs.meaning.Resolve.{firstBinding, Resolution, reaches, missing, liveAt, byLabel, belowLabel, resolve}
 use Rattle.input.proofs.GoodNames.{never, Plain, join-filled}
 use Rattle.lowering.proofs.GoodLists.{all-found}
 use Rattle.lowering.proofs.GoodState.{GoodState, def-parts, binding-parts, live-good}
@@ -61,7 +62,8 @@ contained-path p ds g e =
     node-path p (h .0) (h .1) (h .2)
 
 -- a binding's path
-binding-path : (l : List ℕ) (bs : List Binding) (p : List ℕ) → all goodBinding bs ≡ true → firstBinding l bs ≡ some p → nonemptyPath p ≡ true
+binding-path : (l : List ℕ) (bs : List Binding) (p : List ℕ) → all goodBinding bs ≡ true → firstBinding l bs ≡ some p
+    → nonemptyPath p ≡ true
 unfolding firstBinding all
 binding-path l [] p g e = never e
 binding-path l (b ∷ bs) p g e =

@@ -1,18 +1,23 @@
--- What the post checks report of a good state: diagnostics at the spans of its bindings and at the name spans of its definitions, all in order.
+-- What the post checks report of a good state: diagnostics at the spans of its bindings and at the name spans of its definitions, all in
+-- order.
 use Prim.Native.Nat.{ℕ}
 use mathlib.Core.Path.{_≡_}
 use mathlib.Core.Bool.{true}
 use mathlib.Core.List.{List, [], _∷_, _++_}
-use Rattle.paths_numbers.specs.Text.{same}
-use Rattle.paths_numbers.specs.Reference.{Target}
+use Rattle.paths_numbers.specs.meaning.Text.{same}
+use Rattle.paths_numbers.specs.meaning.Reference.{Target}
 use Rattle.paths_numbers.proofs.Texts.{cond-in}
-use Rattle.log.specs.Meaning.{Span, Cell, number, reference, Value, string, cellList, bytestring, phandle, DefValue, node, property, deletedNode, deletedProperty, version, plugin, Def, Binding}
-use Rattle.making.specs.State.{State}
-use Rattle.log.specs.Good.{all, inOrder, goodDef, goodBinding, goodDiag}
-use Rattle.queries.specs.Kind.{any, setsOverlay}
-use Rattle.queries.specs.Live.{live}
-use Rattle.post_checks.specs.Resolve.{Resolution, reaches, missing, resolve}
-use Rattle.post_checks.specs.Post.{duplicatesOf, duplicateLabels, referenceReport, checkTarget, checkCell, checkCells, checkValue, checkValues, checkDef, checkDefs, checkReferences, Headers, atFirst, nextHeaders, headerReport, directivesFrom, checkDirectives, postChecks}
+use Rattle.log.specs.meaning.Contents.{Span, Cell, number, reference, Value, string, cellList, bytestring, phandle, DefValue, node}
+use Rattle.log.specs.meaning.Contents.{property, deletedNode, deletedProperty, version, plugin, Def, Binding}
+use Rattle.making.specs.meaning.State.{State}
+use Rattle.log.specs.machine.Good.{all, inOrder, goodDef, goodBinding, goodDiag}
+use Rattle.queries.specs.meaning.Kind.{setsOverlay}
+use Rattle.paths_numbers.specs.meaning.Lists.{any}
+use Rattle.queries.specs.meaning.Live.{live}
+use Rattle.resolving.specs.meaning.Resolve.{Resolution, reaches, missing, resolve}
+use Rattle.post_checks.specs.meaning.Post.{duplicatesOf, duplicateLabels, referenceReport, checkTarget, checkCell, checkCells, checkValue}
+use Rattle.post_checks.specs.meaning.Post.{checkValues, checkDef, checkDefs, checkReferences, Headers, atFirst, nextHeaders, headerReport}
+use Rattle.post_checks.specs.meaning.Post.{directivesFrom, checkDirectives, postChecks}
 use Rattle.lowering.proofs.GoodLists.{all-first, all-rest, all-append}
 use Rattle.lowering.proofs.GoodReports.{GoodDiags, no-reports, good-report}
 use Rattle.lowering.proofs.GoodState.{GoodState, def-parts, binding-parts, live-good}
@@ -38,7 +43,8 @@ labels-good labels (b ∷ bs) g =
     let own = binding-parts b (all-first goodBinding b bs g) .0 in
     let rest = all-rest goodBinding b bs g in
     cond-in GoodDiags (any (same (b .label)) labels) (labels-good labels bs rest)
-    (all-append goodDiag (duplicatesOf b (b .path ∷ []) bs) (duplicateLabels (b .label ∷ labels) bs) (duplicates-good b own (b .path ∷ []) bs rest)
+    (all-append goodDiag (duplicatesOf b (b .path ∷ []) bs) (duplicateLabels (b .label ∷ labels) bs)
+    (duplicates-good b own (b .path ∷ []) bs rest)
     (labels-good (b .label ∷ labels) bs rest))
 
 -- references of live properties

@@ -5,15 +5,15 @@ use mathlib.Core.Bool.{true}
 use mathlib.Core.List.{List, [], _∷_}
 use mathlib.Core.Option.{Option, some, none}
 use lib.Dec.{eqb}
-use Rattle.paths_numbers.specs.Text.{isEmpty}
-use Rattle.paths_numbers.specs.Reference.{Target, label, labelPath, path, unreadable, target}
+use Rattle.paths_numbers.specs.meaning.Text.{isEmpty}
+use Rattle.paths_numbers.specs.meaning.Reference.{Target, label, labelPath, path, unreadable, target}
 use Rattle.paths_numbers.proofs.Texts.{cond-in}
-use Rattle.log.specs.Meaning.{Span, Diag}
-use Rattle.log.specs.Good.{all, inOrder, goodDiag}
-use Rattle.input.specs.Tree.{Tree, Trees, textOf, wOf, spanOf, childrenOf, firstOf, nameKind, unitAddressKind, macroKind}
-use Rattle.input.specs.Report.{Got, report, undefinedMacro}
-use Rattle.input.specs.Name.{nameOr, nameOrMacro, addressed, fullName}
-use Rattle.input.specs.Phandle.{readable, macroFirst, lowerPhandle}
+use Rattle.log.specs.meaning.Contents.{Span, Diag}
+use Rattle.log.specs.machine.Good.{all, inOrder, goodDiag}
+use Rattle.input.specs.meaning.Tree.{Tree, Trees, textOf, wOf, spanOf, childrenOf, firstOf, nameKind, unitAddressKind, macroKind}
+use Rattle.input.specs.meaning.Report.{Got, report, undefinedMacro}
+use Rattle.input.specs.meaning.Name.{nameOr, nameOrMacro, addressed, fullName}
+use Rattle.input.specs.meaning.Phandle.{readable, macroFirst, lowerPhandle}
 use Rattle.lowering.proofs.GoodLists.{all-one, all-append}
 use Rattle.input.proofs.Spans.{spans, spansIn, child-spans, first-spans, first-span}
 

@@ -1,16 +1,17 @@
--- States whose definitions, extensions, bindings and diagnostics keep row 8's rules for spans and paths: every operation of a state keeps them.
+-- States whose definitions, extensions, bindings and diagnostics keep row 8's rules for spans and paths: every operation of a state keeps
+-- them.
 use Prim.Native.Nat.{ℕ}
 use mathlib.Core.Path.{_≡_, refl}
 use mathlib.Core.Bool.{true}
 use mathlib.Core.List.{List, [], _∷_, _++_}
 use Rattle.paths_numbers.proofs.Texts.{both, cond-in}
-use Rattle.log.specs.Meaning.{Def, Ext, Binding, Diag}
-use Rattle.log.specs.Sound.{nonemptyPath}
-use Rattle.making.specs.State.{State, start, define, bind, emit, apart, dropped, extended}
-use Rattle.log.specs.Good.{all, inOrder, pathFits, goodDef, goodExt, goodBinding, goodDiag}
-use Rattle.queries.specs.Kind.{any}
-use Rattle.queries.specs.Live.{isLive, live}
-use Rattle.items.specs.Unbind.{bindsLabelOf, without, unbind}
+use Rattle.log.specs.meaning.Contents.{Def, Ext, Binding, Diag}
+use Rattle.log.specs.meaning.Sound.{nonemptyPath}
+use Rattle.making.specs.meaning.State.{State, start, define, bind, emit, apart, dropped, extended}
+use Rattle.log.specs.machine.Good.{all, inOrder, pathFits, goodDef, goodExt, goodBinding, goodDiag}
+use Rattle.paths_numbers.specs.meaning.Lists.{any}
+use Rattle.queries.specs.meaning.Live.{isLive, live}
+use Rattle.items.specs.meaning.Unbind.{bindsLabelOf, without, unbind}
 use Rattle.lowering.proofs.GoodLists.{all-one, all-append}
 use Rattle.lowering.proofs.GoodReports.{GoodDiags}
 
@@ -60,7 +61,12 @@ module _ {s : State} (g : GoodState s) where
   pub good-define : (d : Def) → goodDef d ≡ true → GoodState (define d s)
   unfolding define
   good-define d e =
-      record { defs = all-append goodDef (s .defs) (d ∷ []) (g .defs) (all-one goodDef d e); exts = g .exts; binds = g .binds; diags = g .diags }
+      record {
+        defs = all-append goodDef (s .defs) (d ∷ []) (g .defs) (all-one goodDef d e);
+        exts = g .exts;
+        binds = g .binds;
+        diags = g .diags;
+      }
 
   pub good-bind : (bs : List Binding) → all goodBinding bs ≡ true → GoodState (bind bs s)
   unfolding bind
@@ -90,7 +96,8 @@ module _ {s : State} (g : GoodState s) where
       let own : goodExt e ≡ true = rw (i, j, b) (h .defs) in
       record {
         defs = g .defs;
-        exts = all-append goodExt (s .exts ++ t .exts) (e ∷ []) (all-append goodExt (s .exts) (t .exts) (g .exts) (h .exts)) (all-one goodExt e own);
+        exts = all-append goodExt (s .exts ++ t .exts) (e ∷ []) (all-append goodExt (s .exts) (t .exts) (g .exts) (h .exts))
+            (all-one goodExt e own);
         binds = h .binds;
         diags = h .diags;
       }

@@ -5,10 +5,10 @@ use mathlib.Core.Bool.{true}
 use mathlib.Core.List.{List, []}
 use mathlib.Core.Option.{Option, some, none}
 use lib.Dec.{eqb}
-use Rattle.paths_numbers.specs.Reference.{Target}
-use Rattle.paths_numbers.specs.Number.{unsignedNumber, intCode}
-use Rattle.paths_numbers.specs.Cell.{bitsOf, largest, sizeOf, sizeCode, exprCell, charCell, cellCode}
-use Rattle.paths_numbers.specs.Bytestring.{countOf, countCode}
+use Rattle.paths_numbers.specs.meaning.Reference.{Target}
+use Rattle.paths_numbers.specs.meaning.Number.{unsignedNumber, intCode}
+use Rattle.paths_numbers.specs.meaning.Cell.{bitsOf, largest, sizeOf, sizeCode, exprCell, charCell, cellCode}
+use Rattle.paths_numbers.specs.meaning.Bytestring.{countOf, countCode}
 use Rattle.paths_numbers.specs.declared.expr_eval.ParsedInt.{ParsedInt}
 use Rattle.paths_numbers.specs.declared.expr_eval.ParsedInt.the-variants as U
 use Rattle.paths_numbers.specs.declared.dt_property.BitsSize.{BitsSize}
@@ -19,13 +19,16 @@ use Rattle.paths_numbers.specs.declared.dt_property.Cell.{Cell as Fitted}
 use Rattle.paths_numbers.specs.declared.dt_property.ByteCount.{ByteCount}
 use Rattle.paths_numbers.specs.declared.dt_property.ByteCount.the-variants as B
 use Rattle.paths_numbers.proofs.Texts.{cond-in}
-use Rattle.log.specs.Meaning.{Span}
-use Rattle.log.specs.Good.{inOrder, goodDiag}
-use Rattle.input.specs.Tree.{Tree, Trees, empty, more, kindOf, textOf, wOf, spanOf, childrenOf, referenceKind, macroKind, directiveKind, preprocessorKind, stringKind, cellListKind, bytestringKind, numberKind, characterKind, expressionKind}
-use Rattle.input.specs.Report.{Got, Made}
-use Rattle.input.specs.Phandle.{lowerPhandle}
-use Rattle.input.specs.Expr.{Outcome, value, fails, evals, firstOperand}
-use Rattle.input.specs.Property.{numberCell, fittedCell, outcomeCell, referenceCell, lowerCell, lowerCells, sizedList, countedBytes, referenceValue, lowerValue, lowerValues}
+use Rattle.log.specs.meaning.Contents.{Span}
+use Rattle.log.specs.machine.Good.{inOrder, goodDiag}
+use Rattle.input.specs.meaning.Tree.{Tree, Trees, empty, more, kindOf, textOf, wOf, spanOf, childrenOf, referenceKind, macroKind}
+use Rattle.input.specs.meaning.Tree.{directiveKind, preprocessorKind, stringKind, cellListKind, bytestringKind, numberKind, characterKind}
+use Rattle.input.specs.meaning.Tree.{expressionKind}
+use Rattle.input.specs.meaning.Report.{Got, Made}
+use Rattle.input.specs.meaning.Phandle.{lowerPhandle}
+use Rattle.input.specs.meaning.Expr.{Outcome, value, fails, evals, firstOperand}
+use Rattle.input.specs.meaning.Property.{numberCell, fittedCell, outcomeCell, referenceCell, lowerCell, lowerCells, sizedList, countedBytes}
+use Rattle.input.specs.meaning.Property.{referenceValue, lowerValue, lowerValues}
 use Rattle.lowering.proofs.GoodLists.{all-append}
 use Rattle.lowering.proofs.GoodReports.{GoodDiags, no-reports, good-report, phandle-reports}
 use Rattle.lowering.proofs.GoodExpr.{GoodOutcome, first-good, evals-good}
@@ -49,7 +52,8 @@ outcome-good : (size : BitsSize) (span : Span) → inOrder span ≡ true → (o 
 outcome-good size span g (value z) h = fitted-good span g (exprCell (bitsOf size) z)
 outcome-good size span g (fails ds) h = h
 
-referred-good : (size : BitsSize) (span : Span) → inOrder span ≡ true → (g : Got Target) → GoodDiags (g .reports) → GoodMade (referenceCell size span g)
+referred-good : (size : BitsSize) (span : Span) → inOrder span ≡ true → (g : Got Target) → GoodDiags (g .reports)
+    → GoodMade (referenceCell size span g)
 referred-good size span e g h = go (g .result)
   where
     go : (o : Option Target) → GoodMade (referenceCell size span (record { result = o; reports = g .reports }))
@@ -63,7 +67,8 @@ cell-good size t g =
     cond-in GoodMade (eqb (kindOf t) numberKind) (number-good (spanOf t) e (unsignedNumber (largest size) (textOf t)))
     (cond-in GoodMade (eqb (kindOf t) characterKind) (fitted-good (spanOf t) e (charCell (bitsOf size) (wOf t)))
     (cond-in GoodMade (eqb (kindOf t) expressionKind)
-    (outcome-good size (spanOf t) e (firstOperand (evals (childrenOf t))) (first-good (evals (childrenOf t)) (evals-good (childrenOf t) (child-spans t g))))
+    (outcome-good size (spanOf t) e (firstOperand (evals (childrenOf t)))
+    (first-good (evals (childrenOf t)) (evals-good (childrenOf t) (child-spans t g))))
     (cond-in GoodMade (eqb (kindOf t) referenceKind) (referred-good size (spanOf t) e (lowerPhandle t) (phandle-reports t g))
     (cond-in GoodMade (eqb (kindOf t) macroKind) (good-report 10 (textOf t) (spanOf t) e)
     (cond-in GoodMade (eqb (kindOf t) directiveKind) (good-report 9 [] (spanOf t) e)

@@ -3,36 +3,44 @@ use Prim.Native.Nat.{ℕ}
 use mathlib.Core.Bool.{true, false}
 use mathlib.Core.Path.{_≡_, refl, sym, ap, _∙_}
 use mathlib.Core.List.{List, [], _∷_}
-use Rattle.paths_numbers.specs.Text.{same, isEmpty, begins, startsWith}
-use Rattle.paths_numbers.specs.Path.{join, atOrUnder, strip}
-use Rattle.log.specs.ReadBack.{Log, readLog}
-use Rattle.log.specs.Written.{Written}
-use Rattle.log.specs.RecordExample.{listing, listingBytes, listing-reads}
+use Rattle.paths_numbers.specs.meaning.Text.{same, isEmpty, begins, startsWith}
+use Rattle.paths_numbers.specs.meaning.Path.{join, atOrUnder, strip}
+use Rattle.log.specs.meaning.ReadBack.{Log, readLog}
+use Rattle.log.specs.meaning.Written.{Written}
+use Rattle.log.specs.examples.RecordExample.{listing, listingBytes, listing-reads}
 use Rattle.log.proofs.WrittenExample.{listing-written}
-use Rattle.queries.specs.Kind.{any, setsOverlay}
-use Rattle.queries.specs.Live.{live, isLive, gone}
-use Rattle.queries.specs.Query.{Answered}
-use Rattle.input.specs.Tree.{Trees, firstOf, has}
-use Rattle.input.specs.Name.{nameOrMacro, fullName, nodeNameSpan, labelsOf}
-use Rattle.making.specs.State.{State, define, bind, emit, bindingsBytes, diagsBytes, textsBytes}
-use Rattle.items.specs.Lower.{lowered, lowerItem, lowerItems, lowerNode, lowerDirective, placeOf, opened, labelTexts}
-use Rattle.post_checks.specs.Post.{postChecks, checkDirectives, directivesFrom, checkReferences, checkDefs, duplicateLabels, duplicatesOf}
-use Rattle.input.specs.Input.{description}
-use Rattle.lowering.specs.Lowered.{logOf, recordsMade, bytesMade, fitsIn, meaning, Lowered, done}
-use Rattle.lowering.specs.Example.{items}
-use Rattle.lowering.specs.InputExample.{listingWords, listingText, listing-accepted, listing-read}
+use Rattle.queries.specs.meaning.Kind.{setsOverlay}
+use Rattle.paths_numbers.specs.meaning.Lists.{any}
+use Rattle.queries.specs.meaning.Live.{live, isLive, gone}
+use Rattle.log.specs.meaning.Answer.{Answered}
+use Rattle.input.specs.meaning.Tree.{Trees, firstOf, has}
+use Rattle.input.specs.meaning.Name.{nameOrMacro, fullName, nodeNameSpan, labelsOf}
+use Rattle.making.specs.meaning.State.{State, define, bind, emit, bindingsBytes, diagsBytes, textsBytes}
+use Rattle.items.specs.meaning.Lower.{lowered, lowerItem, lowerItems, lowerNode, lowerDirective, placeOf, opened, labelTexts}
+use Rattle.post_checks.specs.meaning.Post.{postChecks, checkDirectives, directivesFrom, checkReferences, checkDefs, duplicateLabels}
+use Rattle.post_checks.specs.meaning.Post.{duplicatesOf}
+use Rattle.input.specs.meaning.Input.{description}
+use Rattle.lowering.specs.meaning.Lowered.{logOf, recordsMade, bytesMade, fitsIn, meaning, Lowered, done}
+use Rattle.lowering.specs.examples.Example.{items}
+use Rattle.lowering.specs.examples.InputExample.{listingWords, listingText, listing-accepted, listing-read}
 
 -- what the definitions make of the tree, all that is written among it
 made-log : logOf (lowered items) ≡ readLog listing listingBytes
-unfolding logOf lowered lowerItem lowerItems lowerNode lowerDirective placeOf opened labelTexts define bind emit labelsOf nameOrMacro fullName nodeNameSpan firstOf has join same isEmpty postChecks checkDirectives directivesFrom checkReferences checkDefs duplicateLabels duplicatesOf any setsOverlay live isLive gone atOrUnder strip begins startsWith
+unfolding logOf lowered lowerItem lowerItems lowerNode lowerDirective placeOf opened labelTexts define bind emit labelsOf nameOrMacro
+    fullName nodeNameSpan firstOf has join same isEmpty postChecks checkDirectives directivesFrom checkReferences checkDefs duplicateLabels
+    duplicatesOf any setsOverlay live isLive gone atOrUnder strip begins startsWith
 made-log = sym listing-reads
 
 made-records : recordsMade (lowered items) ≡ 6
-unfolding recordsMade lowered lowerItem lowerItems lowerNode lowerDirective placeOf opened labelTexts define bind emit labelsOf nameOrMacro fullName nodeNameSpan firstOf has join same isEmpty postChecks checkDirectives directivesFrom checkReferences checkDefs duplicateLabels duplicatesOf any setsOverlay live isLive gone atOrUnder strip begins startsWith
+unfolding recordsMade lowered lowerItem lowerItems lowerNode lowerDirective placeOf opened labelTexts define bind emit labelsOf nameOrMacro
+    fullName nodeNameSpan firstOf has join same isEmpty postChecks checkDirectives directivesFrom checkReferences checkDefs duplicateLabels
+    duplicatesOf any setsOverlay live isLive gone atOrUnder strip begins startsWith
 made-records = refl
 
 made-bytes : bytesMade (lowered items) ≡ 7
-unfolding bytesMade lowered lowerItem lowerItems lowerNode lowerDirective placeOf opened labelTexts define bind emit bindingsBytes diagsBytes textsBytes labelsOf nameOrMacro fullName nodeNameSpan firstOf has join same isEmpty postChecks checkDirectives directivesFrom checkReferences checkDefs duplicateLabels duplicatesOf any setsOverlay live isLive gone atOrUnder strip begins startsWith
+unfolding bytesMade lowered lowerItem lowerItems lowerNode lowerDirective placeOf opened labelTexts define bind emit bindingsBytes
+    diagsBytes textsBytes labelsOf nameOrMacro fullName nodeNameSpan firstOf has join same isEmpty postChecks checkDirectives directivesFrom
+    checkReferences checkDefs duplicateLabels duplicatesOf any setsOverlay live isLive gone atOrUnder strip begins startsWith
 made-bytes = refl
 
 fits : fitsIn (lowered items) listing listingBytes ≡ true

@@ -6,17 +6,17 @@ use mathlib.Core.List.{List, []}
 use lib.ListN.{length, replicate}
 use Rattle.making.specs.declared.ctx.LowerCtx.{LowerCtx}
 use Rattle.making.specs.declared.place.PathAt.{PathAt}
-use Rattle.log.specs.Meaning.{Diag}
-use Rattle.making.specs.State.{State, start, emit}
-use Rattle.making.specs.Represents.{Place, Represents, atStart, inChecks, checking, StartsChecks, Finishes}
+use Rattle.log.specs.meaning.Contents.{Diag}
+use Rattle.making.specs.meaning.State.{State, start, emit}
+use Rattle.making.specs.machine.Represents.{Place, Represents, atStart, inChecks, checking, StartsChecks, Finishes}
 use Rattle.making.proofs.InHand.{top-place, forget-place}
-use Rattle.queries.specs.Query.{Answered}
-use Rattle.input.specs.Input.{childAt, chainAt, description}
-use Rattle.items.specs.Lower.{lowerItems, lowered}
-use Rattle.post_checks.specs.Post.{postChecks}
-use Rattle.post_checks.specs.Lowers.{Lowers, LowersAt}
-use Rattle.input.specs.Rows.{accepted, verdict}
-use Rattle.lowering.specs.Lowered.{logOf, recordsMade, bytesMade, meaning, Lowered, short, done}
+use Rattle.log.specs.meaning.Answer.{Answered}
+use Rattle.input.specs.meaning.Input.{childAt, chainAt, description}
+use Rattle.items.specs.meaning.Lower.{lowerItems, lowered}
+use Rattle.post_checks.specs.meaning.Post.{postChecks}
+use Rattle.resolving.specs.machine.Lowers.{Lowers, LowersAt}
+use Rattle.input.specs.meaning.Rows.{accepted, verdict}
+use Rattle.lowering.specs.meaning.Lowered.{logOf, recordsMade, bytesMade, meaning, Lowered, short, done}
 use Rattle.post_checks.proofs.PostChecks.{references-alike}
 use Rattle.lowering.proofs.GoodLowered.{accepted-good}
 use Rattle.lowering.proofs.Fits.{fits, fits-not}
@@ -26,7 +26,8 @@ abbrev top : PathAt
 top = record { root = false; start = 0; size = 0 }
 
 pub top-lowered : (words text : List ℕ) {c d : LowerCtx} {out bytes w b : List ℕ} → Represents atStart c out bytes start
-    → LowersAt top c d out bytes w b (λ p s. lowerItems (chainAt words text (childAt words 0)) p s) → Represents atStart d w b (meaning words text)
+    → LowersAt top c d out bytes w b (λ p s. lowerItems (chainAt words text (childAt words 0)) p s)
+    → Represents atStart d w b (meaning words text)
 unfolding description lowered
 top-lowered words text h l =
     let p : Place = record { at = top; path = [] } in
@@ -37,7 +38,8 @@ checks-alike : (s : State) → postChecks (checking s) ≡ postChecks s
 unfolding postChecks
 checks-alike s = rw (references-alike (checking s) s refl refl) refl
 
-module _ (words text : List ℕ) {c d e : LowerCtx} {out bytes w b : List ℕ} (made : Represents atStart c out bytes (meaning words text)) (starts : StartsChecks c d)
+module _ (words text : List ℕ) {c d e : LowerCtx} {out bytes w b : List ℕ} (made : Represents atStart c out bytes (meaning words text))
+    (starts : StartsChecks c d)
     (checks : Lowers d e out bytes w b (λ (s : State). emit (postChecks s) s)) where
   abbrev all : State
   all = meaning words text
@@ -48,9 +50,11 @@ module _ (words text : List ℕ) {c d e : LowerCtx} {out bytes w b : List ℕ} (
       (checks .lowers (inChecks c all) (checking all) (starts .checks out bytes all made))
 
   -- the end, in buffers as long as those that were lent
-  module _ (v : verdict words text ≡ accepted) {out₀ bytes₀ : List ℕ} (lo : length w ≡ length out₀) (lb : length b ≡ length bytes₀) (answer : Answered) where
+  module _ (v : verdict words text ≡ accepted) {out₀ bytes₀ : List ℕ} (lo : length w ≡ length out₀) (lb : length b ≡ length bytes₀)
+      (answer : Answered) where
     -- zeros, where the log ran short
-    pub lowered-short : {x y : List ℕ} → e .short ≡ true → answer ≡ record { number = 7; returned = 0 } → x ≡ replicate (length w) 0 → y ≡ replicate (length b) 0
+    pub lowered-short : {x y : List ℕ} → e .short ≡ true → answer ≡ record { number = 7; returned = 0 } → x ≡ replicate (length w) 0
+        → y ≡ replicate (length b) 0
         → Lowered words text out₀ bytes₀ answer x y
     lowered-short n q x y =
         short v (fits-not all out₀ bytes₀ lo lb checked n) q (x ∙ ap (λ (i : ℕ). replicate i 0) lo) (y ∙ ap (λ (i : ℕ). replicate i 0) lb)

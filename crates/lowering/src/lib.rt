@@ -1,3 +1,3 @@
 // Lowering: items and nodes, which call each other, and the whole with rows 1 to 7 (lower).
 pub mod lower;
-pub mod lower_item;
+mod lower_item;

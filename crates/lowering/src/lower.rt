@@ -1,27 +1,30 @@
 // The whole of lowering (lower_item of item.rs over the top items, then check_mir_post): rows 1 to 7
 // of 01's table, and the log that is written where none of them refuses.
 ghost use mathlib.Core.Path.{_≡_};
-ghost use Rattle.log.specs.Alike.{Words32};
-ghost use Rattle.making.specs.Represents.{Represents, atStart};
-ghost use Rattle.queries.specs.Answer.{told};
-ghost use Rattle.input.specs.Rows.{accepted, verdict};
-ghost use Rattle.lowering.specs.Lowered.{meaning, Lowered};
+ghost use Rattle.log.specs.meaning.Alike.{Words32};
+ghost use Rattle.making.specs.machine.Represents.{Represents, atStart};
+ghost use Rattle.log.specs.meaning.Answer.{told};
+ghost use Rattle.input.specs.meaning.Rows.{accepted, verdict};
+ghost use Rattle.lowering.specs.meaning.Lowered.{meaning, Lowered};
 use crate::lower_item::lower_items;
 use input::record::child_at;
 use input::refusal::Checked;
 use input::refusal::MOST_LINKS;
 use input::refusal::check_input;
+use log::answer::Answer;
+use log::answer::REFUSED_ROOM;
+use log::answer::SUCCESS;
 use making::ctx::LowerCtx;
 use making::place::PathAt;
 use making::start::clear;
 use making::start::start;
 use post_checks::check_mir_post::check_mir_post;
-use queries::query::Answer;
 
 // Lowers an input into the buffers that are lent: any words, any text, any buffers. That words are
 // u32 is the slice's type; it is promised too since demand 3 compares words.
 pub fn lower(words: &[u32], text: &[u8], out: &mut [u32], bytes: &mut [u8]) -> Answer
-    ensures { λ r. ⌜ Lowered (now (words .entry)) (now (text .entry)) (now (out .entry)) (now (bytes .entry)) (told r) (now (out .exit)) (now (bytes .exit)) ⌝ }
+    ensures { λ r. ⌜ Lowered (now (words .entry)) (now (text .entry)) (now (out .entry)) (now (bytes .entry)) (told r) (now (out .exit))
+        (now (bytes .exit)) ⌝ }
     ensures { λ _. ⌜ Words32 (now (out .exit)) ⌝ }
 {
     match check_input(words, text) {
@@ -36,7 +39,8 @@ pub fn lower(words: &[u32], text: &[u8], out: &mut [u32], bytes: &mut [u8]) -> A
 // Lowers an accepted input. A log that does not fit is cleared away, by row 7.
 fn lower_accepted(words: &[u32], text: &[u8], out: &mut [u32], bytes: &mut [u8]) -> Answer
     requires { ⌜ verdict (now words) (now text) ≡ accepted ⌝ }
-    ensures { λ r. ⌜ Lowered (now (words .entry)) (now (text .entry)) (now (out .entry)) (now (bytes .entry)) (told r) (now (out .exit)) (now (bytes .exit)) ⌝ }
+    ensures { λ r. ⌜ Lowered (now (words .entry)) (now (text .entry)) (now (out .entry)) (now (bytes .entry)) (told r) (now (out .exit))
+        (now (bytes .exit)) ⌝ }
 {
     let lowered = lower_top(words, text, out, bytes);
     let reported = lowered.diags.first;
@@ -44,13 +48,13 @@ fn lower_accepted(words: &[u32], text: &[u8], out: &mut [u32], bytes: &mut [u8])
     if checked.short {
         clear(out, bytes);
         return Answer {
-            number: 7,
+            number: REFUSED_ROOM,
             returned: 0,
         };
     }
     checked.finish(out, reported);
     Answer {
-        number: 0,
+        number: SUCCESS,
         returned: 0,
     }
 }

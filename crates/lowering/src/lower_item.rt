@@ -1,16 +1,16 @@
 // Items lowered (lower_item of item.rs and lower_dt_node of dt_node.rs): an item calls the node, a
-// node its body's items, and the level that is left falls with each body.
+// node its body's items, and the nesting that is left falls with each body.
 ghost use mathlib.Core.Path.{_≡_};
 ghost use mathlib.Core.Bool.{true};
 ghost use mathlib.Core.List.{List};
 ghost use Prim.Native.Nat.{ℕ};
-ghost use Rattle.making.specs.State.{State};
-ghost use Rattle.items.specs.Lower.{lowerNode, lowerItem, lowerItems};
-ghost use Rattle.input.specs.Input.{childAt, secondAt, spanAt, chainAt, recordAt};
-ghost use Rattle.input.specs.GoodName.{goodNames, goodNamesIn};
-ghost use Rattle.input.specs.Linked.{Linked, RecordIn, ChainIn};
-ghost use Rattle.post_checks.specs.Lowers.{LowersAt};
-ghost use Rattle.items.specs.NodeLowered.{LowersApart};
+ghost use Rattle.making.specs.meaning.State.{State};
+ghost use Rattle.items.specs.meaning.Lower.{lowerNode, lowerItem, lowerItems};
+ghost use Rattle.input.specs.meaning.Input.{childAt, secondAt, spanAt, chainAt, recordAt};
+ghost use Rattle.input.specs.meaning.GoodName.{goodNames, goodNamesIn};
+ghost use Rattle.input.specs.machine.Linked.{Linked, RecordIn, ChainIn};
+ghost use Rattle.resolving.specs.machine.Lowers.{LowersAt};
+ghost use Rattle.items.specs.machine.NodeLowered.{LowersApart};
 use input::kinds::DIRECTIVE;
 use input::kinds::NODE;
 use input::kinds::PREPROCESSOR;
@@ -26,9 +26,7 @@ use items::item::handle_dts_directive;
 use items::report::emit_code;
 use making::ctx::LowerCtx;
 use making::place::PathAt;
-
-// The code of a preprocessor directive.
-const PREPROCESSOR_CODE: u32 = 1;
+use paths_numbers::codes;
 
 // Lowers a chain of items under a path.
 pub fn lower_items(
@@ -36,20 +34,21 @@ pub fn lower_items(
     text: &[u8],
     first: u32,
     parent: PathAt,
-    level: u32,
+    nesting: u32,
     out: &mut [u32],
     bytes: &mut [u8],
     ctx: LowerCtx,
 ) -> LowerCtx
     requires { ⌜ Linked (now words) ⌝ }
-    requires { ⌜ ChainIn (now words) (now text) first level ⌝ }
+    requires { ⌜ ChainIn (now words) (now text) first nesting ⌝ }
     requires { ⌜ goodNamesIn (chainAt (now words) (now text) first) ≡ true ⌝ }
-    ensures { λ d. ⌜ LowersAt parent ctx d (now (out .entry)) (now (bytes .entry)) (now (out .exit)) (now (bytes .exit)) (λ p s. lowerItems (chainAt (now (words .entry)) (now (text .entry)) first) p s) ⌝ }
+    ensures { λ d. ⌜ LowersAt parent ctx d (now (out .entry)) (now (bytes .entry)) (now (out .exit)) (now (bytes .exit))
+        (λ p s. lowerItems (chainAt (now (words .entry)) (now (text .entry)) first) p s) ⌝ }
 {
     let mut state = ctx;
     let mut r = first;
     while r != 0 {
-        state = lower_item(words, text, r, parent, level, out, bytes, state);
+        state = lower_item(words, text, r, parent, nesting, out, bytes, state);
         r = next_at(words, r);
     }
     state
@@ -61,28 +60,29 @@ fn lower_item(
     text: &[u8],
     r: u32,
     parent: PathAt,
-    level: u32,
+    nesting: u32,
     out: &mut [u32],
     bytes: &mut [u8],
     ctx: LowerCtx,
 ) -> LowerCtx
     requires { ⌜ Linked (now words) ⌝ }
-    requires { ⌜ RecordIn (now words) (now text) r level ⌝ }
+    requires { ⌜ RecordIn (now words) (now text) r nesting ⌝ }
     requires { ⌜ goodNames (recordAt (now words) (now text) r) ≡ true ⌝ }
-    ensures { λ d. ⌜ LowersAt parent ctx d (now (out .entry)) (now (bytes .entry)) (now (out .exit)) (now (bytes .exit)) (λ p s. lowerItem (recordAt (now (words .entry)) (now (text .entry)) r) p s) ⌝ }
+    ensures { λ d. ⌜ LowersAt parent ctx d (now (out .entry)) (now (bytes .entry)) (now (out .exit)) (now (bytes .exit))
+        (λ p s. lowerItem (recordAt (now (words .entry)) (now (text .entry)) r) p s) ⌝ }
 {
     let kind = kind_at(words, r);
     if kind == NODE {
-        return lower_dt_node(words, text, r, parent, level, out, bytes, ctx);
+        return lower_dt_node(words, text, r, parent, nesting, out, bytes, ctx);
     }
     if kind == PROPERTY {
-        return lower_dt_property(words, text, r, parent, level, out, bytes, ctx);
+        return lower_dt_property(words, text, r, parent, nesting, out, bytes, ctx);
     }
     if kind == DIRECTIVE {
         return handle_dts_directive(words, text, r, parent, out, bytes, ctx);
     }
     if kind == PREPROCESSOR {
-        return emit_code(words, PREPROCESSOR_CODE, r, out, bytes, ctx);
+        return emit_code(words, codes::PREPROCESSOR, r, out, bytes, ctx);
     }
     ctx
 }
@@ -93,15 +93,18 @@ fn lower_dt_node(
     text: &[u8],
     r: u32,
     parent: PathAt,
-    level: u32,
+    nesting: u32,
     out: &mut [u32],
     bytes: &mut [u8],
     ctx: LowerCtx,
 ) -> LowerCtx
     requires { ⌜ Linked (now words) ⌝ }
-    requires { ⌜ RecordIn (now words) (now text) r level ⌝ }
+    requires { ⌜ RecordIn (now words) (now text) r nesting ⌝ }
     requires { ⌜ goodNames (recordAt (now words) (now text) r) ≡ true ⌝ }
-    ensures { λ d. ⌜ LowersAt parent ctx d (now (out .entry)) (now (bytes .entry)) (now (out .exit)) (now (bytes .exit)) (λ p s. lowerNode p (chainAt (now (words .entry)) (now (text .entry)) (childAt (now (words .entry)) r)) (spanAt (now (words .entry)) r) (λ (q : List ℕ) (u : State). lowerItems (chainAt (now (words .entry)) (now (text .entry)) (secondAt (now (words .entry)) r)) q u) s) ⌝ }
+    ensures { λ d. ⌜ LowersAt parent ctx d (now (out .entry)) (now (bytes .entry)) (now (out .exit)) (now (bytes .exit))
+        (λ p s. lowerNode p (chainAt (now (words .entry)) (now (text .entry)) (childAt (now (words .entry)) r))
+        (spanAt (now (words .entry)) r) (λ (q : List ℕ) (u : State). lowerItems
+        (chainAt (now (words .entry)) (now (text .entry)) (secondAt (now (words .entry)) r)) q u) s) ⌝ }
 {
     if ctx.short {
         return ctx;
@@ -112,10 +115,10 @@ fn lower_dt_node(
     match node {
         NodePlace::At(place) => {
             let first = second_at(words, r);
-            lower_items(words, text, first, place, level - 1, out, bytes, made)
+            lower_items(words, text, first, place, nesting - 1, out, bytes, made)
         }
         NodePlace::Aside(reference, kind, keeps) => {
-            let body = lower_apart(words, text, r, keeps, level - 1, out, bytes, made);
+            let body = lower_apart(words, text, r, keeps, nesting - 1, out, bytes, made);
             settle_aside(
                 words,
                 text,
@@ -130,7 +133,7 @@ fn lower_dt_node(
             )
         }
         NodePlace::Discarded => {
-            let body = lower_apart(words, text, r, false, level - 1, out, bytes, made);
+            let body = lower_apart(words, text, r, false, nesting - 1, out, bytes, made);
             body.leave_dropped(out, bytes, made)
         }
         NodePlace::Nowhere => made,
@@ -143,15 +146,17 @@ fn lower_apart(
     text: &[u8],
     r: u32,
     keeps: bool,
-    level: u32,
+    nesting: u32,
     out: &mut [u32],
     bytes: &mut [u8],
     ctx: LowerCtx,
 ) -> LowerCtx
     requires { ⌜ Linked (now words) ⌝ }
-    requires { ⌜ ChainIn (now words) (now text) (secondAt (now words) r) level ⌝ }
+    requires { ⌜ ChainIn (now words) (now text) (secondAt (now words) r) nesting ⌝ }
     requires { ⌜ goodNamesIn (chainAt (now words) (now text) (secondAt (now words) r)) ≡ true ⌝ }
-    ensures { λ d. ⌜ LowersApart ctx d keeps (now (out .entry)) (now (bytes .entry)) (now (out .exit)) (now (bytes .exit)) (λ (q : List ℕ) (u : State). lowerItems (chainAt (now (words .entry)) (now (text .entry)) (secondAt (now (words .entry)) r)) q u) ⌝ }
+    ensures { λ d. ⌜ LowersApart ctx d keeps (now (out .entry)) (now (bytes .entry)) (now (out .exit)) (now (bytes .exit))
+        (λ (q : List ℕ) (u : State). lowerItems (chainAt (now (words .entry)) (now (text .entry)) (secondAt (now (words .entry)) r)) q
+        u) ⌝ }
 {
     let inner = ctx.enter(keeps);
     let first = second_at(words, r);
@@ -160,5 +165,5 @@ fn lower_apart(
         start: 0,
         size: 0,
     };
-    lower_items(words, text, first, root, level, out, bytes, inner)
+    lower_items(words, text, first, root, nesting, out, bytes, inner)
 }

@@ -1,5 +1,5 @@
--- Every record of a complete log in the making is reached: along its chain, from record 0, from the record below which it stands, or from the
--- extension whose body it is in.
+-- Every record of a complete log in the making is reached: along its chain, from record 0, from the record below which it stands, or from
+-- the extension whose body it is in.
 use Prim.Native.Nat.{ℕ, zero, suc, _+_, _≤_, _<_}
 use mathlib.Core.Path.{_≡_, ap, _∙_}
 use mathlib.Core.Bool.{true, cond}
@@ -9,11 +9,13 @@ use borrow.Author.Tests.{eqb-true}
 use lib.Dec.{eqb}
 use lib.ListN.{length}
 use Rattle.paths_numbers.proofs.Texts.{by-test, both}
-use Rattle.log.specs.Record.{kindOf, nextOf, childOf, mOf, extensionKind, hasChildren, logCount, leads}
-use Rattle.log.specs.Sound.{Place, times}
-use Rattle.making.specs.Events.{Event, defsOf, extsOf, bindings, diagnostics, postDiagnostics, childrenOf, inChain, first, bytesIn, allWords, Ordered, ordered-next}
-use Rattle.making.specs.Whole.{At, at-here, at-later, There, Logged, logged-hand, logged-body, Stands, in-defs, in-exts, in-bindings, in-diagnostics, in-post, in-children, mainLog, Whole}
-use Rattle.making.specs.Finished.{headIn}
+use Rattle.log.specs.meaning.Record.{kindOf, nextOf, childOf, mOf, extensionKind, hasChildren, logCount, leads}
+use Rattle.log.specs.meaning.Sound.{Place, times}
+use Rattle.making.specs.machine.Events.{Event, defsOf, extsOf, bindings, diagnostics, postDiagnostics, childrenOf, inChain, first}
+use Rattle.making.specs.machine.Events.{bytesIn, allWords, Ordered, ordered-next}
+use Rattle.making.specs.machine.Whole.{At, at-here, at-later, There, Logged, logged-hand, logged-body, Stands, in-defs, in-exts}
+use Rattle.making.specs.machine.Whole.{in-bindings, in-diagnostics, in-post, in-children, mainLog, Whole}
+use Rattle.making.specs.machine.Finished.{headIn}
 use Rattle.log.proofs.Walk.{toOf, heads-followed}
 use Rattle.log.proofs.Reached.{Reached, out-reached, times-outs, times-to, Head, defs, exts, binds, diags, post, head-led}
 use Rattle.making.proofs.ReadEvents.{Splits, splits-here, splits-later, next-at, leads-there}
@@ -32,22 +34,26 @@ next-led words a t h q l =
     let z : times t (toOf words (nextOf words a)) ≡ 1 = rw q (times-to words t l) in
     out-reached words a t h (omega (arith, times-outs words a t))
 
-child-led : (words : List ℕ) (a t : ℕ) → Reached words a → hasChildren (kindOf words a) ≡ true → childOf words a ≡ t → leads words t ≡ true → Reached words t
+child-led : (words : List ℕ) (a t : ℕ) → Reached words a → hasChildren (kindOf words a) ≡ true → childOf words a ≡ t → leads words t ≡ true
+    → Reached words t
 child-led words a t h k q l =
     let z : times t (cond (hasChildren (kindOf words a)) (toOf words (childOf words a)) []) ≡ 1 = rw (k, q) (times-to words t l) in
     out-reached words a t h (omega (arith, times-outs words a t))
 
-body-led : (words : List ℕ) (a t : ℕ) → Reached words a → kindOf words a ≡ extensionKind → mOf words a ≡ t → leads words t ≡ true → Reached words t
+body-led : (words : List ℕ) (a t : ℕ) → Reached words a → kindOf words a ≡ extensionKind → mOf words a ≡ t → leads words t ≡ true
+    → Reached words t
 body-led words a t h k q l =
     let z : times t (cond (eqb (kindOf words a) extensionKind) (toOf words (mOf words a)) []) ≡ 1 = rw (k, q) (times-to words t l) in
     out-reached words a t h (omega (arith, times-outs words a t))
 
-module _ (es : List Event) (records used room : ℕ) (fits : 1 + length es ≤ logCount (allWords (headIn records used es) es room)) (ordered : Ordered 1 es) (whole : Whole es) where
+module _ (es : List Event) (records used room : ℕ) (fits : 1 + length es ≤ logCount (allWords (headIn records used es) es room))
+    (ordered : Ordered 1 es) (whole : Whole es) where
   abbrev words : List ℕ
   words = allWords (headIn records used es) es room
 
   -- the first record of a chain that has records
-  first-leads : (c k : ℕ) (later : List Event) {t : ℕ} {y : Event} → 0 < k → k + length later ≤ logCount words → At k later t y → inChain c y ≡ true
+  first-leads : (c k : ℕ) (later : List Event) {t : ℕ} {y : Event} → 0 < k → k + length later ≤ logCount words → At k later t y
+      → inChain c y ≡ true
       → leads words (first c k later) ≡ true
   first-leads c k later h n p u =
       let f = first-some c p u h in
@@ -75,13 +81,15 @@ module _ (es : List Event) (records used room : ℕ) (fits : 1 + length es ≤ l
       (λ v. chain-led c p (at + bytesIn x) (omega arith) (omega arith) more (rw v at l) u)
 
   -- from its start
-  start-led : (c : ℕ) {t : ℕ} {y : Event} → There es t y → y .chain ≡ c → (leads words (first c 1 es) ≡ true → Reached words (first c 1 es)) → Reached words t
+  start-led : (c : ℕ) {t : ℕ} {y : Event} → There es t y → y .chain ≡ c → (leads words (first c 1 es) ≡ true → Reached words (first c 1 es))
+      → Reached words t
   start-led c {y = y} h q f =
       let u = in-chain c y (h .alive) q in
       chain-led c (h .at) 0 (omega arith) fits (λ r b e ys s. s) (f (first-leads c 1 es (omega arith) fits (h .at) u)) u
 
   -- record 0's chains
-  from-head : {r : ℕ} {p : Place} (c : ℕ) → Head words r p → r ≡ first c 1 es → leads words (first c 1 es) ≡ true → Reached words (first c 1 es)
+  from-head : {r : ℕ} {p : Place} (c : ℕ) → Head words r p → r ≡ first c 1 es → leads words (first c 1 es) ≡ true
+      → Reached words (first c 1 es)
   from-head {r} c x e l = rw (← e) (omega (arith, heads-followed words r, head-led x (rw e l)))
 
   ext-led : {t : ℕ} {y : Event} → There es t y → y .chain ≡ extsOf 0 → Reached words t
@@ -89,7 +97,8 @@ module _ (es : List Event) (records used room : ℕ) (fits : 1 + length es ≤ l
 
   -- a body
   def-led : {l t : ℕ} {y : Event} → There es t y → y .chain ≡ defsOf l → Logged mainLog es l → Reached words t
-  def-led h q (logged-hand z) = start-led (defsOf 0) h (q ∙ ap defsOf z) (from-head (defsOf 0) defs (head-def es records used room fits ordered whole))
+  def-led h q (logged-hand z) = start-led (defsOf 0) h (q ∙ ap defsOf z)
+      (from-head (defsOf 0) defs (head-def es records used room fits ordered whole))
   def-led h q (logged-body {r} {x} i k) =
       let o = extends (whole .making .stands r x i) k in
       start-led (defsOf (x .log)) h q
@@ -98,16 +107,20 @@ module _ (es : List Event) (records used room : ℕ) (fits : 1 + length es ≤ l
       (m-is es records used room fits ordered whole i ∙ o .body))
 
   -- by where it stands
-  stands-led : {t : ℕ} {y : Event} → There es t y → Stands mainLog es t y → ((o : ℕ) (x : Event) → There es o x → o < t → Reached words o) → Reached words t
+  stands-led : {t : ℕ} {y : Event} → There es t y → Stands mainLog es t y → ((o : ℕ) (x : Event) → There es o x → o < t → Reached words o)
+      → Reached words t
   stands-led h (in-defs k q o) f = def-led h q k
   stands-led h (in-exts z q k m b o) f = ext-led h (q ∙ ap extsOf z)
   stands-led h (in-bindings q k) f = start-led bindings h q (from-head bindings binds (head-bind es records used room fits ordered whole))
-  stands-led h (in-diagnostics q k) f = start-led diagnostics h q (from-head diagnostics diags (head-diag es records used room fits ordered whole))
-  stands-led h (in-post q k) f = start-led postDiagnostics h q (from-head postDiagnostics post (head-post es records used room fits ordered whole))
+  stands-led h (in-diagnostics q k) f = start-led diagnostics h q
+      (from-head diagnostics diags (head-diag es records used room fits ordered whole))
+  stands-led h (in-post q k) f = start-led postDiagnostics h q (from-head postDiagnostics post
+      (head-post es records used room fits ordered whole))
   stands-led h (in-children {o} {x} i q k u) f =
       let led = f o x i (owner-before ordered (h .at) q) in
       start-led (childrenOf o) h q
-      (child-led words o (first (childrenOf o) 1 es) led (rw (kind-is es records used room fits ordered whole i) k) (child-is es records used room fits ordered whole i))
+      (child-led words o (first (childrenOf o) 1 es) led (rw (kind-is es records used room fits ordered whole i) k)
+      (child-is es records used room fits ordered whole i))
 
   led-below : (n : ℕ) {t : ℕ} {y : Event} → t < n → There es t y → Reached words t
   led-below zero l h = absurd (omega arith)

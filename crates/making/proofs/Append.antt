@@ -10,7 +10,8 @@ use lib.Dec.{eqb}
 use lib.ListN.{length, set, replicate, length-append}
 use lib.Seq.{set-append-left}
 use Rattle.paths_numbers.proofs.Texts.{by-test, not-both, both}
-use Rattle.making.specs.Events.{Event, childrenOf, inChain, first, last, startOf, alive16, words16, bytesIn, wordsFrom, texts, endOf}
+use Rattle.making.specs.machine.Events.{Event, childrenOf, inChain, first, last, startOf, alive16, words16, bytesIn, wordsFrom, texts}
+use Rattle.making.specs.machine.Events.{endOf}
 
 -- the first of a chain is there or is the new one
 pub first-there : (c k : ℕ) (es : List Event) (e : Event) → 0 < k → (first c k es ≡ 0 → ⊥) → first c k (es ++ e ∷ []) ≡ first c k es
@@ -19,7 +20,8 @@ first-there c k [] e p n = absurd (n refl)
 first-there c k (x ∷ es) e p n =
     by-test (inChain c x) (λ t. rw t refl) (λ t. rw t (first-there c (k + 1) es e (omega arith) (λ z. n (rw t z))))
 
-pub first-new : (c k : ℕ) (es : List Event) (e : Event) → 0 < k → first c k es ≡ 0 → inChain c e ≡ true → first c k (es ++ e ∷ []) ≡ k + length es
+pub first-new : (c k : ℕ) (es : List Event) (e : Event) → 0 < k → first c k es ≡ 0 → inChain c e ≡ true
+    → first c k (es ++ e ∷ []) ≡ k + length es
 unfolding first
 first-new c k [] e p z t = rw t (omega arith)
 first-new c k (x ∷ es) e p z t =
@@ -139,7 +141,8 @@ words-out c k at x es e q u g =
 
 -- and of the record that leads to the new one
 words-link : (c k at n : ℕ) (x : Event) (es : List Event) (e : Event) → inChain c x ≡ true → first c (k + 1) (es ++ e ∷ []) ≡ n
-    → first (childrenOf k) (k + 1) (es ++ e ∷ []) ≡ first (childrenOf k) (k + 1) es → words16 k at x (es ++ e ∷ []) ≡ set (words16 k at x es) 1 n
+    → first (childrenOf k) (k + 1) (es ++ e ∷ []) ≡ first (childrenOf k) (k + 1) es
+    → words16 k at x (es ++ e ∷ []) ≡ set (words16 k at x es) 1 n
 unfolding words16
 words-link c k at n x es e u f g =
     let h = both (x .alive) (eqb (x .chain) c) u in
@@ -159,7 +162,8 @@ module _ (c : ℕ) (e : Event) (alive : e .alive ≡ true) (q : e .chain ≡ c) 
   new-in = rw (alive, q) (eq-eqb c c refl)
 
   -- one record more in front
-  step : (k at l n : ℕ) (x : Event) (es : List Event) (w : List ℕ) → 0 < k → (c ≡ childrenOf k → l ≡ 0 → ⊥) → last c (k + 1) es ≡ l → n ≡ k + 1 + length es
+  step : (k at l n : ℕ) (x : Event) (es : List Event) (w : List ℕ) → 0 < k → (c ≡ childrenOf k → l ≡ 0 → ⊥) → last c (k + 1) es ≡ l
+      → n ≡ k + 1 + length es
       → words16 k at x (es ++ e ∷ []) ++ linked l (k + 1) n w
       ≡ linked (cond (eqb l 0) (cond (inChain c x) k 0) l) k n (words16 k at x es ++ w)
   unfolding linked
@@ -167,25 +171,30 @@ module _ (c : ℕ) (e : Event) (alive : e .alive ≡ true) (q : e .chain ≡ c) 
       by-test (eqb l 0)
       (λ z.
       let l0 : l ≡ 0 = eqb-true l 0 z in
-      let kids : first (childrenOf k) (k + 1) (es ++ e ∷ []) ≡ first (childrenOf k) (k + 1) es = same-first c (k + 1) es e (omega arith) q (childrenOf k) (λ g h. f g l0) in
+      let kids : first (childrenOf k) (k + 1) (es ++ e ∷ []) ≡ first (childrenOf k) (k + 1) es = same-first c (k + 1) es e (omega arith) q
+      (childrenOf k) (λ g h. f g l0) in
       by-test (inChain c x)
       (λ u.
-      let g : first c (k + 1) (es ++ e ∷ []) ≡ n = first-new c (k + 1) es e (omega arith) (last-first c (k + 1) es (e1 ∙ l0) (omega arith)) new-in ∙ sym en in
+      let g : first c (k + 1) (es ++ e ∷ []) ≡ n = first-new c (k + 1) es e (omega arith) (last-first c (k + 1) es (e1 ∙ l0) (omega arith))
+      new-in ∙ sym en in
       let nz : eqb k 0 ≡ false = ne-eqb k 0 (omega arith) in
       let ix : (k - k) * 16 + 1 ≡ 1 = omega arith in
-      rw (z, u, nz, ix, words-link c k at n x es e u g kids) (sym (set-append-left (words16 k at x es) w 1 n (rw (length-words k at x es) (omega arith)))))
+      rw (z, u, nz, ix, words-link c k at n x es e u g kids) (sym
+      (set-append-left (words16 k at x es) w 1 n (rw (length-words k at x es) (omega arith)))))
       (λ u.
       rw (z, u, words-out c k at x es e q u kids) refl))
       (λ z.
       let nz : l ≡ 0 → ⊥ = eqb-false l 0 z in
       let ge : k + 1 ≤ l = rw e1 at (last-from c (k + 1) es (λ y. nz (sym e1 ∙ y))) in
-      let all : (d : ℕ) → first d (k + 1) (es ++ e ∷ []) ≡ first d (k + 1) es = λ d. same-first c (k + 1) es e (omega arith) q d (λ g h. nz (sym e1 ∙ h)) in
+      let all : (d : ℕ) → first d (k + 1) (es ++ e ∷ []) ≡ first d (k + 1) es = λ d. same-first c (k + 1) es e (omega arith) q d
+      (λ g h. nz (sym e1 ∙ h)) in
       rw (z, z, words-same k at x es e (all (x .chain)) (all (childrenOf k)))
       (sym (set-behind (words16 k at x es) w ((l - k) * 16 + 1) ((l - (k + 1)) * 16 + 1) n (length-words k at x es) (omega arith))))
 
   -- all words after the new record is made
   pub words-append : (k at : ℕ) (es : List Event) → 0 < k → Safe c k es
-      → wordsFrom k at (es ++ e ∷ []) ≡ linked (last c k es) k (k + length es) (wordsFrom k at es ++ words16 (k + length es) (endOf at es) e [])
+      → wordsFrom k at (es ++ e ∷ []) ≡ linked (last c k es) k (k + length es)
+      (wordsFrom k at es ++ words16 (k + length es) (endOf at es) e [])
   unfolding wordsFrom last endOf
   words-append k at [] p s =
       let n : k + 0 ≡ k = omega arith in
@@ -194,14 +203,18 @@ module _ (c : ℕ) (e : Event) (alive : e .alive ≡ true) (q : e .chain ≡ c) 
       let n : k + suc (length es) ≡ k + 1 + length es = omega arith in
       let l = last c (k + 1) es in
       rw (n, words-append (k + 1) (at + bytesIn x) es (omega arith) s)
-      (step k at l (k + 1 + length es) x es (wordsFrom (k + 1) (at + bytesIn x) es ++ words16 (k + 1 + length es) (endOf (at + bytesIn x) es) e []) p f refl refl
+      (step k at l (k + 1 + length es) x es (wordsFrom (k + 1) (at + bytesIn x) es ++ words16 (k + 1 + length es)
+      (endOf (at + bytesIn x) es) e []) p f refl refl
       ∙ ap (λ (w : List ℕ). linked (cond (eqb l 0) (cond (inChain c x) k 0) l) k (k + 1 + length es) w)
-      (sym (append-assoc (words16 k at x es) (wordsFrom (k + 1) (at + bytesIn x) es) (words16 (k + 1 + length es) (endOf (at + bytesIn x) es) e []))))
+      (sym (append-assoc (words16 k at x es) (wordsFrom (k + 1) (at + bytesIn x) es)
+      (words16 (k + 1 + length es) (endOf (at + bytesIn x) es) e []))))
 
 -- the record whose first child the new one is: it is there, and nothing of that chain comes after it
 pub data Owner (c : ℕ) : ℕ → ℕ → List Event → Type 0 where
-  owner-here : {k : ℕ} {x : Event} {es : List Event} → c ≡ childrenOf k → x .alive ≡ true → (x .chain ≡ c → ⊥) → last c (k + 1) es ≡ 0 → Owner c k k (x ∷ es)
-  owner-later : {k o : ℕ} {x : Event} {es : List Event} → k < o → inChain c x ≡ false → (c ≡ childrenOf k → ⊥) → Owner c o (k + 1) es → Owner c o k (x ∷ es)
+  owner-here : {k : ℕ} {x : Event} {es : List Event} → c ≡ childrenOf k → x .alive ≡ true → (x .chain ≡ c → ⊥) → last c (k + 1) es ≡ 0
+      → Owner c k k (x ∷ es)
+  owner-later : {k o : ℕ} {x : Event} {es : List Event} → k < o → inChain c x ≡ false → (c ≡ childrenOf k → ⊥) → Owner c o (k + 1) es
+      → Owner c o k (x ∷ es)
 
 -- a chain of a record's children is no other record's
 pub above-safe : (c o k : ℕ) (es : List Event) → c ≡ childrenOf o → o < k → Safe c k es
@@ -210,7 +223,8 @@ above-safe c o k (x ∷ es) q p =
     safe-next (λ (e : c ≡ childrenOf k) (z : last c (k + 1) es ≡ 0). omega (arith, sym q ∙ e)) (above-safe c o (k + 1) es q (omega arith))
 
 -- its words: the child link is set
-words-child : (k at n : ℕ) (x : Event) (es : List Event) (e : Event) → x .alive ≡ true → first (x .chain) (k + 1) (es ++ e ∷ []) ≡ first (x .chain) (k + 1) es
+words-child : (k at n : ℕ) (x : Event) (es : List Event) (e : Event) → x .alive ≡ true
+    → first (x .chain) (k + 1) (es ++ e ∷ []) ≡ first (x .chain) (k + 1) es
     → first (childrenOf k) (k + 1) (es ++ e ∷ []) ≡ n → words16 k at x (es ++ e ∷ []) ≡ set (words16 k at x es) 6 n
 unfolding words16
 words-child k at n x es e t f g = rw (t, f, g) refl
@@ -218,14 +232,16 @@ words-child k at n x es e t f g = rw (t, f, g) refl
 module _ (c : ℕ) (e : Event) (alive : e .alive ≡ true) (q : e .chain ≡ c) where
   -- all words after a first child is made
   pub words-first-child : (o k at : ℕ) (es : List Event) → 0 < k → Owner c o k es
-      → wordsFrom k at (es ++ e ∷ []) ≡ set (wordsFrom k at es ++ words16 (k + length es) (endOf at es) e []) ((o - k) * 16 + 6) (k + length es)
+      → wordsFrom k at (es ++ e ∷ []) ≡ set (wordsFrom k at es ++ words16 (k + length es) (endOf at es) e []) ((o - k) * 16 + 6)
+      (k + length es)
   unfolding wordsFrom endOf
   words-first-child o k at (x ∷ es) p (owner-here cq t d l) =
       let n : k + suc (length es) ≡ k + 1 + length es = omega arith in
       let w = wordsFrom (k + 1) (at + bytesIn x) es in
       let v = words16 (k + 1 + length es) (endOf (at + bytesIn x) es) e [] in
       let rest : wordsFrom (k + 1) (at + bytesIn x) (es ++ e ∷ []) ≡ w ++ v =
-      words-append c e alive q (k + 1) (at + bytesIn x) es (omega arith) (above-safe c k (k + 1) es cq (omega arith)) ∙ rw l (linked-none (k + 1) (k + 1 + length es) (w ++ v)) in
+      words-append c e alive q (k + 1) (at + bytesIn x) es (omega arith) (above-safe c k (k + 1) es cq (omega arith))
+      ∙ rw l (linked-none (k + 1) (k + 1 + length es) (w ++ v)) in
       let f = first-other (x .chain) (k + 1) es e (chain-other c (x .chain) e q (λ z. d (sym z))) in
       let g : first (childrenOf k) (k + 1) (es ++ e ∷ []) ≡ k + 1 + length es =
       rw (← cq) (first-new c (k + 1) es e (omega arith) (last-first c (k + 1) es l (omega arith)) (new-in c e alive q)) in
@@ -237,5 +253,12 @@ module _ (c : ℕ) (e : Event) (alive : e .alive ≡ true) (q : e .chain ≡ c) 
       let w = wordsFrom (k + 1) (at + bytesIn x) es in
       let v = words16 (k + 1 + length es) (endOf (at + bytesIn x) es) e [] in
       let kids = first-other (childrenOf k) (k + 1) es e (chain-other c (childrenOf k) e q d) in
-      rw (n, words-first-child o (k + 1) (at + bytesIn x) es (omega arith) r, words-out c k at x es e q u kids, append-assoc (words16 k at x es) w v)
-      (sym (set-behind (words16 k at x es) (w ++ v) ((o - k) * 16 + 6) ((o - (k + 1)) * 16 + 6) (k + 1 + length es) (length-words k at x es) (omega arith)))
+      rw (
+        n,
+        words-first-child o (k + 1) (at + bytesIn x) es (omega arith) r,
+        words-out c k at x es e q u kids,
+        append-assoc
+            (words16 k at x es) w v,
+      )
+      (sym (set-behind (words16 k at x es) (w ++ v) ((o - k) * 16 + 6) ((o - (k + 1)) * 16 + 6) (k + 1 + length es) (length-words k at x es)
+      (omega arith)))

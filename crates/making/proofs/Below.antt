@@ -8,12 +8,13 @@ use borrow.Author.Tests.{eqb-true, eqb-false}
 use lib.Dec.{eqb}
 use lib.ListN.{length}
 use Rattle.paths_numbers.proofs.Texts.{by-test, not-both, both}
-use Rattle.log.specs.Meaning.{Cell, Value, DefValue}
-use Rattle.making.specs.State.{onLast, withLabel, onValues, withCell, changed, lastIs}
-use Rattle.log.specs.Record.{nodeKind, propertyKind, cellListKind}
-use Rattle.making.specs.Events.{Event, defsOf, extsOf, childrenOf, inChain, last, Ordered, Numbered, members, below, cellOf, valueOf, defValueOf, defOf, defsIn}
-use Rattle.making.specs.Represents.{Each, OtherBody, extsIn}
-use Rattle.making.specs.Whole.{At, at-here, at-later}
+use Rattle.log.specs.meaning.Contents.{Cell, Value, DefValue}
+use Rattle.making.specs.machine.Adding.{onLast, withLabel, onValues, withCell, changed, lastIs}
+use Rattle.log.specs.meaning.Record.{nodeKind, propertyKind, cellListKind}
+use Rattle.making.specs.machine.Events.{Event, defsOf, extsOf, childrenOf, inChain, last, Ordered, Numbered, members, below, cellOf}
+use Rattle.making.specs.machine.Events.{valueOf, defValueOf, defOf, defsIn}
+use Rattle.making.specs.machine.Represents.{Each, OtherBody, extsIn}
+use Rattle.making.specs.machine.Whole.{At, at-here, at-later}
 use Rattle.making.proofs.Append.{chain-other, new-in, last-from}
 use Rattle.making.proofs.Members.{map-members, members-more, members-other, SameBelow, value-same, def-same, defs-same}
 use Rattle.making.proofs.Growing.{each-at, exts-same, childless}
@@ -46,7 +47,8 @@ last-at c k (x ∷ es) n =
     by-test (inChain c x)
     (λ u. let b = both (x .alive) _ u in rw (q, u) (record { event = x; at = at-here; there = b .0; chain = eqb-true _ _ (b .1) }))
     (λ u. absurd (n (rw (q, u) refl))))
-    (λ q. let f = last-at c (k + 1) es (eqb-false _ _ q) in rw q (record { event = f .event; at = at-later (f .at); there = f .there; chain = f .chain }))
+    (λ q. let f = last-at c (k + 1) es (eqb-false _ _ q) in rw q
+    (record { event = f .event; at = at-later (f .at); there = f .there; chain = f .chain }))
 
 -- a list that is not empty
 record Filled {A : Type 0} (l : List A) : Type 0 where
@@ -75,8 +77,10 @@ map-filled f l m = record { head = f (m .head); tail = map f (m .tail); is = ap 
 
 -- what is made of a chain's records, where only that of the last changes
 pub map-last : {B : Type 0} (F G : Numbered → B) (f : B → B) (c k : ℕ) (es : List Event) → 0 < k → (last c k es ≡ 0 → ⊥)
-    → ((r : ℕ) (e : Event) → At k es r e → e .alive ≡ true → e .chain ≡ c → (r ≡ last c k es → ⊥) → F (record { number = r; event = e }) ≡ G (record { number = r; event = e }))
-    → ((e : Event) → At k es (last c k es) e → F (record { number = last c k es; event = e }) ≡ f (G (record { number = last c k es; event = e })))
+    → ((r : ℕ) (e : Event) → At k es r e → e .alive ≡ true → e .chain ≡ c → (r ≡ last c k es → ⊥)
+    → F (record { number = r; event = e }) ≡ G (record { number = r; event = e }))
+    → ((e : Event) → At k es (last c k es) e → F (record { number = last c k es; event = e }) ≡ f
+    (G (record { number = last c k es; event = e })))
     → map F (members c k es) ≡ onLast f (map G (members c k es))
 unfolding last members
 map-last F G f c k [] p n same new = absurd (n refl)
@@ -86,16 +90,21 @@ map-last F G f c k (x ∷ es) p n same new =
     by-test (inChain c x)
     (λ u.
     let m = none-last c (k + 1) es (omega arith) (eqb-true _ _ q) in
-    let i : F (record { number = k; event = x }) ≡ f (G (record { number = k; event = x })) = subst (λ (i : ℕ). At k (x ∷ es) i x → F (record { number = i; event = x }) ≡ f (G (record { number = i; event = x }))) (rw (q, u) refl) (new x) at-here in
+    let i : F (record { number = k; event = x }) ≡ f (G (record { number = k; event = x })) = subst
+    (λ (i : ℕ). At k (x ∷ es) i x → F (record { number = i; event = x }) ≡ f (G (record { number = i; event = x })))
+    (rw (q, u) refl) (new x) at-here in
     rw (u, m) (on-one f i))
     (λ u. absurd (n (rw (q, u) refl))))
     (λ q.
     let n' = eqb-false _ _ q in
     let l : last c k (x ∷ es) ≡ last c (k + 1) es = rw q refl in
-    let same' : (r : ℕ) (e : Event) → At (k + 1) es r e → e .alive ≡ true → e .chain ≡ c → (r ≡ last c (k + 1) es → ⊥) → F (record { number = r; event = e }) ≡ G (record { number = r; event = e }) =
+    let same' : (r : ℕ) (e : Event) → At (k + 1) es r e → e .alive ≡ true → e .chain ≡ c → (r ≡ last c (k + 1) es → ⊥)
+    → F (record { number = r; event = e }) ≡ G (record { number = r; event = e }) =
     λ r e a t d z. same r e (at-later a) t d (λ y. z (y ∙ l)) in
-    let new' : (e : Event) → At (k + 1) es (last c (k + 1) es) e → F (record { number = last c (k + 1) es; event = e }) ≡ f (G (record { number = last c (k + 1) es; event = e })) =
-    λ e a. subst (λ (i : ℕ). At k (x ∷ es) i e → F (record { number = i; event = e }) ≡ f (G (record { number = i; event = e }))) l (new e) (at-later a) in
+    let new' : (e : Event) → At (k + 1) es (last c (k + 1) es) e
+    → F (record { number = last c (k + 1) es; event = e }) ≡ f (G (record { number = last c (k + 1) es; event = e })) =
+    λ e a. subst (λ (i : ℕ). At k (x ∷ es) i e → F (record { number = i; event = e }) ≡ f (G (record { number = i; event = e }))) l (new e)
+    (at-later a) in
     let h = map-last F G f c (k + 1) es (omega arith) n' same' new' in
     by-test (inChain c x)
     (λ u.
@@ -122,9 +131,11 @@ last-is p G c k (x ∷ es) z t e a =
     (λ q.
     let n = eqb-false _ _ q in
     let l : last c k (x ∷ es) ≡ last c (k + 1) es = rw q refl in
-    let a' : At (k + 1) es (last c (k + 1) es) e = later (omega (arith, last-from c (k + 1) es n)) (subst (λ (i : ℕ). At k (x ∷ es) i e) l a) in
+    let a' : At (k + 1) es (last c (k + 1) es) e = later (omega (arith, last-from c (k + 1) es n))
+    (subst (λ (i : ℕ). At k (x ∷ es) i e) l a) in
     let f = some-last c (k + 1) es n in
-    rw l (last-is p G c (k + 1) es (omega arith) (by-test (inChain c x) (λ u. skip p (G _) (map G (members c (k + 1) es)) (map-filled G _ f) (rw u at t)) (λ u. rw u at t)) e a'))
+    rw l (last-is p G c (k + 1) es (omega arith) (by-test (inChain c x)
+    (λ u. skip p (G _) (map G (members c (k + 1) es)) (map-filled G _ f) (rw u at t)) (λ u. rw u at t)) e a'))
   where
     later : {k r : ℕ} {x e : Event} {es : List Event} → k < r → At k (x ∷ es) r e → At (k + 1) es r e
     later h at-here = absurd (omega arith)
@@ -175,11 +186,13 @@ module _ (es : List Event) (o : ℕ) (e : Event) (part : e .chain ≡ childrenOf
 
     other-defs : (j : ℕ) → (j ≡ l → ⊥) → defsIn j fs ≡ defsIn j es
     other-defs j n =
-        defs-same (λ (r : ℕ). r ≡ o) es fs below-but j (same-members j) (λ r x a t c. not-def j r x n a c) (λ r v x y a t c b u d. not-value r v y b d)
+        defs-same (λ (r : ℕ). r ≡ o) es fs below-but j (same-members j) (λ r x a t c. not-def j r x n a c)
+        (λ r v x y a t c b u d. not-value r v y b d)
 
     pub exts-part : (x : ℕ) → Each (OtherBody l) 1 es → extsIn x fs ≡ extsIn x es
     exts-part x h =
-        exts-same (λ (r : ℕ). r ≡ o) es fs below-but x (same-exts x) (λ r y a t c. (not-ext x r y a c, other-defs (y .log) (each-at h a x c t)))
+        exts-same (λ (r : ℕ). r ≡ o) es fs below-but x (same-exts x)
+        (λ r y a t c. (not-ext x r y a c, other-defs (y .log) (each-at h a x c t)))
 
     pub defs-part : (f : DefValue → DefValue) → last (defsOf l) 1 es ≡ o
         → defOf fs (record { number = o; event = owner .event }) ≡ changed f (defOf es (record { number = o; event = owner .event }))
@@ -196,15 +209,18 @@ module _ (es : List Event) (o : ℕ) (e : Event) (part : e .chain ≡ childrenOf
 
     -- a label of a node, a value of a property
     pub label-part : owner .event .kind ≡ nodeKind
-        → defOf fs (record { number = o; event = owner .event }) ≡ changed (withLabel (e .text)) (defOf es (record { number = o; event = owner .event }))
+        → defOf fs (record { number = o; event = owner .event }) ≡ changed (withLabel (e .text))
+        (defOf es (record { number = o; event = owner .event }))
     unfolding defOf defValueOf
     label-part k = rw (k, below-owner, map-append) refl
 
     pub value-part : (v : Value) → owner .event .kind ≡ propertyKind → valueOf fs (record { number = 1 + length es; event = e }) ≡ v
-        → defOf fs (record { number = o; event = owner .event }) ≡ changed (onValues (λ vs. vs ++ v ∷ [])) (defOf es (record { number = o; event = owner .event }))
+        → defOf fs (record { number = o; event = owner .event }) ≡ changed (onValues (λ vs. vs ++ v ∷ []))
+        (defOf es (record { number = o; event = owner .event }))
     unfolding defOf defValueOf
     value-part v k h =
-        let old = map-members (valueOf fs) (valueOf es) (childrenOf o) 1 es (λ r x a t c. value-same (λ (r : ℕ). r ≡ o) es fs below-but r x (not-value o r x a c)) in
+        let old = map-members (valueOf fs) (valueOf es) (childrenOf o) 1 es
+        (λ r x a t c. value-same (λ (r : ℕ). r ≡ o) es fs below-but r x (not-value o r x a c)) in
         rw (k, below-owner, map-append, old, h) refl
 
   -- of a value
@@ -240,10 +256,13 @@ module _ (es : List Event) (o : ℕ) (e : Event) (part : e .chain ≡ childrenOf
 
     pub exts-cell : (x : ℕ) → Each (OtherBody l) 1 es → extsIn x fs ≡ extsIn x es
     exts-cell x h =
-        exts-same (λ (r : ℕ). r ≡ o) es fs below-but x (same-exts x) (λ r y a t c. (not-ext-2 x r y a c, other-defs-2 (y .log) (each-at h a x c t)))
+        exts-same (λ (r : ℕ). r ≡ o) es fs below-but x (same-exts x)
+        (λ r y a t c. (not-ext-2 x r y a c, other-defs-2 (y .log) (each-at h a x c t)))
 
-    pub defs-cell : (c : Cell) → last (defsOf l) 1 es ≡ d → last (childrenOf d) 1 es ≡ o → definition .event .kind ≡ propertyKind → owner .event .kind ≡ cellListKind
-        → cellOf (record { number = 1 + length es; event = e }) ≡ c → defsIn l fs ≡ onLast (changed (onValues (onLast (withCell c)))) (defsIn l es)
+    pub defs-cell : (c : Cell) → last (defsOf l) 1 es ≡ d → last (childrenOf d) 1 es ≡ o → definition .event .kind ≡ propertyKind
+        → owner .event .kind ≡ cellListKind
+        → cellOf (record { number = 1 + length es; event = e }) ≡ c
+        → defsIn l fs ≡ onLast (changed (onValues (onLast (withCell c)))) (defsIn l es)
     unfolding defsIn defOf defValueOf valueOf
     defs-cell c qd qo kd ko h =
         let n : last (defsOf l) 1 es ≡ 0 → ⊥ = λ z. omega (arith, at-from (definition .at)) in
@@ -257,15 +276,19 @@ module _ (es : List Event) (o : ℕ) (e : Event) (part : e .chain ≡ childrenOf
         rw (qo, at-same a' (owner .at)) (cell-value c ko h)) in
         rw (same-members l)
         (map-last (defOf fs) (defOf es) (changed (onValues (onLast (withCell c)))) (defsOf l) 1 es (omega arith) n
-        (λ r x a t i z. def-same (λ (r : ℕ). r ≡ o) es fs below-but r x (not-def-2 l r x a i) (λ v y b u j. not-value-2 r v y (λ w. z (w ∙ sym qd)) b j))
+        (λ r x a t i z. def-same (λ (r : ℕ). r ≡ o) es fs below-but r x (not-def-2 l r x a i)
+        (λ v y b u j. not-value-2 r v y (λ w. z (w ∙ sym qd)) b j))
         (λ x a.
         let a' : At 1 es d x = subst (λ (i : ℕ). At 1 es i x) qd a in
         rw (qd, at-same a' (definition .at)) (property-value c kd (below-but d apart) vs)))
       where
         cell-value : (c : Cell) → owner .event .kind ≡ cellListKind → cellOf (record { number = 1 + length es; event = e }) ≡ c
-            → valueOf fs (record { number = o; event = owner .event }) ≡ withCell c (valueOf es (record { number = o; event = owner .event }))
+            → valueOf fs (record { number = o; event = owner .event }) ≡ withCell c
+            (valueOf es (record { number = o; event = owner .event }))
         cell-value c k h = rw (k, below-owner, map-append, h) refl
 
-        property-value : (c : Cell) → definition .event .kind ≡ propertyKind → below fs d ≡ below es d → map (valueOf fs) (below es d) ≡ onLast (withCell c) (map (valueOf es) (below es d))
-            → defOf fs (record { number = d; event = definition .event }) ≡ changed (onValues (onLast (withCell c))) (defOf es (record { number = d; event = definition .event }))
+        property-value : (c : Cell) → definition .event .kind ≡ propertyKind → below fs d ≡ below es d
+            → map (valueOf fs) (below es d) ≡ onLast (withCell c) (map (valueOf es) (below es d))
+            → defOf fs (record { number = d; event = definition .event }) ≡ changed (onValues (onLast (withCell c)))
+            (defOf es (record { number = d; event = definition .event }))
         property-value c k b vs = rw (k, b, vs) refl

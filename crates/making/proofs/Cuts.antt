@@ -7,7 +7,7 @@ use native.Mathlib.Omega.{arith}
 use borrow.Author.Tests.{ne-eqb}
 use lib.ListN.{length, drop, getD}
 use Rattle.paths_numbers.proofs.Texts.{by-test}
-use Rattle.making.specs.Events.{Event, inChain, last, Numbered, members}
+use Rattle.making.specs.machine.Events.{Event, inChain, last, Numbered, members}
 use Rattle.making.proofs.ReadEvents.{numbersOf}
 
 -- lists
@@ -55,7 +55,17 @@ cut c k (x ∷ es) [] r ms q =
     (λ t.
     let q' : k ∷ numbersOf (members c (k + 1) es) ≡ r ∷ ms = rw t at q in
     let z : k + 0 + 1 ≡ k + 1 = omega arith in
-    record { xs = []; event = x; ys = es; is = refl; front = refl; number = sym (heads q') ∙ omega arith; within = t; back = subst (λ (i : ℕ). numbersOf (members c i es) ≡ ms) (sym z) (tails q') })
+    record {
+      xs = [];
+      event = x;
+      ys = es;
+      is = refl;
+      front = refl;
+      number = sym (heads q')
+          ∙ omega arith;
+      within = t;
+      back = subst (λ (i : ℕ). numbersOf (members c i es) ≡ ms) (sym z) (tails q');
+    })
     (λ t. longer x [] (cut c (k + 1) es [] r ms (rw t at q)) (λ zs f. rw t f))
 cut c k (x ∷ es) (n ∷ ns) r ms q =
     by-test (inChain c x)
@@ -82,7 +92,8 @@ no-last G c k (x ∷ es) q =
     (λ t. absurd (not-empty [] _ _ (sym (rw t at q))))
     (λ t. rw (no-last G c (k + 1) es (rw t at q), t) refl)
 
-last-later : {B : Type 0} {G : Numbered → B} {c k : ℕ} {es : List Event} {b : B} (x : Event) → LastOf G c (k + 1) es b → LastOf G c k (x ∷ es) b
+last-later : {B : Type 0} {G : Numbered → B} {c k : ℕ} {es : List Event} {b : B} (x : Event) → LastOf G c (k + 1) es b
+    → LastOf G c k (x ∷ es) b
 unfolding last
 last-later {G = G} {c} {k} {es} {b} x t =
     let z : k + 1 + length (t .xs) ≡ k + suc (length (t .xs)) = omega arith in
@@ -97,7 +108,8 @@ last-later {G = G} {c} {k} {es} {b} x t =
       says = subst (λ (i : ℕ). G (record { number = i; event = t .event }) ≡ b) z (t .says);
     }
 
-pub last-of : {B : Type 0} (G : Numbered → B) (c k : ℕ) (es : List Event) (bs : List B) (b : B) → map G (members c k es) ≡ bs ++ b ∷ [] → LastOf G c k es b
+pub last-of : {B : Type 0} (G : Numbered → B) (c k : ℕ) (es : List Event) (bs : List B) (b : B) → map G (members c k es) ≡ bs ++ b ∷ []
+    → LastOf G c k es b
 unfolding members last
 last-of G c k [] bs b q = absurd (not-empty bs b [] q)
 last-of G c k (x ∷ es) [] b q =

@@ -9,17 +9,19 @@ use borrow.Author.Tests.{eqb-true, eqb-false}
 use lib.Dec.{eqb}
 use lib.ListN.{length, replicate, length-replicate, replicate-append-replicate}
 use lib.Seq.{drop-length}
-use Rattle.paths_numbers.specs.Text.{written}
+use Rattle.paths_numbers.specs.meaning.Text.{written}
 use Rattle.paths_numbers.proofs.Texts.{by-test, not-both}
 use Rattle.making.specs.declared.ctx.Chain.{Chain}
 use Rattle.making.specs.declared.ctx.LowerCtx.{LowerCtx}
-use Rattle.log.specs.Record.{logCount}
-use Rattle.making.specs.Events.{postDiagnostics, first, last, wordsFrom, texts, endOf, members, allWords, allBytes, ordered-none, defsIn, diagOf}
-use Rattle.making.specs.Buffers.{Layout}
-use Rattle.making.specs.State.{State, start}
-use Rattle.making.specs.Holding.{Runs}
-use Rattle.making.specs.Made.{checked}
-use Rattle.making.specs.Represents.{before, extsLog, extsIn, each-none, no-places, bottom, records-over, Represents, going, over, atStart, inChecks, checking, StartsChecks}
+use Rattle.log.specs.meaning.Record.{logCount}
+use Rattle.making.specs.machine.Events.{postDiagnostics, first, last, wordsFrom, texts, endOf, members, allWords, allBytes}
+use Rattle.making.specs.machine.Events.{ordered-none, defsIn, diagOf}
+use Rattle.making.specs.machine.Buffers.{Layout}
+use Rattle.making.specs.meaning.State.{State, start}
+use Rattle.making.specs.machine.Holding.{Runs}
+use Rattle.making.specs.machine.Made.{checked}
+use Rattle.making.specs.machine.Represents.{before, extsLog, extsIn, each-none, no-places, bottom, records-over, Represents, going}
+use Rattle.making.specs.machine.Represents.{over, atStart, inChecks, checking, StartsChecks}
 use Rattle.making.proofs.Layouts.{count-words}
 use Rattle.making.proofs.Entered.{no-runs, no-members, same-need}
 use Rattle.making.proofs.MakingMore.{making-none}
@@ -67,8 +69,25 @@ module _ (w b : List ℕ) (n m k : ℕ) (we : w ≡ replicate n 0) (be : b ≡ r
       (λ t.
       let ne : k ≡ 0 → ⊥ = eqb-false k 0 t in
       going [] t (empty (omega arith)) refl refl
-      (record { defsRun = nothing _; extsRun = nothing _; partIs = refl; cellIs = refl; defsSay = refl; extsSay = refl; others = each-none; passed = λ p. each-none })
-      (record { bindsRun = nothing _; diagsRun = nothing _; bindsSay = refl; diagsSay = refl; reportsSay = λ p. absurd (not-both p refl); reportsFirst = λ p. absurd (not-both p refl); noPost = λ p. each-none })
+      (record {
+        defsRun = nothing _;
+        extsRun = nothing _;
+        partIs = refl;
+        cellIs = refl;
+        defsSay = refl;
+        extsSay = refl;
+        others = each-none;
+        passed = λ p. each-none;
+      })
+      (record {
+        bindsRun = nothing _;
+        diagsRun = nothing _;
+        bindsSay = refl;
+        diagsSay = refl;
+        reportsSay = λ p. absurd (not-both p refl);
+        reportsFirst = λ p. absurd (not-both p refl);
+        noPost = λ p. each-none;
+      })
       bottom no-places each-none making-none)
 
 -- the post checks start: no diagnostic of theirs is there
@@ -81,7 +100,16 @@ starts-checks {c} {d} q = record { checks = go; short = ap (λ (a : LowerCtx). a
     go words bytes s (going es h l cr cb o m st ps ss mk) =
         let none = m .noPost refl in
         rw q
-        (going es h l cr cb (record { defsRun = o .defsRun; extsRun = o .extsRun; partIs = o .partIs; cellIs = o .cellIs; defsSay = o .defsSay; extsSay = o .extsSay; others = o .others; passed = o .passed })
+        (going es h l cr cb (record {
+          defsRun = o .defsRun;
+          extsRun = o .extsRun;
+          partIs = o .partIs;
+          cellIs = o .cellIs;
+          defsSay = o .defsSay;
+          extsSay = o .extsSay;
+          others = o .others;
+          passed = o .passed;
+        })
         (record {
           bindsRun = m .bindsRun;
           diagsRun = no-runs postDiagnostics es none;

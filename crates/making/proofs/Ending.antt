@@ -10,15 +10,16 @@ use lib.ListN.{length}
 use Rattle.paths_numbers.proofs.Texts.{by-test, not-both}
 use Rattle.paths_numbers.proofs.Written.{written-length}
 use Rattle.making.specs.declared.ctx.LowerCtx.{LowerCtx}
-use Rattle.log.specs.Record.{recordWords}
-use Rattle.making.specs.State.{State}
-use Rattle.log.specs.Good.{goodLog}
-use Rattle.log.specs.Written.{Written}
-use Rattle.making.specs.Events.{Event, postDiagnostics, members, diagOf, extsOf, extOf}
-use Rattle.making.specs.Holding as H
-use Rattle.making.specs.Whole.{Making, mainLog, logIn}
-use Rattle.making.specs.Finished.{head16, headOf, finished}
-use Rattle.making.specs.Represents.{Context, logOf, extsLog, before, handOf, extsIn, InHand, main-log, Open, Common, Represents, going, over, logSaid, Finishes}
+use Rattle.log.specs.meaning.Record.{recordWords}
+use Rattle.making.specs.meaning.State.{State}
+use Rattle.log.specs.machine.Good.{goodLog}
+use Rattle.log.specs.meaning.Written.{Written}
+use Rattle.making.specs.machine.Events.{Event, postDiagnostics, members, diagOf, extsOf, extOf}
+use Rattle.making.specs.machine.Holding as H
+use Rattle.making.specs.machine.Whole.{Making, mainLog, logIn}
+use Rattle.making.specs.machine.Finished.{head16, headOf, finished}
+use Rattle.making.specs.machine.Represents.{Context, logOf, extsLog, before, handOf, extsIn, InHand, main-log, Open, Common}
+use Rattle.making.specs.machine.Represents.{Represents, going, over, logSaid, Finishes}
 use Rattle.making.proofs.Standing.{extends}
 use Rattle.making.proofs.MakingMore.{making-hand}
 use Rattle.making.proofs.GoodLog.{good-whole}
@@ -33,7 +34,8 @@ main-alone {es} m = making-hand only m (λ r e h k z. extends (m .stands r e h) 
     only l (main-log z) = z
 
 -- what the records say is what the state says
-log-said : {k : Context} {c : LowerCtx} {es : List Event} {s : State} → k .post ≡ true → Open [] c es s → Common k c es s → logIn es ≡ logSaid k s
+log-said : {k : Context} {c : LowerCtx} {es : List Event} {s : State} → k .post ≡ true → Open [] c es s → Common k c es s
+    → logIn es ≡ logSaid k s
 unfolding logIn extsIn extsLog before
 log-said {es = es} {s} p o m =
     let exts : map (extOf es) (members (extsOf 0) 1 es) ≡ s .exts = o .extsSay in
@@ -41,7 +43,8 @@ log-said {es = es} {s} p o m =
     rw (o .defsSay, exts, m .bindsSay, m .reportsSay p, post) refl
 
 module _ (c : LowerCtx) (words w : List ℕ) (diags : ℕ) (is : w ≡ finished c diags words) where
-  ended : (k : Context) (bytes : List ℕ) (s : State) → k .waiting ≡ [] → k .post ≡ true → diags ≡ k .firstReport → Represents k c words bytes s → c .short ≡ false
+  ended : (k : Context) (bytes : List ℕ) (s : State) → k .waiting ≡ [] → k .post ≡ true → diags ≡ k .firstReport
+      → Represents k c words bytes s → c .short ≡ false
       → goodLog (logSaid k s) ≡ true → Written w bytes (s .records) (s .bytes) (logSaid k s)
   unfolding extsLog
   ended k bytes s q p f (over h m) n good = absurd (not-both h n)
@@ -51,7 +54,8 @@ module _ (c : LowerCtx) (words w : List ℕ) (diags : ℕ) (is : w ≡ finished 
       let said : logIn es ≡ logSaid k s = log-said p o' m in
       let whole = good-whole es main (ap goodLog said ∙ good) in
       rw (is, ← said, ← cr, ← cb)
-      (finished-log (handOf k) c words bytes es diags (ap logOf q) (ap extsLog q) p n (f ∙ sym (m .reportsFirst p)) whole (H.going h l (ends o m)))
+      (finished-log (handOf k) c words bytes es diags (ap logOf q) (ap extsLog q) p n (f ∙ sym (m .reportsFirst p)) whole
+      (H.going h l (ends o m)))
 
   same-length : length w ≡ length words
   unfolding finished head16

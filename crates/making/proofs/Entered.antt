@@ -7,13 +7,16 @@ use native.Mathlib.Omega.{arith}
 use lib.ListN.{length}
 use Rattle.paths_numbers.proofs.Texts.{by-test}
 use Rattle.making.specs.declared.ctx.LowerCtx.{LowerCtx}
-use Rattle.making.specs.State.{State, apart}
-use Rattle.making.specs.Events.{Event, defsOf, extsOf, first, last, members, defsIn}
-use Rattle.making.specs.Made.{noChain, entered}
-use Rattle.making.specs.Holding.{Runs}
-use Rattle.making.specs.Represents.{Out, Waiting, Context, logOf, extsLog, before, Each, each-none, each-next, Sort, is-def, is-ext, is-binding, is-diag, is-part, extsIn, OtherBody, Open, no-places, above, TooMuch, records-over, bytes-over, most-over, Represents, going, over, inBody, Enters, InHand, main-log, this-log, log-around}
-use Rattle.making.specs.Whole.{There}
-use Rattle.log.specs.Record.{extensionKind}
+use Rattle.making.specs.meaning.State.{State, apart}
+use Rattle.making.specs.machine.Events.{Event, defsOf, extsOf, first, last, members, defsIn}
+use Rattle.making.specs.machine.Made.{noChain, entered}
+use Rattle.making.specs.machine.Holding.{Runs}
+use Rattle.making.specs.machine.Represents.{Out, Waiting, Context, logOf, extsLog, before, Each, each-none, each-next, Sort, is-def}
+use Rattle.making.specs.machine.Represents.{is-ext, is-binding, is-diag, is-part, extsIn, OtherBody, Open, no-places, above, TooMuch}
+use Rattle.making.specs.machine.Represents.{records-over, bytes-over, most-over, Represents, going, over, inBody, Enters, InHand}
+use Rattle.making.specs.machine.Represents.{main-log, this-log, log-around}
+use Rattle.making.specs.machine.Whole.{There}
+use Rattle.log.specs.meaning.Record.{extensionKind}
 use Rattle.making.proofs.Append.{chain-other}
 use Rattle.making.proofs.Members.{first-before, last-before, members-before}
 use Rattle.making.proofs.Growing.{each-at, no-child}
@@ -44,11 +47,13 @@ low-body l (is-part r o c a h k) q = absurd (omega (arith, sym c ∙ q))
 -- before its first record no record is in a log
 no-defs : {gs : List Event} (l k : ℕ) (es : List Event) → Each (Sort gs) k es → k + length es ≤ l → Each (Out (defsOf l)) k es
 no-defs l k [] each-none h = each-none
-no-defs l k (e ∷ es) (each-next s q) h = each-next (chain-other (e .chain) (defsOf l) e refl (λ z. omega (arith, low l s z))) (no-defs l (k + 1) es q (omega arith))
+no-defs l k (e ∷ es) (each-next s q) h = each-next (chain-other (e .chain) (defsOf l) e refl (λ z. omega (arith, low l s z)))
+    (no-defs l (k + 1) es q (omega arith))
 
 no-exts : {gs : List Event} (l k : ℕ) (es : List Event) → Each (Sort gs) k es → k + length es ≤ l → Each (Out (extsOf l)) k es
 no-exts l k [] each-none h = each-none
-no-exts l k (e ∷ es) (each-next s q) h = each-next (chain-other (e .chain) (extsOf l) e refl (λ z. omega (arith, low-ext l s z))) (no-exts l (k + 1) es q (omega arith))
+no-exts l k (e ∷ es) (each-next s q) h = each-next (chain-other (e .chain) (extsOf l) e refl (λ z. omega (arith, low-ext l s z)))
+    (no-exts l (k + 1) es q (omega arith))
 
 other-bodies : {gs : List Event} (l k : ℕ) (es : List Event) → Each (Sort gs) k es → k + length es ≤ l → Each (OtherBody l) k es
 other-bodies l k [] each-none h = each-none
@@ -66,7 +71,8 @@ unfolding members
 no-members c es h = members-before c 1 [] es h
 
 -- a log that says something has a lower number than the next record
-numbered : {ws : List Waiting} {c : LowerCtx} {es : List Event} {s : State} → Open ws c es s → Each (Sort es) 1 es → (s .defs ≡ [] → ⊥) → logOf ws < 1 + length es
+numbered : {ws : List Waiting} {c : LowerCtx} {es : List Event} {s : State} → Open ws c es s → Each (Sort es) 1 es → (s .defs ≡ [] → ⊥)
+    → logOf ws < 1 + length es
 unfolding defsIn
 numbered {ws} {es = es} o ss n =
     let l = logOf ws in
@@ -75,39 +81,47 @@ numbered {ws} {es = es} o ss n =
     omega (arith, low l (each-at ss (f .at)) (f .chain), at-to (f .at))
 
 -- what is too much stays so
-pub same-need : {words bytes : List ℕ} {s t : State} → t .records ≡ s .records → t .bytes ≡ s .bytes → TooMuch words bytes s → TooMuch words bytes t
+pub same-need : {words bytes : List ℕ} {s t : State} → t .records ≡ s .records → t .bytes ≡ s .bytes → TooMuch words bytes s
+    → TooMuch words bytes t
 same-need r b (records-over h) = records-over (rw r h)
 same-need r b (bytes-over h) = bytes-over (rw b h)
 same-need r b (most-over h) = most-over (rw b h)
 
-pub enters : {k : Context} {c d : LowerCtx} {words bytes : List ℕ} {s : State} (keeps : Bool) → d ≡ entered c keeps → (keeps ≡ true → s .defs ≡ [] → ⊥)
+pub enters : {k : Context} {c d : LowerCtx} {words bytes : List ℕ} {s : State} (keeps : Bool) → d ≡ entered c keeps
+    → (keeps ≡ true → s .defs ≡ [] → ⊥)
     → Represents k c words bytes s → Represents (inBody k c s keeps) d words bytes (apart s)
 unfolding apart entered extsLog defsIn before extsIn
 enters keeps q n (over h m) = over (ap (λ (a : LowerCtx). a .short) q ∙ h) (same-need refl refl m)
 enters {k} {c} {d} {s = s} keeps q n (going es h l cr cb o m st ps ss mk) =
     rw q
     (going es h l cr cb (opened keeps) (common-as refl refl refl refl refl refl refl m)
-    (above {w = record { mark = c .records; keeps = keeps; ctx = c; state = s; places = k .places }} {ws = k .waiting} es [] (sym (append-nil es)) (l .recordsAre) (λ t. rw (l .recordsAre) (numbered o ss (n t))) o ps each-none st mk) no-places ss (making-hand (λ j y. log-around y) mk fresh))
+    (above {w = record { mark = c .records; keeps = keeps; ctx = c; state = s; places = k .places }} {ws = k .waiting} es []
+    (sym (append-nil es)) (l .recordsAre) (λ t. rw (l .recordsAre) (numbered o ss (n t))) o ps each-none st mk) no-places ss
+    (making-hand (λ j y. log-around y) mk fresh))
   where
     -- no extension's body is in hand
-    fresh : (r : ℕ) (e : Event) → There es r e → e .kind ≡ extensionKind → InHand (record { mark = c .records; keeps = keeps; ctx = c; state = s; places = k .places } ∷ k .waiting) (e .log) → ⊥
+    fresh : (r : ℕ) (e : Event) → There es r e → e .kind ≡ extensionKind
+        → InHand (record { mark = c .records; keeps = keeps; ctx = c; state = s; places = k .places } ∷ k .waiting) (e .log) → ⊥
     fresh r e y z (main-log i) = extends (mk .stands r e y) z .own (main-log i)
     fresh r e y z (this-log i) =
         let x = extends (mk .stands r e y) z in
         omega (arith, low-body (x .log) (each-at ss (y .at)) (x .chain), at-to (y .at), l .recordsAre, i)
     fresh r e y z (log-around i) = extends (mk .stands r e y) z .own i
 
-    opened : (keeps : Bool) → Open (record { mark = c .records; keeps = keeps; ctx = c; state = s; places = k .places } ∷ k .waiting) (entered c keeps) es (apart s)
+    opened : (keeps : Bool) → Open (record { mark = c .records; keeps = keeps; ctx = c; state = s; places = k .places } ∷ k .waiting)
+        (entered c keeps) es (apart s)
     opened keeps =
         let low₀ : 1 + length es ≤ c .records = omega (arith, l .recordsAre) in
         let d₀ = no-defs (c .records) 1 es ss low₀ in
         record {
           defsRun = no-runs (defsOf (c .records)) es d₀;
-          extsRun = by-test keeps (λ t. rw t (o .extsRun)) (λ t. rw t (no-runs (extsOf (c .records)) es (no-exts (c .records) 1 es ss low₀)));
+          extsRun = by-test keeps (λ t. rw t (o .extsRun)) (λ t. rw t
+              (no-runs (extsOf (c .records)) es (no-exts (c .records) 1 es ss low₀)));
           partIs = sym (no-child ss);
           cellIs = sym (no-child ss);
           defsSay = rw (no-members (defsOf (c .records)) es d₀) refl;
-          extsSay = by-test keeps (λ t. rw t (o .extsSay ∙ sym (append-nil (before (k .waiting) ++ s .exts)))) (λ t. rw (t, no-members (extsOf (c .records)) es (no-exts (c .records) 1 es ss low₀)) refl);
+          extsSay = by-test keeps (λ t. rw t (o .extsSay ∙ sym (append-nil (before (k .waiting) ++ s .exts))))
+              (λ t. rw (t, no-members (extsOf (c .records)) es (no-exts (c .records) 1 es ss low₀)) refl);
           others = other-bodies (c .records) 1 es ss low₀;
           passed = λ p. no-exts (c .records) 1 es ss low₀;
         }

@@ -1,5 +1,5 @@
--- A log in the making that is complete is what 01's rules for writing ask, once record 0 is written (`written-log`), and so it is after `finish`
--- (`finished-log`); what it says decides whether its spans and paths are right (`good-written`).
+-- A log in the making that is complete is what 01's rules for writing ask, once record 0 is written (`written-log`), and so it is after
+-- `finish` (`finished-log`); what it says decides whether its spans and paths are right (`good-written`).
 use Prim.Native.Nat.{ℕ, _+_, _*_, _-_, _≤_, _<_}
 use mathlib.Core.Path.{_≡_, refl, sym, ap, _∙_}
 use mathlib.Core.Bool.{true, false}
@@ -8,20 +8,21 @@ use native.Mathlib.Omega.{arith}
 use borrow.Author.Tests.{eqb-true, leb-true, le-ltb}
 use lib.Dec.{eqb}
 use lib.ListN.{length, replicate, List·getD-append}
-use Rattle.paths_numbers.specs.Text.{written}
+use Rattle.paths_numbers.specs.meaning.Text.{written}
 use Rattle.paths_numbers.proofs.Texts.{not-both, both}
 use Rattle.paths_numbers.proofs.Written.{written-length}
 use Rattle.making.specs.declared.ctx.LowerCtx.{LowerCtx}
-use Rattle.log.specs.Record.{recordWords, headWords, outField, recordsUsed, bytesUsed, logCount}
-use Rattle.log.specs.ReadBack.{Log, readLog}
-use Rattle.log.specs.Sound.{followed, timesReached}
-use Rattle.log.specs.Written.{Written}
-use Rattle.log.specs.Good.{goodLog}
-use Rattle.making.specs.Events.{Event, defsOf, extsOf, bindings, diagnostics, postDiagnostics, inChain, first, wordsFrom, allWords, allBytes, endOf, Ordered}
-use Rattle.making.specs.Buffers.{Layout}
-use Rattle.making.specs.Holding.{Hand, Holds, going, over}
-use Rattle.making.specs.Whole.{Making, mainLog, Whole, logIn}
-use Rattle.making.specs.Finished.{head16, headIn, finished}
+use Rattle.log.specs.meaning.Record.{recordWords, headWords, outField, recordsUsed, bytesUsed, logCount}
+use Rattle.log.specs.meaning.ReadBack.{Log, readLog}
+use Rattle.log.specs.meaning.Sound.{followed, timesReached}
+use Rattle.log.specs.meaning.Written.{Written}
+use Rattle.log.specs.machine.Good.{goodLog}
+use Rattle.making.specs.machine.Events.{Event, defsOf, extsOf, bindings, diagnostics, postDiagnostics, inChain, first, wordsFrom}
+use Rattle.making.specs.machine.Events.{allWords, allBytes, endOf, Ordered}
+use Rattle.making.specs.machine.Buffers.{Layout}
+use Rattle.making.specs.machine.Holding.{Hand, Holds, going, over}
+use Rattle.making.specs.machine.Whole.{Making, mainLog, Whole, logIn}
+use Rattle.making.specs.machine.Finished.{head16, headIn, finished}
 use Rattle.making.proofs.Layouts.{count-words, same-count}
 use Rattle.making.proofs.Unlinked.{written-front}
 use Rattle.making.proofs.ReadEvents.{Splits}
@@ -34,7 +35,8 @@ use Rattle.making.proofs.WholeKept.{record-kept}
 use Rattle.making.proofs.WholeClear.{behind-zero, none-shared, bytes-clear, words-clear}
 use Rattle.making.proofs.GoodLog.{good-whole}
 
-module _ (es : List Event) (records used room more : ℕ) (fits : 1 + length es ≤ logCount (allWords (headIn records used es) es room)) (ordered : Ordered 1 es) (whole : Whole es) where
+module _ (es : List Event) (records used room more : ℕ) (fits : 1 + length es ≤ logCount (allWords (headIn records used es) es room))
+    (ordered : Ordered 1 es) (whole : Whole es) where
   abbrev head : List ℕ
   head = headIn records used es
 
@@ -48,7 +50,8 @@ module _ (es : List Event) (records used room more : ℕ) (fits : 1 + length es 
   six = sixteen es records used room fits ordered whole
 
   -- an extension's M
-  bodies : (r b : ℕ) (e : Event) (later : List Event) → Splits 1 0 es r b e later → inChain (extsOf 0) e ≡ true → e .m ≡ first (defsOf (e .log)) 1 es
+  bodies : (r b : ℕ) (e : Event) (later : List Event) → Splits 1 0 es r b e later → inChain (extsOf 0) e ≡ true
+      → e .m ≡ first (defsOf (e .log)) 1 es
   bodies r b e later s t =
       let q = both (e .alive) (eqb (e .chain) (extsOf 0)) t in
       by-chain 0 (whole .making .stands r e (record { at = splits-number s; alive = q .0 })) (eqb-true (e .chain) (extsOf 0) (q .1))
@@ -57,7 +60,21 @@ module _ (es : List Event) (records used room more : ℕ) (fits : 1 + length es 
   reads-back : readLog words bytes ≡ logIn es
   unfolding readLog logIn
   reads-back =
-      rw (head-def es records used room fits ordered whole, head-ext es records used room fits ordered whole, head-bind es records used room fits ordered whole, head-diag es records used room fits ordered whole, head-post es records used room fits ordered whole, defs-read head six es room more fits ordered 0, exts-read head six es room more fits ordered (extsOf 0) bodies, bindings-read head six es room more fits ordered bindings, diags-read head six es room more fits ordered diagnostics, diags-read head six es room more fits ordered postDiagnostics)
+      rw (
+        head-def es records used room fits ordered whole,
+        head-ext es records used room fits ordered whole,
+        head-bind es records used room
+            fits ordered whole,
+        head-diag es records used room fits ordered whole,
+        head-post es records used room fits ordered whole,
+        defs-read head six es room more fits ordered 0,
+        exts-read head six es room more fits ordered (extsOf 0) bodies,
+        bindings-read head
+            six es room more fits ordered bindings,
+        diags-read head six es room more fits ordered diagnostics,
+        diags-read head six es room
+            more fits ordered postDiagnostics,
+      )
       refl
 
   -- record 0
@@ -67,7 +84,8 @@ module _ (es : List Event) (records used room more : ℕ) (fits : 1 + length es 
       let e : 0 * 16 + i ≡ i = omega arith in
       rw e
       (List·getD-append head (wordsFrom 1 0 es ++ replicate room 0) 0 i l
-      ∙ behind-zero (records ∷ first (defsOf 0) 1 es ∷ first (extsOf 0) 1 es ∷ first bindings 1 es ∷ first diagnostics 1 es ∷ used ∷ first postDiagnostics 1 es ∷ []) 9 i h)
+      ∙ behind-zero (records ∷ first (defsOf 0) 1 es ∷ first (extsOf 0) 1 es ∷ first bindings 1 es ∷ first diagnostics 1 es ∷ used
+      ∷ first postDiagnostics 1 es ∷ []) 9 i h)
 
   records-there : recordsUsed words ≡ records
   unfolding outField allWords head16
@@ -125,11 +143,13 @@ module _ {words bytes : List ℕ} {records used : ℕ} {es : List Event} (l : La
       ap-bytes q x = rw q at x
 
   -- and of one whose spans and paths are right by what it says
-  pub good-written : Making mainLog es → goodLog (logIn es) ≡ true → Written (written words 0 (headIn records used es)) bytes records used (logIn es)
+  pub good-written : Making mainLog es → goodLog (logIn es) ≡ true
+      → Written (written words 0 (headIn records used es)) bytes records used (logIn es)
   good-written making good = written-log (good-whole es making good)
 
 -- after `finish`
-module _ (g : Hand) (c : LowerCtx) (words bytes : List ℕ) (es : List Event) (diags : ℕ) (main : g .log ≡ 0) (own : g .exts ≡ 0) (checks : g .post ≡ true) (room : c .short ≡ false) (lowering : diags ≡ first diagnostics 1 es) (whole : Whole es) where
+module _ (g : Hand) (c : LowerCtx) (words bytes : List ℕ) (es : List Event) (diags : ℕ) (main : g .log ≡ 0) (own : g .exts ≡ 0)
+    (checks : g .post ≡ true) (room : c .short ≡ false) (lowering : diags ≡ first diagnostics 1 es) (whole : Whole es) where
   pub finished-log : Holds g c words bytes es → Written (finished c diags words) bytes (c .records) (c .bytes) (logIn es)
   unfolding finished
   finished-log (going s l e) =

@@ -7,22 +7,25 @@ use mathlib.Core.Bool.{true}
 use mathlib.Core.List.{List, [], _∷_, _++_}
 use native.Mathlib.Omega.{arith}
 use lib.ListN.{replicate}
-use Rattle.paths_numbers.specs.Text.{isEmpty, same, startsWith, written}
-use Rattle.paths_numbers.specs.Path.{goodPath, components}
+use Rattle.paths_numbers.specs.meaning.Text.{isEmpty, same, startsWith, written}
+use Rattle.paths_numbers.specs.meaning.Path.{goodPath, components}
 use Rattle.paths_numbers.proofs.Texts.{not-both}
-use Rattle.paths_numbers.specs.Reference.{label}
+use Rattle.paths_numbers.specs.meaning.Reference.{label}
 use Rattle.making.specs.declared.ctx.Rec.{Rec}
-use Rattle.log.specs.Meaning.{node, plugin}
-use Rattle.log.specs.Record.{oneOf, logCount}
-use Rattle.log.specs.RecordExample.{span}
-use Rattle.making.specs.Events.{Event, defsOf, extsOf, bindings, diagnostics, childrenOf, first, members, words16, wordsFrom, allWords, texts, allBytes, endOf, targetOf, defValueOf, defOf, defsIn, extOf, ordered-none, ordered-next}
-use Rattle.making.specs.Buffers.{eventOf, Layout}
-use Rattle.making.specs.Whole.{At, at-here, at-later, There, Making, mainLog, Whole, logIn}
-use Rattle.making.specs.Finished.{head16}
-use Rattle.log.specs.Good.{all, goodDef, goodExt, goodBinding, goodDiag, goodLog}
-use Rattle.log.specs.Written.{Written}
+use Rattle.log.specs.meaning.Contents.{node, plugin}
+use Rattle.log.specs.meaning.Record.{oneOf, logCount}
+use Rattle.log.specs.examples.RecordExample.{span}
+use Rattle.making.specs.machine.Events.{Event, defsOf, extsOf, bindings, diagnostics, childrenOf, first, members, words16, wordsFrom}
+use Rattle.making.specs.machine.Events.{allWords, texts, allBytes, endOf, targetOf, defValueOf, defOf, defsIn, extOf, ordered-none}
+use Rattle.making.specs.machine.Events.{ordered-next}
+use Rattle.making.specs.machine.Buffers.{eventOf, Layout}
+use Rattle.making.specs.machine.Whole.{At, at-here, at-later, There, Making, mainLog, Whole, logIn}
+use Rattle.making.specs.machine.Finished.{head16}
+use Rattle.log.specs.machine.Good.{all, goodDef, goodExt, goodBinding, goodDiag, goodLog}
+use Rattle.log.specs.meaning.Written.{Written}
 use Rattle.making.proofs.Plain.{plain-definition, plain-extension, plain-binding, plain-diagnostic, plain-text, plain-reference}
-use Rattle.making.proofs.MakingMore.{making-none, making-hand, making-define, making-child, stays-binding, stays-diagnostic, making-stays, making-extend}
+use Rattle.making.proofs.MakingMore.{making-none, making-hand, making-define, making-child, stays-binding, stays-diagnostic}
+use Rattle.making.proofs.MakingMore.{making-stays, making-extend}
 use Rattle.making.proofs.GoodLog.{good-whole}
 use Rattle.making.proofs.Finished.{written-log}
 
@@ -124,7 +127,8 @@ making-made = making-stays told (λ a. (stays-diagnostic refl refl, plain-diagno
 
 -- so the log is complete, by the spans and paths that it says
 good : goodLog (logIn made) ≡ true
-unfolding goodLog goodDef goodExt goodBinding goodDiag all logIn defsIn defOf defValueOf extOf targetOf members goodPath components isEmpty same startsWith
+unfolding goodLog goodDef goodExt goodBinding goodDiag all logIn defsIn defOf defValueOf extOf targetOf members goodPath components isEmpty
+    same startsWith
 good = refl
 
 whole : Whole made

@@ -8,9 +8,9 @@ use borrow.Author.Tests.{eq-eqb, ne-eqb, eqb-true, eqb-false}
 use lib.Dec.{eqb}
 use lib.ListN.{length}
 use Rattle.paths_numbers.proofs.Texts.{by-test, both}
-use Rattle.making.specs.Events.{Event, inChain, first, bytesIn}
-use Rattle.making.specs.Holding.{there}
-use Rattle.making.specs.Whole.{At, at-here, at-later, There}
+use Rattle.making.specs.machine.Events.{Event, inChain, first, bytesIn}
+use Rattle.making.specs.machine.Holding.{there}
+use Rattle.making.specs.machine.Whole.{At, at-here, at-later, There}
 use Rattle.making.proofs.ReadEvents.{Splits, splits-here, splits-later, splits-from}
 
 -- a record's number is one of the list's

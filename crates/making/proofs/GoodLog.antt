@@ -1,5 +1,5 @@
--- A log in the making whose chains all start in record 0, and that says only spans and paths that keep row 8's rules, is complete: each of its
--- records stands in a chain that the log says, or is a child and has no spans and no path.
+-- A log in the making whose chains all start in record 0, and that says only spans and paths that keep row 8's rules, is complete: each of
+-- its records stands in a chain that the log says, or is a child and has no spans and no path.
 use Prim.Native.Nat.{ℕ, _≤_}
 use mathlib.Core.Path.{_≡_, refl, ap, _∙_}
 use mathlib.Core.Bool.{Bool, true, false, cond}
@@ -8,11 +8,14 @@ use native.Mathlib.Omega.{arith}
 use borrow.Author.Tests.{ne-eqb, leb-true}
 use lib.Dec.{leb}
 use Rattle.paths_numbers.proofs.Texts.{by-test, both}
-use Rattle.log.specs.Record.{bindingKind, diagnosticKind, extensionKind, oneOf, defKinds, hasSpan, hasNameSpan}
-use Rattle.log.specs.Sound.{nonemptyPath}
-use Rattle.log.specs.Good.{all, pathFits, goodDef, goodExt, goodBinding, goodDiag, goodLog}
-use Rattle.making.specs.Events.{Event, Numbered, defsOf, extsOf, bindings, diagnostics, postDiagnostics, inChain, members, defValueOf, defOf, defsIn, extOf, bindingOf, diagOf}
-use Rattle.making.specs.Whole.{At, at-here, at-later, There, Logged, logged-hand, logged-body, Stands, in-defs, in-exts, in-bindings, in-diagnostics, in-post, in-children, Plain, Making, pathRight, Right, mainLog, Whole, logIn}
+use Rattle.log.specs.meaning.Record.{bindingKind, diagnosticKind, extensionKind, oneOf, defKinds, hasSpan, hasNameSpan}
+use Rattle.log.specs.meaning.Sound.{nonemptyPath}
+use Rattle.log.specs.machine.Good.{all, pathFits, goodDef, goodExt, goodBinding, goodDiag, goodLog}
+use Rattle.making.specs.machine.Events.{Event, Numbered, defsOf, extsOf, bindings, diagnostics, postDiagnostics, inChain, members}
+use Rattle.making.specs.machine.Events.{defValueOf, defOf, defsIn, extOf, bindingOf, diagOf}
+use Rattle.making.specs.machine.Whole.{At, at-here, at-later, There, Logged, logged-hand, logged-body, Stands, in-defs, in-exts}
+use Rattle.making.specs.machine.Whole.{in-bindings, in-diagnostics, in-post, in-children, Plain, Making, pathRight, Right, mainLog}
+use Rattle.making.specs.machine.Whole.{Whole, logIn}
 use Rattle.log.proofs.Pinned.{done, also, by-kind}
 use Rattle.making.proofs.FirstOf.{in-chain}
 use Rattle.making.proofs.Standing.{child-range, extends}
@@ -33,11 +36,13 @@ says : {A : Type 0} (p : A → Bool) (f : Numbered → A) (c : ℕ) {r : ℕ} {e
 says p f c {e = e} h q a = all-say p f c (h .at) (in-chain c e (h .alive) q) a
 
 -- a definition's path
-def-path : (es : List Event) (x : Numbered) → oneOf (x .event .kind) defKinds ≡ true → pathFits (defValueOf es x) (x .event .text) ≡ pathRight (x .event)
+def-path : (es : List Event) (x : Numbered) → oneOf (x .event .kind) defKinds ≡ true
+    → pathFits (defValueOf es x) (x .event .text) ≡ pathRight (x .event)
 unfolding defValueOf pathRight oneOf
 def-path es x o =
     by-kind (λ k. x .event .kind ≡ k → pathFits (defValueOf es x) (x .event .text) ≡ pathRight (x .event))
-    (also (λ e. rw e refl) (also (λ e. rw e refl) (also (λ e. rw e refl) (also (λ e. rw e refl) (also (λ e. rw e refl) (also (λ e. rw e refl) done))))))
+    (also (λ e. rw e refl) (also (λ e. rw e refl) (also (λ e. rw e refl)
+    (also (λ e. rw e refl) (also (λ e. rw e refl) (also (λ e. rw e refl) done))))))
     (x .event .kind) o refl
 
 -- both spans of a definition or an extension
@@ -82,7 +87,19 @@ module _ (es : List Event) (r : ℕ) (e : Event) where
   unfolding pathRight oneOf
   none-to-keep l h =
       let k = e .kind in
-      rw (ne-eqb k 1 (λ z. omega arith), ne-eqb k 2 (λ z. omega arith), ne-eqb k 3 (λ z. omega arith), ne-eqb k 4 (λ z. omega arith), ne-eqb k 5 (λ z. omega arith), ne-eqb k 6 (λ z. omega arith), ne-eqb k 13 (λ z. omega arith), ne-eqb k 14 (λ z. omega arith), ne-eqb k 15 (λ z. omega arith))
+      rw (
+        ne-eqb k 1 (λ z. omega arith),
+        ne-eqb k 2 (λ z. omega arith),
+        ne-eqb k 3 (λ z. omega arith),
+        ne-eqb k 4 (λ z. omega arith),
+        ne-eqb
+            k 5 (λ z. omega arith),
+        ne-eqb k 6 (λ z. omega arith),
+        ne-eqb k 13 (λ z. omega arith),
+        ne-eqb k 14 (λ z. omega arith),
+        ne-eqb k 15
+            (λ z. omega arith),
+      )
       (refl, refl, refl)
 
   child-right : 7 ≤ e .kind → e .kind ≤ 12 → Plain e → Right e
@@ -125,7 +142,8 @@ module _ (es : List Event) (making : Making mainLog es) (good : goodLog (logIn e
   unfolding defsIn
   right-of {r} {e} h (in-defs {l} b q o) = def-right es r e o (says goodDef (defOf es) (defsOf l) h q (logged-good b))
   right-of h (in-exts z q k n b o) = ext-good h k .0
-  right-of {r} {e} h (in-bindings q k) = binding-right es r e k (making .plain r e h) (says goodBinding bindingOf bindings h q (parts .binds))
+  right-of {r} {e} h (in-bindings q k) = binding-right es r e k (making .plain r e h)
+      (says goodBinding bindingOf bindings h q (parts .binds))
   right-of {r} {e} h (in-diagnostics q k) = diag-right es r e k (says goodDiag diagOf diagnostics h q (parts .diags))
   right-of {r} {e} h (in-post q k) = diag-right es r e k (says goodDiag diagOf postDiagnostics h q (parts .post))
   right-of {r} {e} h (in-children {x = x} i q c o) =

@@ -7,9 +7,11 @@ use native.Mathlib.Omega.{arith}
 use borrow.Author.Tests.{eqb-true}
 use lib.ListN.{length, length-append}
 use Rattle.paths_numbers.proofs.Texts.{by-test, both}
-use Rattle.making.specs.Events.{Event, extsOf, childrenOf, inChain, last, Ordered, ordered-next, members, defsIn, extOf}
-use Rattle.making.specs.Represents.{Place, Waiting, logOf, extsLog, Each, each-none, each-next, Sort, is-def, is-ext, is-binding, is-diag, is-part, extsIn, Inside, Stands, at-root, at-top, at-definition, AllStand, no-places, more-places, Stack, bottom, above}
-use Rattle.making.specs.Whole.{At, at-here, at-later}
+use Rattle.making.specs.machine.Events.{Event, extsOf, childrenOf, inChain, last, Ordered, ordered-next, members, defsIn, extOf}
+use Rattle.making.specs.machine.Represents.{Place, Waiting, logOf, extsLog, Each, each-none, each-next, Sort, is-def, is-ext}
+use Rattle.making.specs.machine.Represents.{is-binding, is-diag, is-part, extsIn, Inside, Stands, at-root, at-top, at-definition}
+use Rattle.making.specs.machine.Represents.{AllStand, no-places, more-places, Stack, bottom, above}
+use Rattle.making.specs.machine.Whole.{At, at-here, at-later}
 use Rattle.making.proofs.Append.{chain-other}
 use Rattle.making.proofs.Members.{map-members, SameBelow}
 use Rattle.making.proofs.FirstOf.{at-from}
@@ -45,8 +47,10 @@ childless-last k (x ∷ es) r (ordered-next f o) h =
     (λ t. rw (i, t) refl)
 
 -- the extensions of a chain that is the same
-pub exts-same : (other : ℕ → Type 0) (es fs : List Event) → SameBelow other es fs → (x : ℕ) → members (extsOf x) 1 fs ≡ members (extsOf x) 1 es
-    → ((r : ℕ) (e : Event) → At 1 es r e → e .alive ≡ true → e .chain ≡ extsOf x → (other r → ⊥) × (defsIn (e .log) fs ≡ defsIn (e .log) es))
+pub exts-same : (other : ℕ → Type 0) (es fs : List Event) → SameBelow other es fs → (x : ℕ)
+    → members (extsOf x) 1 fs ≡ members (extsOf x) 1 es
+    → ((r : ℕ) (e : Event) → At 1 es r e → e .alive ≡ true → e .chain ≡ extsOf x
+    → (other r → ⊥) × (defsIn (e .log) fs ≡ defsIn (e .log) es))
     → extsIn x fs ≡ extsIn x es
 unfolding extsIn extOf
 exts-same other es fs same x q h =
@@ -56,7 +60,8 @@ exts-same other es fs same x q h =
 pub stands-more : {es : List Event} {p : Place} (zs : List Event) → Stands es p → Stands (es ++ zs) p
 stands-more zs (at-root a b) = at-root a b
 stands-more zs (at-top a b c d) = at-top a b c d
-stands-more zs (at-definition xs e ys l q t i a b c d) = at-definition xs e (ys ++ zs) l (ap (λ (l : List Event). l ++ zs) q ∙ append-assoc xs (e ∷ ys) zs) t i a b c d
+stands-more zs (at-definition xs e ys l q t i a b c d) = at-definition xs e (ys ++ zs) l
+    (ap (λ (l : List Event). l ++ zs) q ∙ append-assoc xs (e ∷ ys) zs) t i a b c d
 
 pub places-more : {es : List Event} {ps : List Place} (zs : List Event) → AllStand es ps → AllStand (es ++ zs) ps
 places-more zs no-places = no-places
@@ -88,7 +93,8 @@ sort-more zs r e (is-binding c k) = is-binding c k
 sort-more zs r e (is-diag p c k) = is-diag p c k
 sort-more zs r e (is-part o x c a h k) = is-part o x c (at-more zs a) h k
 
-pub sorts-more : {es : List Event} (e : Event) → Each (Sort es) 1 es → Sort (es ++ e ∷ []) (1 + length es) e → Each (Sort (es ++ e ∷ [])) 1 (es ++ e ∷ [])
+pub sorts-more : {es : List Event} (e : Event) → Each (Sort es) 1 es → Sort (es ++ e ∷ []) (1 + length es) e
+    → Each (Sort (es ++ e ∷ [])) 1 (es ++ e ∷ [])
 sorts-more {es} e h p = each-more es (each-map (λ r x q. sort-more (e ∷ []) r x q) h) p
 
 -- record 0 has no children

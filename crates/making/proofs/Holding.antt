@@ -1,4 +1,5 @@
--- The log in hand with one record more: the ends of its chains, where the link to the record stands, and what the state and the buffers then hold.
+-- The log in hand with one record more: the ends of its chains, where the link to the record stands, and what the state and the buffers
+-- then hold.
 use Prim.Native.Nat.{ℕ, suc, _+_, _-_, _≤_, _<_}
 use mathlib.Core.Path.{_≡_, refl, sym, ap, _∙_}
 use mathlib.Core.Bool.{Bool, true, false}
@@ -11,11 +12,13 @@ use Rattle.paths_numbers.proofs.Texts.{by-test, not-both, both}
 use Rattle.making.specs.declared.ctx.Chain.{Chain}
 use Rattle.making.specs.declared.ctx.LowerCtx.{LowerCtx}
 use Rattle.making.specs.declared.ctx.Rec.{Rec}
-use Rattle.making.specs.Events.{Event, defsOf, extsOf, bindings, childrenOf, inChain, first, last, Ordered, ordered-next}
-use Rattle.making.specs.Buffers.{eventOf, Layout, Exceeds, records-exceed, bytes-exceed, most-exceed}
-use Rattle.making.specs.Made.{ranShort, oneMore, makes, counted, madeWords, madeBytes, Told, endLink, childLink, grown, withDef, withExt, withBind, withDiag}
-use Rattle.making.specs.Holding.{Hand, diagsOf, Runs, Ends, Holds, going, over, there, AddsBelow}
-use Rattle.making.proofs.Append.{first-there, first-new, first-other, last-new, last-other, chain-other, new-in, Safe, safe-none, safe-next, above-safe, Owner, owner-here, owner-later}
+use Rattle.making.specs.machine.Events.{Event, defsOf, extsOf, bindings, childrenOf, inChain, first, last, Ordered, ordered-next}
+use Rattle.making.specs.machine.Buffers.{eventOf, Layout, Exceeds, records-exceed, bytes-exceed, most-exceed}
+use Rattle.making.specs.machine.Made.{ranShort, oneMore, makes, counted, madeWords, madeBytes, Told, endLink, childLink, grown}
+use Rattle.making.specs.machine.Made.{withDef, withExt, withBind, withDiag}
+use Rattle.making.specs.machine.Holding.{Hand, diagsOf, Runs, Ends, Holds, going, over, there, AddsBelow}
+use Rattle.making.proofs.Append.{first-there, first-new, first-other, last-new, last-other, chain-other, new-in, Safe, safe-none}
+use Rattle.making.proofs.Append.{safe-next, above-safe, Owner, owner-here, owner-later}
 use Rattle.making.proofs.Make.{Spot, spot-none, spot-last, spot-child}
 use Rattle.making.proofs.Layouts.{end-more}
 use Rattle.making.proofs.MakeLayout.{Making, made, ran-short, making}
@@ -68,7 +71,8 @@ child-safe o k (x ∷ es) (ordered-next f h) p n =
     (λ t.
     let m : last (childrenOf o) (k + 1) es ≡ 0 → ⊥ = λ z. n (rw (z, t) refl) in
     by-test (eqb k o)
-    (λ q. safe-next (λ (i : childrenOf o ≡ childrenOf k) (z : last (childrenOf o) (k + 1) es ≡ 0). m z) (above-safe (childrenOf o) o (k + 1) es refl (omega (arith, eqb-true k o q))))
+    (λ q. safe-next (λ (i : childrenOf o ≡ childrenOf k) (z : last (childrenOf o) (k + 1) es ≡ 0). m z)
+    (above-safe (childrenOf o) o (k + 1) es refl (omega (arith, eqb-true k o q))))
     (λ q.
     let l : k + 1 ≤ o = let ne : k ≡ o → ⊥ = eqb-false k o q in omega arith in
     safe-next (λ (i : childrenOf o ≡ childrenOf k) (z : last (childrenOf o) (k + 1) es ≡ 0). m z) (child-safe o (k + 1) es h l m)))
@@ -99,7 +103,8 @@ there-new k (x ∷ es) e t =
     rw (z, ne-eqb (k + 1 + length es) k (λ q. omega arith)) (there-new (k + 1) es e t)
 
 -- a record that is there is the owner of its first child
-child-owner : (o k : ℕ) (es : List Event) → 0 < k → Ordered k es → there o k es ≡ true → last (childrenOf o) k es ≡ 0 → Owner (childrenOf o) o k es
+child-owner : (o k : ℕ) (es : List Event) → 0 < k → Ordered k es → there o k es ≡ true → last (childrenOf o) k es ≡ 0
+    → Owner (childrenOf o) o k es
 unfolding there last
 child-owner o k [] p h t z = absurd (not-both t refl)
 child-owner o k (x ∷ es) p (ordered-next f h) t z =
@@ -112,11 +117,14 @@ child-owner o k (x ∷ es) p (ordered-next f h) t z =
     (λ q.
     let ne : o ≡ k → ⊥ = eqb-false o k q in
     let u : there o (k + 1) es ≡ true = rw q at t in
-    let out : inChain (childrenOf o) x ≡ false = by-test (inChain (childrenOf o) x) (λ v. absurd (omega (arith, rw (l, v) at z))) (λ v. v) in
-    owner-later (omega (arith, there-from o (k + 1) es u)) out (λ (i : childrenOf o ≡ childrenOf k). ne (omega arith)) (child-owner o (k + 1) es (omega arith) h u l))
+    let out : inChain (childrenOf o) x ≡ false = by-test (inChain (childrenOf o) x) (λ v. absurd (omega (arith, rw (l, v) at z))) (λ v. v)
+    in
+    owner-later (omega (arith, there-from o (k + 1) es u)) out (λ (i : childrenOf o ≡ childrenOf k). ne (omega arith))
+    (child-owner o (k + 1) es (omega arith) h u l))
 
 -- the link to the next child
-pub spot-below : (o l : ℕ) (es : List Event) → Ordered 1 es → there o 1 es ≡ true → l ≡ last (childrenOf o) 1 es → Spot (childrenOf o) es (childLink o l)
+pub spot-below : (o l : ℕ) (es : List Event) → Ordered 1 es → there o 1 es ≡ true → l ≡ last (childrenOf o) 1 es
+    → Spot (childrenOf o) es (childLink o l)
 spot-below o l es h t e =
     by-test (eqb l 0)
     (λ z. rw z (spot-child (there-from o 1 es t) (there-to o 1 es t) (child-owner o 1 es (omega arith) h t (sym e ∙ eqb-true l 0 z))))
@@ -153,7 +161,8 @@ module _ {c d : LowerCtx} {words bytes w b : List ℕ} {r : Rec} {x y : List ℕ
       )
 
   told-making : (es : List Event) (chain log : ℕ) → c .short ≡ false → Layout words bytes (c .records) (c .bytes) es → Spot chain es link
-      → ((o : ℕ) → chain ≡ childrenOf o → o < 1 + length es) → Making c d words bytes w b (length x + length y) (es ++ eventOf chain log r x y ∷ [])
+      → ((o : ℕ) → chain ≡ childrenOf o → o < 1 + length es) → Making c d words bytes w b (length x + length y)
+      (es ++ eventOf chain log r x y ∷ [])
   told-making es chain log s l p o =
       rw (told .state, told .wordsAre, told .bytesAre) (making c words bytes es l s chain log r x y link p o)
 
@@ -162,15 +171,18 @@ module _ {c d : LowerCtx} {words bytes w b : List ℕ} {r : Rec} {x y : List ℕ
       → (c .short ≡ false → Layout words bytes (c .records) (c .bytes) es → Ends g c es → Spot chain es link)
       → (c .short ≡ false → (o : ℕ) → chain ≡ childrenOf o → o < 1 + length es)
       → f .records ≡ d .records → f .bytes ≡ d .bytes → f .short ≡ d .short
-      → (d ≡ oneMore c (length x + length y) → c .short ≡ false → c .records ≡ 1 + length es → Ends g c es → Ends g f (es ++ eventOf chain log r x y ∷ []))
+      → (d ≡ oneMore c (length x + length y) → c .short ≡ false → c .records ≡ 1 + length es → Ends g c es
+      → Ends g f (es ++ eventOf chain log r x y ∷ []))
       → Holds g f w b (es ++ eventOf chain log r x y ∷ [])
   added f chain log g es (over s ex) spot owned fr fb fs ends =
       let o = told-over s in
       over (fs ∙ o .0) (rw (o .1, o .2) (exceeds-more (eventOf chain log r x y) ex))
   added f chain log g es (going s l en) spot owned fr fb fs ends = go (told-making es chain log s l (spot s l en) (owned s))
     where
-      go : Making c d words bytes w b (length x + length y) (es ++ eventOf chain log r x y ∷ []) → Holds g f w b (es ++ eventOf chain log r x y ∷ [])
-      go (made q lay) = going (fs ∙ more-short c d _ q ∙ s) (rw (fr ∙ more-records c d _ q, fb ∙ more-bytes c d _ q) lay) (ends q s (l .recordsAre) en)
+      go : Making c d words bytes w b (length x + length y) (es ++ eventOf chain log r x y ∷ [])
+          → Holds g f w b (es ++ eventOf chain log r x y ∷ [])
+      go (made q lay) = going (fs ∙ more-short c d _ q ∙ s) (rw (fr ∙ more-records c d _ q, fb ∙ more-bytes c d _ q) lay)
+          (ends q s (l .recordsAre) en)
       go (ran-short q ew eb ex) = over (fs ∙ is-short c d q) (rw (ew, eb) ex)
 
 -- the chain of the diagnostics is another than those of other numbers
@@ -185,13 +197,15 @@ runs-going x n false e r = r
 
 -- a record more in each of the four chains
 module _ {c d f : LowerCtx} {words bytes w b : List ℕ} {r : Rec} {x y : List ℕ} where
-  pub added-def : Told c d words bytes w b r x y (endLink (c .defs)) → f ≡ withDef d (c .records) → (g : Hand) (es : List Event) → Holds g c words bytes es
+  pub added-def : Told c d words bytes w b r x y (endLink (c .defs)) → f ≡ withDef d (c .records) → (g : Hand) (es : List Event)
+      → Holds g c words bytes es
       → Holds g f w b (es ++ eventOf (defsOf (g .log)) 0 r x y ∷ [])
   unfolding withDef oneMore
   added-def t q g es h =
       let e = eventOf (defsOf (g .log)) 0 r x y in
       rw q
-      (added t (withDef d (c .records)) (defsOf (g .log)) 0 g es h (λ s l en. spot-top (λ o z. omega arith) (en .defsRun)) (λ s o z. absurd (omega arith)) refl refl refl
+      (added t (withDef d (c .records)) (defsOf (g .log)) 0 g es h (λ s l en. spot-top (λ o z. omega arith) (en .defsRun))
+      (λ s o z. absurd (omega arith)) refl refl refl
       (λ m s n en.
       rw m
       (record {
@@ -201,13 +215,15 @@ module _ {c d f : LowerCtx} {words bytes w b : List ℕ} {r : Rec} {x y : List �
         diagsRun = runs-same e (en .diagsRun) (λ z. diags-other (g .post) (defsOf (g .log)) (λ i. omega arith) (λ i. omega arith) (sym z));
       })))
 
-  pub added-ext : (log : ℕ) → Told c d words bytes w b r x y (endLink (c .exts)) → f ≡ withExt d (c .records) → (g : Hand) (es : List Event) → Holds g c words bytes es
+  pub added-ext : (log : ℕ) → Told c d words bytes w b r x y (endLink (c .exts)) → f ≡ withExt d (c .records) → (g : Hand) (es : List Event)
+      → Holds g c words bytes es
       → Holds g f w b (es ++ eventOf (extsOf (g .exts)) log r x y ∷ [])
   unfolding withExt oneMore
   added-ext log t q g es h =
       let e = eventOf (extsOf (g .exts)) log r x y in
       rw q
-      (added t (withExt d (c .records)) (extsOf (g .exts)) log g es h (λ s l en. spot-top (λ o z. omega arith) (en .extsRun)) (λ s o z. absurd (omega arith)) refl refl refl
+      (added t (withExt d (c .records)) (extsOf (g .exts)) log g es h (λ s l en. spot-top (λ o z. omega arith) (en .extsRun))
+      (λ s o z. absurd (omega arith)) refl refl refl
       (λ m s n en.
       rw m
       (record {
@@ -217,13 +233,15 @@ module _ {c d f : LowerCtx} {words bytes w b : List ℕ} {r : Rec} {x y : List �
         diagsRun = runs-same e (en .diagsRun) (λ z. diags-other (g .post) (extsOf (g .exts)) (λ i. omega arith) (λ i. omega arith) (sym z));
       })))
 
-  pub added-bind : Told c d words bytes w b r x y (endLink (c .binds)) → f ≡ withBind d (c .records) → (g : Hand) (es : List Event) → Holds g c words bytes es
+  pub added-bind : Told c d words bytes w b r x y (endLink (c .binds)) → f ≡ withBind d (c .records) → (g : Hand) (es : List Event)
+      → Holds g c words bytes es
       → Holds g f w b (es ++ eventOf (bindings) 0 r x y ∷ [])
   unfolding withBind oneMore
   added-bind t q g es h =
       let e = eventOf (bindings) 0 r x y in
       rw q
-      (added t (withBind d (c .records)) (bindings) 0 g es h (λ s l en. spot-top (λ o z. omega arith) (en .bindsRun)) (λ s o z. absurd (omega arith)) refl refl refl
+      (added t (withBind d (c .records)) (bindings) 0 g es h (λ s l en. spot-top (λ o z. omega arith) (en .bindsRun))
+      (λ s o z. absurd (omega arith)) refl refl refl
       (λ m s n en.
       rw m
       (record {
@@ -233,13 +251,16 @@ module _ {c d f : LowerCtx} {words bytes w b : List ℕ} {r : Rec} {x y : List �
         diagsRun = runs-same e (en .diagsRun) (λ z. diags-other (g .post) (bindings) (λ i. omega arith) (λ i. omega arith) (sym z));
       })))
 
-  pub added-diag : Told c d words bytes w b r x y (endLink (c .diags)) → f ≡ withDiag d (c .records) → (g : Hand) (es : List Event) → Holds g c words bytes es
+  pub added-diag : Told c d words bytes w b r x y (endLink (c .diags)) → f ≡ withDiag d (c .records) → (g : Hand) (es : List Event)
+      → Holds g c words bytes es
       → Holds g f w b (es ++ eventOf (diagsOf (g .post)) 0 r x y ∷ [])
   unfolding withDiag oneMore
   added-diag t q g es h =
       let e = eventOf (diagsOf (g .post)) 0 r x y in
       rw q
-      (added t (withDiag d (c .records)) (diagsOf (g .post)) 0 g es h (λ s l en. spot-top (λ o. diags-other (g .post) (childrenOf o) (λ i. omega arith) (λ i. omega arith)) (en .diagsRun)) (λ s o z. absurd (diags-other (g .post) (childrenOf o) (λ i. omega arith) (λ i. omega arith) z)) refl refl refl
+      (added t (withDiag d (c .records)) (diagsOf (g .post)) 0 g es h
+      (λ s l en. spot-top (λ o. diags-other (g .post) (childrenOf o) (λ i. omega arith) (λ i. omega arith)) (en .diagsRun))
+      (λ s o z. absurd (diags-other (g .post) (childrenOf o) (λ i. omega arith) (λ i. omega arith) z)) refl refl refl
       (λ m s n en.
       rw m
       (record {
@@ -250,7 +271,8 @@ module _ {c d f : LowerCtx} {words bytes w b : List ℕ} {r : Rec} {x y : List �
       })))
 
 -- and below a record
-pub added-child : {c d : LowerCtx} {words bytes w b : List ℕ} {r : Rec} {x y : List ℕ} (owner lastChild : ℕ) → Told c d words bytes w b r x y (childLink owner lastChild)
+pub added-child : {c d : LowerCtx} {words bytes w b : List ℕ} {r : Rec} {x y : List ℕ} (owner lastChild : ℕ)
+    → Told c d words bytes w b r x y (childLink owner lastChild)
     → AddsBelow c d words bytes w b owner lastChild (eventOf (childrenOf owner) 0 r x y)
 unfolding oneMore
 added-child {c} {d} {r = r} {x} {y} owner lastChild t =
@@ -267,7 +289,8 @@ added-child {c} {d} {r = r} {x} {y} owner lastChild t =
             defsRun = runs-same e (en .defsRun) (λ z. omega arith);
             extsRun = runs-same e (en .extsRun) (λ z. omega arith);
             bindsRun = runs-same e (en .bindsRun) (λ z. omega arith);
-            diagsRun = runs-same e (en .diagsRun) (λ z. diags-other (g .post) (childrenOf owner) (λ i. omega arith) (λ i. omega arith) (sym z));
+            diagsRun = runs-same e (en .diagsRun) (λ z. diags-other (g .post) (childrenOf owner) (λ i. omega arith) (λ i. omega arith)
+                (sym z));
           }));
       stays = λ s. told-over t s .0;
     }

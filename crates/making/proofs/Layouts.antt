@@ -8,14 +8,15 @@ use native.Mathlib.Omega.{arith}
 use borrow.Author.Tests.{eq-eqb, ne-eqb, leb-true, leb-false}
 use lib.Dec.{eqb, leb}
 use lib.ListN.{length, set, replicate, length-append, length-set, length-replicate}
-use Rattle.paths_numbers.specs.Text.{isEmpty, written}
+use Rattle.paths_numbers.specs.meaning.Text.{isEmpty, written}
 use Rattle.paths_numbers.proofs.Texts.{by-test}
 use Rattle.paths_numbers.proofs.Written.{written-length}
 use Rattle.making.specs.declared.ctx.Rec.{Rec}
-use Rattle.log.specs.Record.{logCount, outCount}
-use Rattle.making.specs.Events.{Event, first, childrenOf, words16, startOf, bytesIn, texts, endOf, Ordered, ordered-none, ordered-next, allWords, allBytes}
-use Rattle.making.specs.Made.{startAt, sixteen, setLink}
-use Rattle.making.specs.Buffers.{eventOf, mostBytes, Layout}
+use Rattle.log.specs.meaning.Record.{logCount, outCount, mostBytes}
+use Rattle.making.specs.machine.Events.{Event, first, childrenOf, words16, startOf, bytesIn, texts, endOf, Ordered, ordered-none}
+use Rattle.making.specs.machine.Events.{ordered-next, allWords, allBytes}
+use Rattle.making.specs.machine.Made.{startAt, sixteen, setLink}
+use Rattle.making.specs.machine.Buffers.{eventOf, Layout}
 use Rattle.making.proofs.Append.{length-words}
 use Rattle.making.proofs.ReadEvents.{piece, length-piece}
 use Rattle.making.proofs.Make.{Spot, make-words, written-behind}
@@ -27,9 +28,11 @@ end-more at [] e = refl
 end-more at (x ∷ es) e = end-more (at + bytesIn x) es e
 
 -- records stay behind their owners
-ordered-more : (k : ℕ) (es : List Event) (e : Event) → Ordered k es → ((r : ℕ) → e .chain ≡ childrenOf r → r < k + length es) → Ordered k (es ++ e ∷ [])
+ordered-more : (k : ℕ) (es : List Event) (e : Event) → Ordered k es → ((r : ℕ) → e .chain ≡ childrenOf r → r < k + length es)
+    → Ordered k (es ++ e ∷ [])
 ordered-more k [] e o h = ordered-next {k = k} (λ (r : ℕ) (q : e .chain ≡ childrenOf r). omega (arith, h r q)) ordered-none
-ordered-more k (x ∷ es) e (ordered-next f o) h = ordered-next f (ordered-more (k + 1) es e o (λ (r : ℕ) (q : e .chain ≡ childrenOf r). omega (arith, h r q)))
+ordered-more k (x ∷ es) e (ordered-next f o) h = ordered-next f
+    (ordered-more (k + 1) es e o (λ (r : ℕ) (q : e .chain ≡ childrenOf r). omega (arith, h r q)))
 
 -- the texts with one more
 texts-more : (es : List Event) (e : Event) → texts (es ++ e ∷ []) ≡ texts es ++ piece e
@@ -50,7 +53,8 @@ start-same at [] = refl
 start-same at (a ∷ s) = rw (ne-eqb (suc (length s)) 0 (omega arith)) refl
 
 -- the words of a new record are those that the code lays out
-sixteen-is : (c log number at : ℕ) (r : Rec) (x y : List ℕ) → sixteen at (length x) (length y) r ≡ words16 number at (eventOf c log r x y) []
+sixteen-is : (c log number at : ℕ) (r : Rec) (x y : List ℕ) → sixteen at (length x) (length y) r ≡ words16 number at (eventOf c log r x y)
+    []
 unfolding sixteen words16 first
 sixteen-is c log number at r x y = rw (start-same at x, start-same (at + length x) y) refl
 
@@ -81,7 +85,8 @@ unfolding logCount
 same-count w v e = rw e refl
 
 module _ {w b : List ℕ} {n m : ℕ} {es : List Event} (l : Layout w b n m es) (c log : ℕ) (r : Rec) (x y : List ℕ) (link : ℕ)
-    (room : 2 + length es ≤ logCount w) (bytes : endOf 0 es + (length x + length y) ≤ length b) (most : endOf 0 es + (length x + length y) ≤ mostBytes)
+    (room : 2 + length es ≤ logCount w) (bytes : endOf 0 es + (length x + length y) ≤ length b)
+    (most : endOf 0 es + (length x + length y) ≤ mostBytes)
     (spot : Spot c es link) (owned : (o : ℕ) → c ≡ childrenOf o → o < 1 + length es) where
   abbrev e : Event
   e = eventOf c log r x y
@@ -95,7 +100,8 @@ module _ {w b : List ℕ} {n m : ℕ} {es : List Event} (l : Layout w b n m es) 
   length-w : length w' ≡ length w
   length-w =
       let k : length (sixteen m (length x) (length y) r) ≡ 16 = rw (sixteen-is c log n m r x y) (length-words n m e []) in
-      length-link link n _ ∙ written-length w (n * 16) (sixteen m (length x) (length y) r) (omega (arith, count-words w (2 + length es) room, l .recordsAre))
+      length-link link n _ ∙ written-length w (n * 16) (sixteen m (length x) (length y) r)
+      (omega (arith, count-words w (2 + length es) room, l .recordsAre))
 
   length-b : length b' ≡ length b
   length-b = written-length b m (x ++ y) (simp length-append (omega (arith, l .usedAre)))
@@ -104,9 +110,12 @@ module _ {w b : List ℕ} {n m : ℕ} {es : List Event} (l : Layout w b n m es) 
   words-are =
       let k : length (es ++ e ∷ []) ≡ length es + 1 = length-append es (e ∷ []) in
       let rest : length w' - (1 + length (es ++ e ∷ [])) * 16 ≡ length w - (1 + length es) * 16 - 16 = omega (arith, length-w) in
-      let put : sixteen m (length x) (length y) r ≡ words16 (1 + length es) (endOf 0 es) e [] = sixteen-is c log (1 + length es) m r x y ∙ rw (l .usedAre) refl in
-      let made = make-words c e refl refl (replicate 16 0) refl es (length w - (1 + length es) * 16) link (omega (arith, count-words w (2 + length es) room)) spot in
-      rw rest (ap (λ (v : List ℕ). setLink link n (written v (n * 16) (sixteen m (length x) (length y) r))) (l .wordsAre) ∙ rw (l .recordsAre, put) made)
+      let put : sixteen m (length x) (length y) r ≡ words16 (1 + length es) (endOf 0 es) e [] = sixteen-is c log (1 + length es) m r x y
+      ∙ rw (l .usedAre) refl in
+      let made = make-words c e refl refl (replicate 16 0) refl es (length w - (1 + length es) * 16) link
+      (omega (arith, count-words w (2 + length es) room)) spot in
+      rw rest (ap (λ (v : List ℕ). setLink link n (written v (n * 16) (sixteen m (length x) (length y) r))) (l .wordsAre)
+      ∙ rw (l .recordsAre, put) made)
 
   bytes-are : b' ≡ allBytes (es ++ e ∷ []) (length b' - endOf 0 (es ++ e ∷ []))
   unfolding allBytes piece

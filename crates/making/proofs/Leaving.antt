@@ -8,15 +8,17 @@ use borrow.Author.Tests.{eqb-true, le-leb, leb-false}
 use lib.Dec.{eqb, leb}
 use lib.ListN.{length}
 use Rattle.paths_numbers.proofs.Texts.{by-test, not-both, both}
-use Rattle.making.specs.State as S
-use Rattle.log.specs.Record.{oneOf, defKinds, nodeKind, propertyKind, cellListKind, extensionKind, bindingKind, diagnosticKind, hasChildren}
-use Rattle.log.specs.Sound.{kindsIn, labels, values, cells, references}
-use Rattle.making.specs.Events.{Event, childrenOf, inChain, first, last, Ordered, members}
-use Rattle.making.specs.Removed.{dead}
-use Rattle.making.specs.Dropped.{staysKind, afterDrop, dropped, Quiet, quiet-none, quiet-next, Body}
-use Rattle.making.specs.Holding.{Runs, diagsOf}
-use Rattle.making.specs.Represents.{Out, Each, each-none, each-next, partFits, Sort, is-def, is-ext, is-binding, is-diag, is-part, Inside}
-use Rattle.making.specs.Whole.{At, at-here, at-later}
+use Rattle.making.specs.meaning.State as S
+use Rattle.log.specs.meaning.Record.{oneOf, defKinds, nodeKind, propertyKind, cellListKind, extensionKind, bindingKind, diagnosticKind}
+use Rattle.log.specs.meaning.Record.{hasChildren}
+use Rattle.log.specs.meaning.Sound.{kindsIn, labels, values, cells, references}
+use Rattle.making.specs.machine.Events.{Event, childrenOf, inChain, first, last, Ordered, members}
+use Rattle.making.specs.machine.Removed.{dead}
+use Rattle.making.specs.machine.Dropped.{staysKind, afterDrop, dropped, Quiet, quiet-none, quiet-next, Body}
+use Rattle.making.specs.machine.Holding.{Runs, diagsOf}
+use Rattle.making.specs.machine.Represents.{Out, Each, each-none, each-next, partFits, Sort, is-def, is-ext, is-binding, is-diag}
+use Rattle.making.specs.machine.Represents.{is-part, Inside}
+use Rattle.making.specs.machine.Whole.{At, at-here, at-later}
 use Rattle.making.proofs.Append.{chain-other}
 use Rattle.making.proofs.Growing.{each-at, at-more}
 use Rattle.making.proofs.PartSteps.{low, behind}
@@ -25,7 +27,8 @@ use Rattle.making.proofs.Entered.{low-ext}
 use Rattle.making.proofs.FirstOf.{at-same}
 
 -- a list of kinds that has none of these
-none-stays : (ks : List ℕ) (k : ℕ) → oneOf 0 ks ≡ false → oneOf bindingKind ks ≡ false → oneOf diagnosticKind ks ≡ false → oneOf k ks ≡ true → staysKind k ≡ true → ⊥
+none-stays : (ks : List ℕ) (k : ℕ) → oneOf 0 ks ≡ false → oneOf bindingKind ks ≡ false → oneOf diagnosticKind ks ≡ false → oneOf k ks ≡ true
+    → staysKind k ≡ true → ⊥
 none-stays ks k a b c t s =
     by-test (eqb k 0)
     (λ x. not-both t (rw (eqb-true k 0 x) a))
@@ -106,7 +109,8 @@ dropped-parts mark k (x ∷ xs) ys =
     rw (z, dropped-parts mark (k + 1) xs ys) refl
 
 -- what is left of it is in other chains than those of logs
-pub left-shared : {gs : List Event} (mark k : ℕ) (es : List Event) → mark ≤ k → Each (Sort gs) k es → Each (λ (i : ℕ) (e : Event). e .alive ≡ true → Shared e) k (dropped mark k es)
+pub left-shared : {gs : List Event} (mark k : ℕ) (es : List Event) → mark ≤ k → Each (Sort gs) k es
+    → Each (λ (i : ℕ) (e : Event). e .alive ≡ true → Shared e) k (dropped mark k es)
 unfolding dropped
 left-shared mark k [] h each-none = each-none
 left-shared {gs} mark k (e ∷ es) h (each-next s q) = each-next (first-left s) (left-shared mark (k + 1) es (omega arith) q)
@@ -115,9 +119,11 @@ left-shared {gs} mark k (e ∷ es) h (each-next s q) = each-next (first-left s) 
     first-left s t =
         by-test (staysKind (e .kind))
         (λ u. let i : afterDrop mark k e ≡ e = behind-mark mark k e h ∙ rw u refl in subst Shared (sym i) (stays-shared s u))
-        (λ u. let i : afterDrop mark k e ≡ dead e = behind-mark mark k e h ∙ rw u refl in absurd (not-both t (ap (λ (x : Event). x .alive) i)))
+        (λ u. let i : afterDrop mark k e ≡ dead e = behind-mark mark k e h
+        ∙ rw u refl in absurd (not-both t (ap (λ (x : Event). x .alive) i)))
 
-pub shared-out : {k : ℕ} {es : List Event} (c : ℕ) → (c ≡ 2 → ⊥) → (c ≡ 3 → ⊥) → (c ≡ 4 → ⊥) → Each (λ (i : ℕ) (e : Event). e .alive ≡ true → Shared e) k es → Each (Out c) k es
+pub shared-out : {k : ℕ} {es : List Event} (c : ℕ) → (c ≡ 2 → ⊥) → (c ≡ 3 → ⊥) → (c ≡ 4 → ⊥)
+    → Each (λ (i : ℕ) (e : Event). e .alive ≡ true → Shared e) k es → Each (Out c) k es
 shared-out c a b d each-none = each-none
 shared-out c a b d (each-next {e = e} h q) =
     each-next (by-test (e .alive) (λ t. shared-apart e c a b d (h t)) (λ t. rw t refl)) (shared-out c a b d q)
@@ -134,7 +140,8 @@ module _ (c : ℕ) (shared : (e : Event) → e .chain ≡ c → Shared e) where
   unfolding afterDrop
   out-dropped mark k e t = by-test (leb mark k) (λ u. by-test (staysKind (e .kind)) (λ v. rw (u, v) t) (λ v. rw (u, v) refl)) (λ u. rw u t)
 
-  pub members-dropped : {gs : List Event} (mark k : ℕ) (es : List Event) → Each (Sort gs) k es → members c k (dropped mark k es) ≡ members c k es
+  pub members-dropped : {gs : List Event} (mark k : ℕ) (es : List Event) → Each (Sort gs) k es
+      → members c k (dropped mark k es) ≡ members c k es
   unfolding members dropped
   members-dropped mark k [] each-none = refl
   members-dropped mark k (e ∷ es) (each-next s q) =
@@ -155,7 +162,8 @@ module _ (c : ℕ) (shared : (e : Event) → e .chain ≡ c → Shared e) where
       let h = last-dropped mark (k + 1) es q in
       by-test (inChain c e) (λ t. rw (in-dropped mark k e s t, h) refl) (λ t. rw (out-dropped mark k e t, t, h) refl)
 
-  pub runs-dropped : {gs : List Event} {x : _} (mark : ℕ) (es : List Event) → Each (Sort gs) 1 es → Runs c x es → Runs c x (dropped mark 1 es)
+  pub runs-dropped : {gs : List Event} {x : _} (mark : ℕ) (es : List Event) → Each (Sort gs) 1 es → Runs c x es
+      → Runs c x (dropped mark 1 es)
   runs-dropped mark es ss r =
       record { firstIs = r .firstIs ∙ sym (first-dropped mark 1 es ss); lastIs = r .lastIs ∙ sym (last-dropped mark 1 es ss) }
 
@@ -166,7 +174,8 @@ each-back {P} {k} (x ∷ xs) {ys} (each-next p h) =
     let z : k + 1 + length xs ≡ k + suc (length xs) = omega arith in
     subst (λ (i : ℕ). Each P i ys) z (each-back xs h)
 
-pub each-join : {P : ℕ → Event → Type 0} {k : ℕ} (xs : List Event) {ys : List Event} → Each P k xs → Each P (k + length xs) ys → Each P k (xs ++ ys)
+pub each-join : {P : ℕ → Event → Type 0} {k : ℕ} (xs : List Event) {ys : List Event} → Each P k xs → Each P (k + length xs) ys
+    → Each P k (xs ++ ys)
 each-join {P} {k} [] {ys} each-none q = let z : k + 0 ≡ k = omega arith in subst (λ (i : ℕ). Each P i ys) z q
 each-join {P} {k} (x ∷ xs) {ys} (each-next p h) q =
     let z : k + suc (length xs) ≡ k + 1 + length xs = omega arith in
@@ -186,7 +195,8 @@ at-back {k} {r} (x ∷ xs) {ys} {e} h (at-later a) =
     subst (λ (i : ℕ). At i ys r e) z (at-back xs (omega arith) a)
 
 -- nothing that stays, and nothing before the body, leads to a record of the body that is dropped
-quiet-of : {chain k : ℕ} {xs : List Event} → Each (λ (i : ℕ) (x : Event). x .alive ≡ true → (x .chain ≡ chain → ⊥) × (chain ≡ childrenOf i → ⊥)) k xs → Quiet chain k xs
+quiet-of : {chain k : ℕ} {xs : List Event} → Each (λ (i : ℕ) (x : Event). x .alive ≡ true
+    → (x .chain ≡ chain → ⊥) × (chain ≡ childrenOf i → ⊥)) k xs → Quiet chain k xs
 quiet-of each-none = quiet-none
 quiet-of (each-next h q) = quiet-next h (quiet-of q)
 
@@ -197,7 +207,8 @@ shared-not {e = e} {x} s n h q = not-both (goes s (moved h)) n
     moved (shared-binding z) = shared-binding (sym q ∙ z)
     moved (shared-diag p z) = shared-diag p (sym q ∙ z)
 
-module _ (es : List Event) (mark p : ℕ) (e : Event) (sorted : Each (Sort es) 1 es) (ordered : Ordered 1 es) (at : At 1 es p e) (goes-away : staysKind (e .kind) ≡ false)
+module _ (es : List Event) (mark p : ℕ) (e : Event) (sorted : Each (Sort es) 1 es) (ordered : Ordered 1 es) (at : At 1 es p e)
+    (goes-away : staysKind (e .kind) ≡ false)
     (inside : Inside mark mark e) where
   sort : Sort es p e
   sort = each-at sorted at
@@ -230,7 +241,8 @@ module _ (es : List Event) (mark p : ℕ) (e : Event) (sorted : Each (Sort es) 1
           let same : y ≡ x = at-same (subst (λ (j : ℕ). At 1 es j y) i b) a in
           parent-stays (x .kind) (subst (λ (z : Event). hasChildren (z .kind) ≡ true) same g) t
 
-  quiet-one : (r : ℕ) (x : Event) → At 1 es r x → afterDrop mark r x .alive ≡ true → (afterDrop mark r x .chain ≡ e .chain → ⊥) × (e .chain ≡ childrenOf r → ⊥)
+  quiet-one : (r : ℕ) (x : Event) → At 1 es r x → afterDrop mark r x .alive ≡ true
+      → (afterDrop mark r x .chain ≡ e .chain → ⊥) × (e .chain ≡ childrenOf r → ⊥)
   unfolding afterDrop
   quiet-one r x a t =
       by-test (leb mark r)
@@ -248,12 +260,15 @@ module _ (es : List Event) (mark p : ℕ) (e : Event) (sorted : Each (Sort es) 1
   quiet-each k [] f = each-none
   quiet-each k (x ∷ us) f = each-next (quiet-one k x (f k x at-here)) (quiet-each (k + 1) us (λ r y a. f r y (at-later a)))
 
-pub body : (es xs ys : List Event) (mark : ℕ) → es ≡ xs ++ ys → mark ≡ 1 + length xs → Each (Sort es) 1 es → Ordered 1 es → Each (λ (k : ℕ) (e : Event). Inside mark mark e) mark ys → Body mark es
+pub body : (es xs ys : List Event) (mark : ℕ) → es ≡ xs ++ ys → mark ≡ 1 + length xs → Each (Sort es) 1 es → Ordered 1 es
+    → Each (λ (k : ℕ) (e : Event). Inside mark mark e) mark ys → Body mark es
 body es xs ys mark q m ss o i =
     record {
       quiet = λ us e vs c h n.
           let a : At 1 es (1 + length us) e = subst (λ (l : List Event). At 1 l (1 + length us) e) (sym c) (at-cut 1 us e vs) in
-          let b : At (1 + length xs) ys (1 + length us) e = at-back xs (omega arith) (subst (λ (l : List Event). At 1 l (1 + length us) e) q a) in
+          let b : At (1 + length xs) ys (1 + length us) e = at-back xs (omega arith)
+          (subst (λ (l : List Event). At 1 l (1 + length us) e) q a) in
           let k : Inside mark mark e = each-at i (subst (λ (j : ℕ). At j ys (1 + length us) e) (sym m) b) in
-          quiet-of (quiet-each es mark (1 + length us) e ss o a n k 1 us (λ r x z. subst (λ (l : List Event). At 1 l r x) (sym c) (at-more (e ∷ vs) z)));
+          quiet-of (quiet-each es mark (1 + length us) e ss o a n k 1 us
+          (λ r x z. subst (λ (l : List Event). At 1 l r x) (sym c) (at-more (e ∷ vs) z)));
     }

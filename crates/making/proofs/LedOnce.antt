@@ -8,23 +8,25 @@ use borrow.Author.Tests.{eqb-true, eqb-false, ltb-true, ltb-false}
 use lib.Dec.{eqb, ltb}
 use lib.ListN.{length}
 use Rattle.paths_numbers.proofs.Texts.{by-test}
-use Rattle.log.specs.Record.{kindOf, nextOf, childOf, mOf, extensionKind, hasChildren, logCount, leads}
-use Rattle.log.specs.Sound.{times, headLinks, followed, timesReached}
-use Rattle.making.specs.Events.{Event, defsOf, childrenOf, first, allWords, Ordered}
-use Rattle.making.specs.Whole.{There, Whole}
-use Rattle.making.specs.Finished.{headIn}
+use Rattle.log.specs.meaning.Record.{kindOf, nextOf, childOf, mOf, extensionKind, hasChildren, logCount, leads}
+use Rattle.log.specs.meaning.Sound.{times, headLinks, followed, timesReached}
+use Rattle.making.specs.machine.Events.{Event, defsOf, childrenOf, first, allWords, Ordered}
+use Rattle.making.specs.machine.Whole.{There, Whole}
+use Rattle.making.specs.machine.Finished.{headIn}
 use Rattle.log.proofs.Walk.{toOf, outs, leads-below, fromNew, new-none, new-most, count-followed}
 use Rattle.log.proofs.Reached.{times-outs, times-heads}
 use Rattle.making.proofs.FirstOf.{at-from, at-same, Leads, leads-first}
 use Rattle.making.proofs.Standing.{extends}
-use Rattle.making.proofs.LogLinks.{kind-is, head-def, head-ext, head-bind, head-diag, head-post, link-next, link-child, link-body, reached-there}
+use Rattle.making.proofs.LogLinks.{kind-is, head-def, head-ext, head-bind, head-diag, head-post, link-next, link-child, link-body}
+use Rattle.making.proofs.LogLinks.{reached-there}
 
 -- a link to t: the record that has it, 0 for record 0, and which of its links it is
 pub data Into (es : List Event) (t : ℕ) : ℕ → ℕ → Type 0 where
   into-head : {c : ℕ} → c ≤ 4 → Leads es 1 c t → Into es t 0 c
   into-next : {a : ℕ} {x : Event} → There es a x → Leads es (a + 1) (x .chain) t → Into es t a 5
   into-child : {a : ℕ} {x : Event} → There es a x → Leads es 1 (childrenOf a) t → Into es t a 6
-  into-body : {a : ℕ} {x : Event} → There es a x → x .kind ≡ extensionKind → (x .log ≡ 0 → ⊥) → Leads es 1 (defsOf (x .log)) t → Into es t a 7
+  into-body : {a : ℕ} {x : Event} → There es a x → x .kind ≡ extensionKind → (x .log ≡ 0 → ⊥) → Leads es 1 (defsOf (x .log)) t
+      → Into es t a 7
 
 -- t is in one chain
 same-chain : {es : List Event} {i j c d t : ℕ} → Leads es i c t → Leads es j d t → c ≡ d
@@ -35,7 +37,8 @@ not-behind : {es : List Event} {a c t : ℕ} {x : Event} → There es a x → Le
 not-behind {a = a} {x = x} h l m = omega (arith, l .from, m .least a x h (same-chain l m) (at-from (h .at)))
 
 -- behind two records
-same-next : {es : List Event} {a b t : ℕ} {x y : Event} → There es a x → There es b y → Leads es (a + 1) (x .chain) t → Leads es (b + 1) (y .chain) t → a ≡ b
+same-next : {es : List Event} {a b t : ℕ} {x y : Event} → There es a x → There es b y → Leads es (a + 1) (x .chain) t
+    → Leads es (b + 1) (y .chain) t → a ≡ b
 same-next {a = a} {b} {x = x} {y} h k l m =
     by-test (eqb a b)
     (λ t. eqb-true a b t)
@@ -62,7 +65,11 @@ into-same w (into-child h l) (into-body k q n m) = absurd (omega (arith, same-ch
 into-same w (into-body h p n l) (into-head q m) = absurd (n (omega (arith, same-chain l m)))
 into-same w (into-body h p n l) (into-next k m) = absurd (not-behind k m l)
 into-same w (into-body h p n l) (into-child k m) = absurd (omega (arith, same-chain l m))
-into-same w (into-body {a} {x = x} h p n l) (into-body {a = b} {x = y} k q o m) = (w .making .apart a b x y h k p q (omega (arith, same-chain l m)), refl)
+into-same w (into-body {a} {x = x} h p n l) (into-body {a = b} {x = y} k q o m) = (
+  w .making .apart a b x y h k p q
+      (omega (arith, same-chain l m)),
+  refl,
+)
 
 -- a word that leads to t, once
 to-most : (words : List ℕ) (r t : ℕ) → times t (toOf words r) ≤ 1
@@ -103,7 +110,8 @@ unfolding sumTo
 some-of zero f h = absurd (omega arith)
 some-of (suc n) f h =
     by-test (eqb (f n) 0)
-    (λ t. let s = some-of n f (omega (arith, eqb-true (f n) 0 t)) in record { index = s .index; inside = omega (arith, s .inside); there = s .there })
+    (λ t. let s = some-of n f (omega (arith, eqb-true (f n) 0 t)) in record
+    { index = s .index; inside = omega (arith, s .inside); there = s .there })
     (λ t. record { index = n; inside = omega arith; there = omega (arith, eqb-false (f n) 0 t) })
 
 sum-most : (n : ℕ) (f : ℕ → ℕ) → ((i : ℕ) → i < n → f i ≤ 1) → ((i j : ℕ) → i < n → j < n → 1 ≤ f i → 1 ≤ f j → i ≡ j) → sumTo n f ≤ 1
@@ -117,9 +125,15 @@ sum-most (suc n) f one same =
     let s = some-of n f (omega (arith, eqb-false (sumTo n f) 0 t)) in
     by-test (eqb (f n) 0)
     (λ u. omega (arith, ih, eqb-true (f n) 0 u))
-    (λ u. absurd (omega (arith, s .inside, same (s .index) n (omega (arith, s .inside)) (omega arith) (s .there) (omega (arith, eqb-false (f n) 0 u))))))
+    (λ u. absurd (omega (
+      arith,
+      s .inside,
+      same (s .index) n (omega (arith, s .inside)) (omega arith) (s .there)
+          (omega (arith, eqb-false (f n) 0 u)),
+    ))))
 
-module _ (es : List Event) (records used room : ℕ) (fits : 1 + length es ≤ logCount (allWords (headIn records used es) es room)) (ordered : Ordered 1 es) (whole : Whole es) where
+module _ (es : List Event) (records used room : ℕ) (fits : 1 + length es ≤ logCount (allWords (headIn records used es) es room))
+    (ordered : Ordered 1 es) (whole : Whole es) where
   abbrev words : List ℕ
   words = allWords (headIn records used es) es room
 
@@ -131,7 +145,14 @@ module _ (es : List Event) (records used room : ℕ) (fits : 1 + length es ≤ l
   unfolding sumTo
   sum-heads t =
       times-heads words t
-      ∙ rw (head-def es records used room fits ordered whole, head-ext es records used room fits ordered whole, head-bind es records used room fits ordered whole, head-diag es records used room fits ordered whole, head-post es records used room fits ordered whole)
+      ∙ rw (
+        head-def es records used room fits ordered whole,
+        head-ext es records used room fits ordered whole,
+        head-bind es records used
+            room fits ordered whole,
+        head-diag es records used room fits ordered whole,
+        head-post es records used room fits ordered whole,
+      )
       (omega arith)
 
   head-into : (t c : ℕ) → c < 5 → 1 ≤ fromHead t c → Into es t 0 c
@@ -172,7 +193,8 @@ module _ (es : List Event) (records used room : ℕ) (fits : 1 + length es ≤ l
         let e : kindOf words a ≡ extensionKind = eqb-true (kindOf words a) extensionKind (i .0) in
         let q = led-by words (mOf words a) t (i .1) in
         let d = sym (kind-is es records used room fits ordered whole h) ∙ e in
-        into-body h d (extends (whole .making .stands a x h) d .own) (rw (q .0) at (link-body es records used room fits ordered whole h e (q .1)))
+        into-body h d (extends (whole .making .stands a x h) d .own)
+        (rw (q .0) at (link-body es records used room fits ordered whole h e (q .1)))
 
     slot-into : (i : ℕ) → i < 3 → 1 ≤ fromSlot i → Into es t a (5 + i)
     slot-into zero l k = next-into k

@@ -1,5 +1,5 @@
--- The links of a complete log in the making, record 0 written: each leads to the first record of a chain, from the start of the log or behind
--- a record of the chain, and so every link that is followed leads to a record that is there, where its kind fits.
+-- The links of a complete log in the making, record 0 written: each leads to the first record of a chain, from the start of the log or
+-- behind a record of the chain, and so every link that is followed leads to a record that is there, where its kind fits.
 use Prim.Native.Nat.{ℕ, zero, suc, _+_, _*_, _/_, _%_, _≤_}
 use mathlib.Core.Path.{_≡_, refl, sym, ap, _∙_}
 use mathlib.Core.Bool.{Bool, true, false, cond}
@@ -9,12 +9,16 @@ use borrow.Author.Tests.{eqb-true}
 use lib.Dec.{eqb}
 use lib.ListN.{length}
 use Rattle.paths_numbers.proofs.Texts.{by-test}
-use Rattle.log.specs.Record.{outField, kindOf, nextOf, childOf, mOf, firstDef, firstExt, firstBind, firstDiag, firstPost, extensionKind, oneOf, hasChildren, logCount, leads}
-use Rattle.log.specs.Sound.{Place, definitions, extensions, kindsIn, below, Link, linkTo, headLinks, linksOf, targets, times, walk, mostLinks, followed, timesReached, unfit}
-use Rattle.log.specs.Sound as S
-use Rattle.making.specs.Events.{Event, defsOf, extsOf, bindings, diagnostics, postDiagnostics, childrenOf, first, allWords, Ordered}
-use Rattle.making.specs.Whole.{There, Stands, in-defs, in-exts, in-bindings, in-diagnostics, in-post, in-children, mainLog, Whole}
-use Rattle.making.specs.Finished.{head16, headIn}
+use Rattle.log.specs.meaning.Record.{outField, kindOf, nextOf, childOf, mOf, firstDef, firstExt, firstBind, firstDiag, firstPost}
+use Rattle.log.specs.meaning.Record.{extensionKind, oneOf, hasChildren, logCount, leads}
+use Rattle.log.specs.meaning.Sound.{Place, definitions, extensions, kindsIn, below, Link, linkTo, headLinks, linksOf, targets, times, walk}
+use Rattle.log.specs.meaning.Sound.{mostLinks, followed, timesReached, unfit}
+use Rattle.log.specs.meaning.Sound as S
+use Rattle.making.specs.machine.Events.{Event, defsOf, extsOf, bindings, diagnostics, postDiagnostics, childrenOf, first, allWords}
+use Rattle.making.specs.machine.Events.{Ordered}
+use Rattle.making.specs.machine.Whole.{There, Stands, in-defs, in-exts, in-bindings, in-diagnostics, in-post, in-children, mainLog}
+use Rattle.making.specs.machine.Whole.{Whole}
+use Rattle.making.specs.machine.Finished.{head16, headIn}
 use Rattle.log.proofs.Walk.{leads-below}
 use Rattle.making.proofs.ReadEvents.{next-at}
 use Rattle.making.proofs.ReadLog.{kind-at, m-at, child-at}
@@ -41,7 +45,8 @@ place-children words r =
     let q : (8 * r + 5) / 8 ≡ r = omega arith in
     rw (z, q) refl
 
-module _ (es : List Event) (records used room : ℕ) (fits : 1 + length es ≤ logCount (allWords (headIn records used es) es room)) (ordered : Ordered 1 es) (whole : Whole es) where
+module _ (es : List Event) (records used room : ℕ) (fits : 1 + length es ≤ logCount (allWords (headIn records used es) es room))
+    (ordered : Ordered 1 es) (whole : Whole es) where
   abbrev head : List ℕ
   head = headIn records used es
 
@@ -148,7 +153,8 @@ module _ (es : List Event) (records used room : ℕ) (fits : 1 + length es ≤ l
       led-append
       (led-append
       (led-append
-      (led-append (led-head (firstDef words) definitions (defsOf 0) head-def refl) (led-head (firstExt words) extensions (extsOf 0) head-ext refl))
+      (led-append (led-head (firstDef words) definitions (defsOf 0) head-def refl)
+      (led-head (firstExt words) extensions (extsOf 0) head-ext refl))
       (led-head (firstBind words) S.bindings bindings head-bind refl))
       (led-head (firstDiag words) S.diagnostics diagnostics head-diag refl))
       (led-head (firstPost words) S.diagnostics postDiagnostics head-post refl)

@@ -8,12 +8,12 @@ use borrow.Author.Tests.{lt-ltb, ltb-false, leb-false}
 use lib.Dec.{ltb, leb}
 use lib.ListN.{length, length-append}
 use Rattle.paths_numbers.proofs.Texts.{by-test}
-use Rattle.log.specs.Record.{logCount}
-use Rattle.making.specs.Events.{Event, childrenOf}
+use Rattle.log.specs.meaning.Record.{logCount, mostBytes}
+use Rattle.making.specs.machine.Events.{Event, childrenOf}
 use Rattle.making.specs.declared.ctx.LowerCtx.{LowerCtx}
 use Rattle.making.specs.declared.ctx.Rec.{Rec}
-use Rattle.making.specs.Buffers.{eventOf, mostBytes, Layout, Exceeds, records-exceed, bytes-exceed, most-exceed}
-use Rattle.making.specs.Made.{hasRoom, ranShort, oneMore, makes, counted, madeWords, madeBytes}
+use Rattle.making.specs.machine.Buffers.{eventOf, Layout, Exceeds, records-exceed, bytes-exceed, most-exceed}
+use Rattle.making.specs.machine.Made.{hasRoom, ranShort, oneMore, makes, counted, madeWords, madeBytes}
 use Rattle.making.proofs.Make.{Spot, spot-none, spot-last, spot-child}
 use Rattle.making.proofs.Append.{last-to}
 use Rattle.making.proofs.Layouts.{count-words, end-more, layout-more}
@@ -40,7 +40,8 @@ module _ (ctx : LowerCtx) (w b : List ℕ) (es : List Event) (l : Layout w b (ct
   unfolding makes
   decided =
       cond-false (ctx .short) _ _ going
-      ∙ cond-true (ltb link (length w)) _ _ (lt-ltb link (length w) (omega (arith, spot-below c es link spot, count-words w (1 + length es) (l .recordsFit))))
+      ∙ cond-true (ltb link (length w)) _ _ (lt-ltb link (length w)
+      (omega (arith, spot-below c es link spot, count-words w (1 + length es) (l .recordsFit))))
 
   -- no room: one of the limits
   exceeds : hasRoom ctx w b (length x + length y) ≡ false → Exceeds w b (es ++ e ∷ [])
@@ -65,5 +66,6 @@ module _ (ctx : LowerCtx) (w b : List ℕ) (es : List Event) (l : Layout w b (ct
       let k = room-is ctx w b (length x + length y) 0 t (omega (arith, count-words w (1 + length es) (l .recordsFit))) in
       rw m
       (made refl
-      (layout-more l c log r x y link (omega (arith, k .recordsFit, l .recordsAre)) (omega (arith, k .bytesFit, l .usedAre)) (omega (arith, k .bytesMost, l .usedAre)) spot owned)))
+      (layout-more l c log r x y link (omega (arith, k .recordsFit, l .recordsAre)) (omega (arith, k .bytesFit, l .usedAre))
+      (omega (arith, k .bytesMost, l .usedAre)) spot owned)))
       (λ t. let m = decided ∙ t in rw m (ran-short refl refl refl (exceeds t)))

@@ -7,31 +7,35 @@ use native.Mathlib.Omega.{arith}
 use borrow.Author.Tests.{ne-eqb, le-leb, lt-leb}
 use lib.ListN.{length}
 use Rattle.paths_numbers.proofs.Texts.{by-test, not-both}
-use Rattle.log.specs.Record.{bindingKind, oneOf}
-use Rattle.making.specs.Events.{Event, defsOf, bindings, childrenOf, members}
-use Rattle.making.specs.Removed.{dead}
-use Rattle.making.specs.Dropped.{staysKind, afterDrop, dropped}
-use Rattle.making.specs.Whole.{At, at-here, at-later, There, Logged, logged-hand, logged-body, Stands, in-defs, in-exts, in-bindings, in-diagnostics, in-post, in-children, Plain, Making}
+use Rattle.log.specs.meaning.Record.{bindingKind, oneOf}
+use Rattle.making.specs.machine.Events.{Event, defsOf, bindings, childrenOf, members}
+use Rattle.making.specs.machine.Removed.{dead}
+use Rattle.making.specs.machine.Dropped.{staysKind, afterDrop, dropped}
+use Rattle.making.specs.machine.Whole.{At, at-here, at-later, There, Logged, logged-hand, logged-body, Stands, in-defs, in-exts}
+use Rattle.making.specs.machine.Whole.{in-bindings, in-diagnostics, in-post, in-children, Plain, Making}
 use Rattle.making.proofs.Unlinked.{first-apart}
 use Rattle.making.proofs.Standing.{def-range, child-range}
 use Rattle.making.proofs.MakingMore.{Stays, stays-binding, stays-diagnostic, stays-post, making-stays}
 
 -- a record that is there was there
-at-before : {k r : ℕ} (xs : List Event) (e : Event) (ys : List Event) {f : Event} → At k (xs ++ dead e ∷ ys) r f → f .alive ≡ true → At k (xs ++ e ∷ ys) r f
+at-before : {k r : ℕ} (xs : List Event) (e : Event) (ys : List Event) {f : Event} → At k (xs ++ dead e ∷ ys) r f → f .alive ≡ true
+    → At k (xs ++ e ∷ ys) r f
 at-before [] e ys at-here t = absurd (not-both t refl)
 at-before [] e ys (at-later p) t = at-later p
 at-before (x ∷ xs) e ys at-here t = at-here
 at-before (x ∷ xs) e ys (at-later p) t = at-later (at-before xs e ys p t)
 
 -- and is there, where it is another
-at-after : {k r : ℕ} (xs : List Event) (e : Event) (ys : List Event) {f : Event} → At k (xs ++ e ∷ ys) r f → (f .kind ≡ e .kind → ⊥) → At k (xs ++ dead e ∷ ys) r f
+at-after : {k r : ℕ} (xs : List Event) (e : Event) (ys : List Event) {f : Event} → At k (xs ++ e ∷ ys) r f → (f .kind ≡ e .kind → ⊥)
+    → At k (xs ++ dead e ∷ ys) r f
 at-after [] e ys at-here n = absurd (n refl)
 at-after [] e ys (at-later p) n = at-later p
 at-after (x ∷ xs) e ys at-here n = at-here
 at-after (x ∷ xs) e ys (at-later p) n = at-later (at-after xs e ys p n)
 
 -- another chain
-members-apart : (c k : ℕ) (xs : List Event) (e : Event) (ys : List Event) → (e .chain ≡ c → ⊥) → members c k (xs ++ dead e ∷ ys) ≡ members c k (xs ++ e ∷ ys)
+members-apart : (c k : ℕ) (xs : List Event) (e : Event) (ys : List Event) → (e .chain ≡ c → ⊥)
+    → members c k (xs ++ dead e ∷ ys) ≡ members c k (xs ++ e ∷ ys)
 unfolding members
 members-apart c k [] e ys n =
     by-test (e .alive) (λ t. rw (t, ne-eqb (e .chain) c n) refl) (λ t. rw t refl)
@@ -112,14 +116,16 @@ at-behind : (k : ℕ) (xs : List Event) {zs : List Event} {r : ℕ} {e : Event} 
 at-behind k [] p = let z : k + 0 ≡ k = omega arith in rw z at p
 at-behind k (x ∷ xs) p = let z : k + suc (length xs) ≡ k + 1 + length xs = omega arith in at-later (at-behind (k + 1) xs (rw z at p))
 
-dropped-behind : (mark k : ℕ) (xs zs : List Event) → k + length xs ≤ mark → dropped mark k (xs ++ zs) ≡ xs ++ dropped mark (k + length xs) zs
+dropped-behind : (mark k : ℕ) (xs zs : List Event) → k + length xs ≤ mark
+    → dropped mark k (xs ++ zs) ≡ xs ++ dropped mark (k + length xs) zs
 unfolding dropped afterDrop
 dropped-behind mark k [] zs h = let z : k + 0 ≡ k = omega arith in rw z refl
 dropped-behind mark k (x ∷ xs) zs h =
     let z : k + suc (length xs) ≡ k + 1 + length xs = omega arith in
     rw (z, lt-leb mark k (omega arith), dropped-behind mark (k + 1) xs zs (omega arith)) refl
 
-pub making-drop : {hand within : ℕ → Type 0} (xs zs : List Event) → Making hand xs → Making within (xs ++ zs) → Making hand (dropped (1 + length xs) 1 (xs ++ zs))
+pub making-drop : {hand within : ℕ → Type 0} (xs zs : List Event) → Making hand xs → Making within (xs ++ zs)
+    → Making hand (dropped (1 + length xs) 1 (xs ++ zs))
 making-drop xs zs m w =
     rw (dropped-behind (1 + length xs) 1 xs zs (omega arith))
     (making-rest (1 + length xs) (1 + length xs) xs zs (omega arith) m

@@ -8,10 +8,12 @@ use native.Mathlib.Omega.{arith}
 use borrow.Author.Tests.{ne-eqb}
 use lib.ListN.{length, length-append}
 use Rattle.paths_numbers.proofs.Texts.{by-test}
-use Rattle.log.specs.Record.{referenceKind, extensionKind, bindingKind, diagnosticKind, oneOf, defKinds, hasChildren}
-use Rattle.log.specs.Sound.{kindsIn, below as placeBelow}
-use Rattle.making.specs.Events.{Event, defsOf, extsOf, bindings, diagnostics, postDiagnostics, childrenOf, inChain, first, members, below}
-use Rattle.making.specs.Whole.{At, at-here, at-later, There, Logged, logged-hand, logged-body, Stands, in-defs, in-exts, in-bindings, in-diagnostics, in-post, in-children, Plain, Making}
+use Rattle.log.specs.meaning.Record.{referenceKind, extensionKind, bindingKind, diagnosticKind, oneOf, defKinds, hasChildren}
+use Rattle.log.specs.meaning.Sound.{kindsIn, below as placeBelow}
+use Rattle.making.specs.machine.Events.{Event, defsOf, extsOf, bindings, diagnostics, postDiagnostics, childrenOf, inChain, first}
+use Rattle.making.specs.machine.Events.{members, below}
+use Rattle.making.specs.machine.Whole.{At, at-here, at-later, There, Logged, logged-hand, logged-body, Stands, in-defs, in-exts}
+use Rattle.making.specs.machine.Whole.{in-bindings, in-diagnostics, in-post, in-children, Plain, Making}
 use Rattle.making.proofs.Append.{first-other}
 use Rattle.making.proofs.FirstOf.{at-to, at-same, in-chain}
 use Rattle.making.proofs.Standing.{def-range, child-range, extends, owned}
@@ -70,7 +72,8 @@ module _ {hand : ℕ → Type 0} {es : List Event} (x : Event) where
   logged-more (logged-hand h) = logged-hand h
   logged-more (logged-body h k) = logged-body (there-more x h) k
 
-  stands-more : {r : ℕ} {e : Event} → (e .kind ≡ extensionKind → x .alive ≡ true → x .chain ≡ defsOf (e .log) → ⊥) → (e .kind ≡ extensionKind → x .alive ≡ true → x .chain ≡ childrenOf r → ⊥)
+  stands-more : {r : ℕ} {e : Event} → (e .kind ≡ extensionKind → x .alive ≡ true → x .chain ≡ defsOf (e .log) → ⊥)
+      → (e .kind ≡ extensionKind → x .alive ≡ true → x .chain ≡ childrenOf r → ⊥)
       → Stands hand es r e → Stands hand (es ++ x ∷ []) r e
   stands-more f g (in-defs l q o) = in-defs (logged-more l) q o
   stands-more {r} {e} f g (in-exts l q k n b o) =
@@ -83,7 +86,8 @@ module _ {hand : ℕ → Type 0} {es : List Event} (x : Event) where
   stands-more f g (in-children i q k o) = in-children (there-more x i) q k o
 
   -- a record more that is no extension
-  pub making-more : Making hand es → Aside es x → (x .alive ≡ true → Stands hand (es ++ x ∷ []) (1 + length es) x × Plain x × (x .kind ≡ extensionKind → ⊥))
+  pub making-more : Making hand es → Aside es x → (x .alive ≡ true
+      → Stands hand (es ++ x ∷ []) (1 + length es) x × Plain x × (x .kind ≡ extensionKind → ⊥))
       → Making hand (es ++ x ∷ [])
   making-more m a new =
       record {
@@ -100,7 +104,8 @@ module _ {hand : ℕ → Type 0} {es : List Event} (x : Event) where
       plain-of r e h (inl p) = m .plain r e p
       plain-of r e h (inr q) = rw (q .1) (new (rw (q .1) at (h .alive)) .1)
 
-      apart-of : (r s : ℕ) (e f : Event) → There (es ++ x ∷ []) r e → There (es ++ x ∷ []) s f → There es r e ⊎ Last 1 r es e x → There es s f ⊎ Last 1 s es f x
+      apart-of : (r s : ℕ) (e f : Event) → There (es ++ x ∷ []) r e → There (es ++ x ∷ []) s f → There es r e ⊎ Last 1 r es e x
+          → There es s f ⊎ Last 1 s es f x
           → e .kind ≡ extensionKind → f .kind ≡ extensionKind → e .log ≡ f .log → r ≡ s
       apart-of r s e f h k (inl i) (inl j) p q l = m .apart r s e f i j p q l
       apart-of r s e f h k (inr i) j p q l = absurd (new (rw (i .1) at (h .alive)) .2 (rw (i .1) at p))
@@ -129,7 +134,8 @@ stays-stands (stays-diagnostic q k) = in-diagnostics q k
 stays-stands (stays-post q k) = in-post q k
 
 -- one more, or a record that is no longer there
-pub making-stays : {hand : ℕ → Type 0} {es : List Event} (x : Event) → (x .alive ≡ true → Stays x × Plain x) → Making hand es → Making hand (es ++ x ∷ [])
+pub making-stays : {hand : ℕ → Type 0} {es : List Event} (x : Event) → (x .alive ≡ true → Stays x × Plain x) → Making hand es
+    → Making hand (es ++ x ∷ [])
 making-stays x f m =
     making-more x m
     (record {
@@ -139,7 +145,8 @@ making-stays x f m =
     (λ a. (stays-stands (f a .0), f a .1, stays-kind (f a .0)))
 
 -- a definition more, in a log in hand
-pub making-define : {hand : ℕ → Type 0} {es : List Event} (x : Event) (l : ℕ) → hand l → x .chain ≡ defsOf l → oneOf (x .kind) defKinds ≡ true → Plain x → Making hand es → Making hand (es ++ x ∷ [])
+pub making-define : {hand : ℕ → Type 0} {es : List Event} (x : Event) (l : ℕ) → hand l → x .chain ≡ defsOf l
+    → oneOf (x .kind) defKinds ≡ true → Plain x → Making hand es → Making hand (es ++ x ∷ [])
 making-define {hand} x l h q o p m =
     making-more x m
     (record {
@@ -152,7 +159,8 @@ making-define {hand} x l h q o p m =
     in-hand j z = let e : l ≡ j = omega arith in rw e at h
 
 -- a child more, below a record that is no extension
-pub making-child : {hand : ℕ → Type 0} {es : List Event} (x : Event) {o : ℕ} {w : Event} → There es o w → x .chain ≡ childrenOf o → hasChildren (w .kind) ≡ true → (w .kind ≡ extensionKind → ⊥)
+pub making-child : {hand : ℕ → Type 0} {es : List Event} (x : Event) {o : ℕ} {w : Event} → There es o w → x .chain ≡ childrenOf o
+    → hasChildren (w .kind) ≡ true → (w .kind ≡ extensionKind → ⊥)
     → oneOf (x .kind) (kindsIn (placeBelow (w .kind))) ≡ true → Plain x → Making hand es → Making hand (es ++ x ∷ [])
 making-child {es = es} x {o} {w} h q c n u p m =
     making-more x m
@@ -189,7 +197,8 @@ unfolding members
 members-none c k [] f = refl
 members-none c k (e ∷ es) f = rw (f k e at-here) (members-none c (k + 1) es (λ r x p. f r x (at-later p)))
 
-members-new : (c k : ℕ) (es : List Event) (x : Event) → inChain c x ≡ true → length (members c k (es ++ x ∷ [])) ≡ length (members c k es) + 1
+members-new : (c k : ℕ) (es : List Event) (x : Event) → inChain c x ≡ true
+    → length (members c k (es ++ x ∷ [])) ≡ length (members c k es) + 1
 unfolding members
 members-new c k [] x t = rw t refl
 members-new c k (y ∷ es) x t =
@@ -324,7 +333,8 @@ module _ {hand within : ℕ → Type 0} {es : List Event} (x y : Event) (m : Mak
       not-reference : {e : Event} → e ≡ y → e .kind ≡ extensionKind → ⊥
       not-reference q k = omega (arith, sym (d .reference) ∙ (rw q at k))
 
-      apart-of : {r s : ℕ} {e f : Event} → Which r e → Which s f → e .kind ≡ extensionKind → f .kind ≡ extensionKind → e .log ≡ f .log → r ≡ s
+      apart-of : {r s : ℕ} {e f : Event} → Which r e → Which s f → e .kind ≡ extensionKind → f .kind ≡ extensionKind → e .log ≡ f .log
+          → r ≡ s
       apart-of {r} {s} {e} {f} (is-old h) (is-old k) p q l = m .apart r s e f h k p q l
       apart-of (is-old h) (is-ext i j) p q l = absurd (old-apart h p (l ∙ ap (λ (z : Event). z .log) j))
       apart-of (is-ext i j) (is-old k) p q l = absurd (old-apart k q (sym l ∙ ap (λ (z : Event). z .log) j))

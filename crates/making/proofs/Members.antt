@@ -7,9 +7,10 @@ use native.Mathlib.Omega.{arith}
 use borrow.Author.Tests.{eqb-true}
 use lib.ListN.{length}
 use Rattle.paths_numbers.proofs.Texts.{by-test, both}
-use Rattle.making.specs.Events.{Event, defsOf, childrenOf, inChain, first, last, Numbered, members, below, valueOf, defValueOf, defOf, defsIn}
-use Rattle.making.specs.Represents.{Out, Each, each-none, each-next}
-use Rattle.making.specs.Whole.{At, at-here, at-later}
+use Rattle.making.specs.machine.Events.{Event, defsOf, childrenOf, inChain, first, last, Numbered, members, below, valueOf}
+use Rattle.making.specs.machine.Events.{defValueOf, defOf, defsIn}
+use Rattle.making.specs.machine.Represents.{Out, Each, each-none, each-next}
+use Rattle.making.specs.machine.Whole.{At, at-here, at-later}
 
 -- records behind that are in other chains
 pub first-before : (c k : ℕ) (xs ys : List Event) → Each (Out c) (k + length xs) ys → first c k (xs ++ ys) ≡ first c k xs
@@ -59,7 +60,8 @@ members-other c k es e t = members-before c k es (e ∷ []) (each-next t each-no
 
 -- what is so of each record of a chain is so of all that is made of them
 pub map-members : {B : Type 0} (f g : Numbered → B) (c k : ℕ) (es : List Event)
-    → ((r : ℕ) (e : Event) → At k es r e → e .alive ≡ true → e .chain ≡ c → f (record { number = r; event = e }) ≡ g (record { number = r; event = e }))
+    → ((r : ℕ) (e : Event) → At k es r e → e .alive ≡ true → e .chain ≡ c
+    → f (record { number = r; event = e }) ≡ g (record { number = r; event = e }))
     → map f (members c k es) ≡ map g (members c k es)
 unfolding members
 map-members f g c k [] h = refl
@@ -77,11 +79,13 @@ SameBelow other es fs = (r : ℕ) → (other r → ⊥) → below fs r ≡ below
 
 module _ (other : ℕ → Type 0) (es fs : List Event) (same : SameBelow other es fs) where
   -- a value, a definition
-  pub value-same : (r : ℕ) (e : Event) → (other r → ⊥) → valueOf fs (record { number = r; event = e }) ≡ valueOf es (record { number = r; event = e })
+  pub value-same : (r : ℕ) (e : Event) → (other r → ⊥) → valueOf fs (record { number = r; event = e }) ≡ valueOf es
+      (record { number = r; event = e })
   unfolding valueOf
   value-same r e n = rw (same r n) refl
 
-  pub def-same : (r : ℕ) (e : Event) → (other r → ⊥) → ((v : ℕ) (x : Event) → At 1 es v x → x .alive ≡ true → x .chain ≡ childrenOf r → other v → ⊥)
+  pub def-same : (r : ℕ) (e : Event) → (other r → ⊥) → ((v : ℕ) (x : Event) → At 1 es v x → x .alive ≡ true → x .chain ≡ childrenOf r
+      → other v → ⊥)
       → defOf fs (record { number = r; event = e }) ≡ defOf es (record { number = r; event = e })
   unfolding defOf defValueOf
   def-same r e n m =
@@ -91,8 +95,10 @@ module _ (other : ℕ → Type 0) (es fs : List Event) (same : SameBelow other e
   -- the definitions of a log whose chain is the same
   pub defs-same : (l : ℕ) → members (defsOf l) 1 fs ≡ members (defsOf l) 1 es
       → ((r : ℕ) (e : Event) → At 1 es r e → e .alive ≡ true → e .chain ≡ defsOf l → other r → ⊥)
-      → ((r v : ℕ) (e x : Event) → At 1 es r e → e .alive ≡ true → e .chain ≡ defsOf l → At 1 es v x → x .alive ≡ true → x .chain ≡ childrenOf r → other v → ⊥)
+      → ((r v : ℕ) (e x : Event) → At 1 es r e → e .alive ≡ true → e .chain ≡ defsOf l → At 1 es v x → x .alive ≡ true
+      → x .chain ≡ childrenOf r → other v → ⊥)
       → defsIn l fs ≡ defsIn l es
   unfolding defsIn
   defs-same l q n m =
-      rw q (map-members (defOf fs) (defOf es) (defsOf l) 1 es (λ r e a t c. def-same r e (n r e a t c) (λ v x b u d. m r v e x a t c b u d)))
+      rw q (map-members (defOf fs) (defOf es) (defsOf l) 1 es (λ r e a t c. def-same r e (n r e a t c)
+      (λ v x b u d. m r v e x a t c b u d)))

@@ -8,11 +8,11 @@ use borrow.Author.Tests.{le-leb, lt-leb, leb-true, leb-false}
 use lib.Dec.{leb}
 use lib.ListN.{length, getD, take, drop, set, List·getD-append}
 use lib.Seq.{ext-getD, getD-take, length-take-le}
-use Rattle.paths_numbers.specs.Path.{root, joined, builtOut}
-use Rattle.paths_numbers.specs.Text.{written}
+use Rattle.paths_numbers.specs.meaning.Path.{root, joined, builtOut}
+use Rattle.paths_numbers.specs.meaning.Text.{written}
 use Rattle.paths_numbers.proofs.Texts.{by-test}
 use Rattle.paths_numbers.proofs.Written.{written-nil, written-cons, written-length}
-use Rattle.making.specs.PathPlaces.{pathOf, placeLen, stands, settled}
+use Rattle.making.specs.machine.PathPlaces.{pathOf, placeLen, stands, settled}
 use Rattle.making.specs.declared.place.PathAt.{PathAt}
 use Rattle.log.proofs.Texts.{part, part-length, part-at, text-within}
 
@@ -62,7 +62,8 @@ module _ (used : ℕ) (bytes : List ℕ) (p : PathAt) where
       (λ t. rw (e ∙ sym (settled-behind (leb-false _ _ t))) (omega arith, omega arith))
 
 -- bytes that are as they were below a place
-pub part-same : (o d : List ℕ) (from size at : ℕ) → from + size ≤ at → at ≤ length d → length o ≡ length d → ((k : ℕ) → k < at → getD o k 0 ≡ getD d k 0)
+pub part-same : (o d : List ℕ) (from size at : ℕ) → from + size ≤ at → at ≤ length d → length o ≡ length d
+    → ((k : ℕ) → k < at → getD o k 0 ≡ getD d k 0)
     → part o from size ≡ part d from size
 part-same o d from size at h l n same =
     let e = part-length o from size (omega arith) in
@@ -71,13 +72,15 @@ part-same o d from size at h l n same =
     (λ i k. part-at o from size i (omega arith) ∙ same (from + i) (omega arith) ∙ sym (part-at d from size i (omega arith)))
 
 -- and so a path that stands there
-pub path-same : (o d : List ℕ) (p : PathAt) (at : ℕ) → p .start + p .size ≤ at → at ≤ length d → length o ≡ length d → ((k : ℕ) → k < at → getD o k 0 ≡ getD d k 0)
+pub path-same : (o d : List ℕ) (p : PathAt) (at : ℕ) → p .start + p .size ≤ at → at ≤ length d → length o ≡ length d
+    → ((k : ℕ) → k < at → getD o k 0 ≡ getD d k 0)
     → pathOf o p ≡ pathOf d p
 unfolding pathOf
 path-same o d p at h l n same = by-test (p .root) (λ t. rw t refl) (λ t. rw t (part-same o d (p .start) (p .size) at h l n same))
 
 -- a byte of the path under them
-pub joined-byte : (o d : List ℕ) (from size : ℕ) (name unit : List ℕ) (i b : ℕ) → b ≡ getD (joined (take (from + size - from) (drop from o)) name unit) i 0
+pub joined-byte : (o d : List ℕ) (from size : ℕ) (name unit : List ℕ) (i b : ℕ)
+    → b ≡ getD (joined (take (from + size - from) (drop from o)) name unit) i 0
     → part o from size ≡ part d from size → b ≡ getD (joined (part d from size) name unit) i 0
 joined-byte o d from size name unit i b e f = e ∙ ap (λ (s : List ℕ). getD (joined s name unit) i 0) (text-within o from size ∙ f)
 
@@ -85,10 +88,13 @@ joined-byte o d from size name unit i b e f = e ∙ ap (λ (s : List ℕ). getD 
 pub written-below : (d : List ℕ) (at : ℕ) (x : List ℕ) (k : ℕ) → k < at → at ≤ length d → getD (written d at x) k 0 ≡ getD d k 0
 unfolding written
 written-below d at x k h l =
-    rw (append-assoc (take at d) x) (List·getD-append (take at d) (x ++ drop (at + length x) d) 0 k (omega (arith, length-take-le at d l)) ∙ getD-take at d k 0 h)
+    rw (append-assoc (take at d) x) (List·getD-append (take at d) (x ++ drop (at + length x) d) 0 k (omega (arith, length-take-le at d l))
+    ∙ getD-take at d k 0 h)
 
-pub path-written : (d : List ℕ) (at : ℕ) (x : List ℕ) (p : PathAt) → p .start + p .size ≤ at → at + length x ≤ length d → pathOf (written d at x) p ≡ pathOf d p
-path-written d at x p h l = path-same (written d at x) d p at h (omega arith) (written-length d at x l) (λ k j. written-below d at x k j (omega arith))
+pub path-written : (d : List ℕ) (at : ℕ) (x : List ℕ) (p : PathAt) → p .start + p .size ≤ at → at + length x ≤ length d
+    → pathOf (written d at x) p ≡ pathOf d p
+path-written d at x p h l = path-same (written d at x) d p at h (omega arith) (written-length d at x l)
+    (λ k j. written-below d at x k j (omega arith))
 
 -- one byte written
 pub written-one : (d : List ℕ) (at b : ℕ) → at < length d → set d at b ≡ written d at (b ∷ [])

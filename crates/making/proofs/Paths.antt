@@ -5,12 +5,12 @@ use mathlib.Core.Bool.{true, false}
 use mathlib.Core.List.{List, [], _∷_, _++_}
 use native.Mathlib.Omega.{arith}
 use lib.ListN.{length}
-use Rattle.paths_numbers.specs.Text.{isEmpty}
+use Rattle.paths_numbers.specs.meaning.Text.{isEmpty}
 use Rattle.making.specs.declared.place.PathAt.{PathAt}
-use Rattle.log.specs.Record.{textIn}
-use Rattle.making.specs.Events.{Event, startOf, endOf}
-use Rattle.making.specs.Buffers.{Layout}
-use Rattle.making.specs.PathPlaces.{pathIn, pathOf}
+use Rattle.log.specs.meaning.Record.{textIn}
+use Rattle.making.specs.machine.Events.{Event, startOf, endOf}
+use Rattle.making.specs.machine.Buffers.{Layout}
+use Rattle.making.specs.machine.PathPlaces.{pathIn, pathOf}
 use Rattle.making.proofs.PathPlaces.{path-bytes, settled-there}
 use Rattle.making.proofs.ReadEvents.{text-at}
 use Rattle.making.proofs.Removing.{splits-of, end-above}
@@ -20,18 +20,22 @@ abbrev pub placeOf : ℕ → ℕ → PathAt
 placeOf start size = record { root = false; start = start; size = size }
 
 -- a text that stands there is the path that is read
-pub path-read : (bytes : List ℕ) (used start size : ℕ) (text : List ℕ) → textIn bytes start size ≡ text → start + size ≤ used → start + size ≤ length bytes
+pub path-read : (bytes : List ℕ) (used start size : ℕ) (text : List ℕ) → textIn bytes start size ≡ text → start + size ≤ used
+    → start + size ≤ length bytes
     → pathIn used bytes (placeOf start size) ≡ text
 path-read bytes used start size text e h k =
-    ap (λ (p : PathAt). pathOf bytes p) (sym (settled-there used bytes (placeOf start size) h k)) ∙ sym (path-bytes bytes (placeOf start size) refl) ∙ e
+    ap (λ (p : PathAt). pathOf bytes p) (sym (settled-there used bytes (placeOf start size) h k))
+    ∙ sym (path-bytes bytes (placeOf start size) refl) ∙ e
 
 -- a text by where the texts before it end
-from-start : (bytes : List ℕ) (at : ℕ) (text : List ℕ) → textIn bytes (startOf at text) (length text) ≡ text → textIn bytes at (length text) ≡ text
+from-start : (bytes : List ℕ) (at : ℕ) (text : List ℕ) → textIn bytes (startOf at text) (length text) ≡ text
+    → textIn bytes at (length text) ≡ text
 unfolding isEmpty
 from-start bytes at [] e = refl
 from-start bytes at (a ∷ text) e = e
 
-module _ {words bytes : List ℕ} {records used : ℕ} (xs : List Event) (e : Event) (ys : List Event) (l : Layout words bytes records used (xs ++ e ∷ ys)) (alive : e .alive ≡ true) where
+module _ {words bytes : List ℕ} {records used : ℕ} (xs : List Event) (e : Event) (ys : List Event)
+    (l : Layout words bytes records used (xs ++ e ∷ ys)) (alive : e .alive ≡ true) where
   -- the first text of a record, where those before it end
   pub path-first : pathIn used bytes (placeOf (endOf 0 xs) (length (e .text))) ≡ e .text
   path-first =

@@ -7,10 +7,11 @@ use native.Mathlib.Omega.{arith}
 use borrow.Author.Tests.{eqb-true, eqb-false}
 use lib.Dec.{eqb}
 use Rattle.paths_numbers.proofs.Texts.{by-test, not-both}
-use Rattle.log.specs.Record.{nodeKind, cellListKind, numberKind, referenceKind, extensionKind, bindingKind, diagnosticKind, oneOf, defKinds}
-use Rattle.log.specs.Written.{hasText, hasSecondText, hasN, hasM, largestN}
-use Rattle.making.specs.Events.{Event}
-use Rattle.making.specs.Whole.{Plain}
+use Rattle.log.specs.meaning.Record.{nodeKind, cellListKind, numberKind, referenceKind, extensionKind, bindingKind, diagnosticKind, oneOf}
+use Rattle.log.specs.meaning.Record.{defKinds}
+use Rattle.log.specs.meaning.Written.{hasText, hasSecondText, hasN, hasM, largestN}
+use Rattle.making.specs.machine.Events.{Event}
+use Rattle.making.specs.machine.Whole.{Plain}
 
 -- a kind of definitions is no other
 no-def : (k j : ℕ) → oneOf k defKinds ≡ true → oneOf j defKinds ≡ false → eqb k j ≡ false
@@ -18,7 +19,8 @@ no-def k j o n = by-test (eqb k j) (λ t. absurd (not-both (rw (eqb-true k j t) 
 
 module _ (e : Event) where
   -- a definition
-  pub plain-definition : oneOf (e .kind) defKinds ≡ true → e .second ≡ [] → e .m ≡ 0 → ((e .kind ≡ nodeKind → ⊥) → e .n ≡ 0) → e .n ≤ 1 → Plain e
+  pub plain-definition : oneOf (e .kind) defKinds ≡ true → e .second ≡ [] → e .m ≡ 0 → ((e .kind ≡ nodeKind → ⊥) → e .n ≡ 0) → e .n ≤ 1
+      → Plain e
   unfolding oneOf
   plain-definition o s m n l =
       let r = no-def (e .kind) referenceKind o refl in
@@ -106,10 +108,12 @@ module _ (e : Event) where
     pub plain-number : e .kind ≡ numberKind → e .text ≡ [] → e .second ≡ [] → Plain e
     unfolding oneOf
     plain-number k t s =
-        plain-child (λ z. t) (λ z. s) (λ z. absurd (not-both refl (rw k at z))) (rw k (omega arith)) (λ z. absurd (not-both refl (rw k at z)))
+        plain-child (λ z. t) (λ z. s) (λ z. absurd (not-both refl (rw k at z))) (rw k (omega arith))
+        (λ z. absurd (not-both refl (rw k at z)))
 
     -- a reference
-    pub plain-reference : e .kind ≡ referenceKind → e .n ≤ 3 → (oneOf (e .n) (1 ∷ 2 ∷ []) ≡ false → e .text ≡ []) → (oneOf (e .n) (2 ∷ 3 ∷ []) ≡ false → e .second ≡ []) → e .m ≡ 0 → Plain e
+    pub plain-reference : e .kind ≡ referenceKind → e .n ≤ 3 → (oneOf (e .n) (1 ∷ 2 ∷ []) ≡ false → e .text ≡ [])
+        → (oneOf (e .n) (2 ∷ 3 ∷ []) ≡ false → e .second ≡ []) → e .m ≡ 0 → Plain e
     unfolding oneOf
     plain-reference k n t s m =
         plain-child (λ z. t (rw k at z)) (λ z. s (rw k at z)) (λ z. absurd (not-both refl (rw k at z))) (rw k n) (λ z. m)

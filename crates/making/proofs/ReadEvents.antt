@@ -8,17 +8,19 @@ use borrow.Author.Tests.{eq-eqb, ne-eqb, eqb-true, eqb-false, lt-ltb}
 use lib.Dec.{eqb, ltb}
 use lib.ListN.{length, getD, take, drop, replicate, length-append, List·getD-append, length-replicate}
 use lib.Seq.{getD-append-add, take-append-seam, drop-append-seam, drop-append-add, drop-drop}
-use Rattle.paths_numbers.specs.Text.{isEmpty}
+use Rattle.paths_numbers.specs.meaning.Text.{isEmpty}
 use Rattle.paths_numbers.proofs.Texts.{by-test, not-both, both}
-use Rattle.log.specs.Record.{outField, nextOf, childOf, logCount, leads, textIn}
-use Rattle.log.specs.ReadBack.{chainFrom}
-use Rattle.making.specs.Events.{Event, childrenOf, inChain, first, startOf, words16, bytesIn, wordsFrom, texts, Numbered, members, allWords, allBytes}
+use Rattle.log.specs.meaning.Record.{outField, nextOf, childOf, logCount, leads, textIn}
+use Rattle.log.specs.meaning.ReadBack.{chainFrom}
+use Rattle.making.specs.machine.Events.{Event, childrenOf, inChain, first, startOf, words16, bytesIn, wordsFrom, texts, Numbered}
+use Rattle.making.specs.machine.Events.{members, allWords, allBytes}
 use Rattle.making.proofs.Append.{length-words, first-there}
 
 -- record r of a list numbered from k on, whose texts start at `at`: it is e, its texts start at b, and es comes after it
 pub data Splits : ℕ → ℕ → List Event → ℕ → ℕ → Event → List Event → Type 0 where
   splits-here : {k at : ℕ} {e : Event} {es : List Event} → Splits k at (e ∷ es) k at e es
-  splits-later : {k at r b : ℕ} {x e : Event} {xs es : List Event} → Splits (k + 1) (at + bytesIn x) xs r b e es → Splits k at (x ∷ xs) r b e es
+  splits-later : {k at r b : ℕ} {x e : Event} {xs es : List Event} → Splits (k + 1) (at + bytesIn x) xs r b e es
+      → Splits k at (x ∷ xs) r b e es
 
 -- its number is not below where the numbers start, and not behind the end
 pub splits-from : {k at r b : ℕ} {xs es : List Event} {e : Event} → Splits k at xs r b e es → k ≤ r
@@ -48,7 +50,8 @@ module _ (head : List ℕ) (sixteen : length head ≡ 16) (es : List Event) (roo
       rw ix (getD-append-add head _ ((r - 1) * 16 + i) 0 ∙ word-at s (replicate room 0) i h)
 
   -- the link of a record that is there
-  pub next-at : {r b : ℕ} {e : Event} {later : List Event} → Splits 1 0 es r b e later → e .alive ≡ true → nextOf (allWords head es room) r ≡ first (e .chain) (r + 1) later
+  pub next-at : {r b : ℕ} {e : Event} {later : List Event} → Splits 1 0 es r b e later → e .alive ≡ true
+      → nextOf (allWords head es room) r ≡ first (e .chain) (r + 1) later
   unfolding words16
   next-at s t = field-at s 1 (omega arith) ∙ rw t refl
 
@@ -76,11 +79,13 @@ module _ (head : List ℕ) (sixteen : length head ≡ 16) (all : List Event) (ro
   chain-members c f k at [] p l h inj = chain-end f (allWords head all room)
   chain-members c zero k at (x ∷ es) p l h inj = absurd (omega arith)
   chain-members c (suc f) k at (x ∷ es) p l h inj =
-      let more : (r b : ℕ) (e : Event) (later : List Event) → Splits (k + 1) (at + bytesIn x) es r b e later → Splits 1 0 all r b e later = λ r b e later s. inj r b e later (splits-later s) in
+      let more : (r b : ℕ) (e : Event) (later : List Event) → Splits (k + 1) (at + bytesIn x) es r b e later
+      → Splits 1 0 all r b e later = λ r b e later s. inj r b e later (splits-later s) in
       by-test (inChain c x)
       (λ t.
       let q = both (x .alive) (eqb (x .chain) c) t in
-      let n : nextOf (allWords head all room) k ≡ first c (k + 1) es = next-at head sixteen all room (inj k at x es splits-here) (q .0) ∙ rw (eqb-true (x .chain) c (q .1)) refl in
+      let n : nextOf (allWords head all room) k ≡ first c (k + 1) es = next-at head sixteen all room (inj k at x es splits-here) (q .0)
+      ∙ rw (eqb-true (x .chain) c (q .1)) refl in
       rw (t, leads-there (allWords head all room) k p (omega arith), n)
       (ap (λ (l : List ℕ). k ∷ l) (chain-members c f (k + 1) (at + bytesIn x) es (omega arith) (omega arith) (omega arith) more)))
       (λ t. rw t (chain-members c (suc f) (k + 1) (at + bytesIn x) es (omega arith) (omega arith) (omega arith) more))
@@ -98,7 +103,8 @@ splits-at splits-here = omega arith
 splits-at (splits-later s) = omega (arith, splits-at s)
 
 -- what stands from where they start on
-pub bytes-at : {k at r b : ℕ} {xs es : List Event} {e : Event} → Splits k at xs r b e es → (z : List ℕ) → drop (b - at) (texts xs ++ z) ≡ piece e ++ (texts es ++ z)
+pub bytes-at : {k at r b : ℕ} {xs es : List Event} {e : Event} → Splits k at xs r b e es → (z : List ℕ)
+    → drop (b - at) (texts xs ++ z) ≡ piece e ++ (texts es ++ z)
 unfolding texts piece
 bytes-at {at = at} {es = es} {e} splits-here z =
     let n : at - at ≡ 0 = omega arith in
@@ -119,7 +125,8 @@ module _ (es : List Event) (room : ℕ) {r b : ℕ} {e : Event} {later : List Ev
   unfolding isEmpty
   text-at = go (e .text) from-there
     where
-      go : (x : List ℕ) → drop b (allBytes es room) ≡ x ++ (e .second ++ (texts later ++ replicate room 0)) → textIn (allBytes es room) (startOf b x) (length x) ≡ x
+      go : (x : List ℕ) → drop b (allBytes es room) ≡ x ++ (e .second ++ (texts later ++ replicate room 0))
+          → textIn (allBytes es room) (startOf b x) (length x) ≡ x
       go [] q = refl
       go (a ∷ x) q = rw q (take-append-seam (a ∷ x) _)
 
@@ -128,9 +135,11 @@ module _ (es : List Event) (room : ℕ) {r b : ℕ} {e : Event} {later : List Ev
   unfolding isEmpty
   second-at = go (e .second) (drop-behind b from-there)
     where
-      drop-behind : (b : ℕ) → drop b (allBytes es room) ≡ e .text ++ (e .second ++ (texts later ++ replicate room 0)) → drop (b + length (e .text)) (allBytes es room) ≡ e .second ++ (texts later ++ replicate room 0)
+      drop-behind : (b : ℕ) → drop b (allBytes es room) ≡ e .text ++ (e .second ++ (texts later ++ replicate room 0))
+          → drop (b + length (e .text)) (allBytes es room) ≡ e .second ++ (texts later ++ replicate room 0)
       drop-behind b q = sym (drop-drop (length (e .text)) b (allBytes es room)) ∙ rw q (drop-append-seam (e .text) _)
 
-      go : (x : List ℕ) → drop (b + length (e .text)) (allBytes es room) ≡ x ++ (texts later ++ replicate room 0) → textIn (allBytes es room) (startOf (b + length (e .text)) x) (length x) ≡ x
+      go : (x : List ℕ) → drop (b + length (e .text)) (allBytes es room) ≡ x ++ (texts later ++ replicate room 0)
+          → textIn (allBytes es room) (startOf (b + length (e .text)) x) (length x) ≡ x
       go [] q = refl
       go (a ∷ x) q = rw q (take-append-seam (a ∷ x) _)

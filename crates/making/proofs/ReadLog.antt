@@ -8,14 +8,20 @@ use borrow.Author.Tests.{eqb-true}
 use lib.Dec.{eqb}
 use lib.ListN.{length}
 use Rattle.paths_numbers.proofs.Texts.{by-test, not-both, both}
-use Rattle.log.specs.Meaning.{Cell, Value, Def, Ext, Binding, Diag}
-use Rattle.log.specs.Record.{kindOf, childOf, nOf, mOf, spanStart, spanEnd, nameStart, nameEnd, textStart, textLength, secondStart, secondLength, firstText, secondText, logCount, leads}
-use Rattle.log.specs.ReadBack.{chainOf, spanAt, nameSpanAt, targetAt, readLabels, cellAt, readCells, valueAt, readValues, defValueAt, defAt, readDefs, bindingAt, readBindings, diagAt, readDiags, extTarget, extAt, readExts}
-use Rattle.making.specs.Events.{Event, Ordered, ordered-none, ordered-next, childrenOf, defsOf, inChain, first, words16, bytesIn, Numbered, members, allWords, allBytes, startOf, spanOf, nameSpanOf, targetOf, below, labelOf, cellOf, valueOf, defValueOf, defOf, defsIn, bindingOf, diagOf, targetBelow, extOf}
-use Rattle.making.proofs.ReadEvents.{Splits, splits-here, splits-later, splits-from, field-at, numbersOf, leads-there, chain-members, text-at, second-at}
+use Rattle.log.specs.meaning.Contents.{Cell, Value, Def, Ext, Binding, Diag}
+use Rattle.log.specs.meaning.Record.{kindOf, childOf, nOf, mOf, spanStart, spanEnd, nameStart, nameEnd, textStart, textLength, secondStart}
+use Rattle.log.specs.meaning.Record.{secondLength, firstText, secondText, logCount, leads}
+use Rattle.log.specs.meaning.ReadBack.{chainOf, spanAt, nameSpanAt, targetAt, readLabels, cellAt, readCells, valueAt, readValues}
+use Rattle.log.specs.meaning.ReadBack.{defValueAt, defAt, readDefs, bindingAt, readBindings, diagAt, readDiags, extTarget, extAt, readExts}
+use Rattle.making.specs.machine.Events.{Event, Ordered, ordered-none, ordered-next, childrenOf, defsOf, inChain, first, words16}
+use Rattle.making.specs.machine.Events.{bytesIn, Numbered, members, allWords, allBytes, startOf, spanOf, nameSpanOf, targetOf, below}
+use Rattle.making.specs.machine.Events.{labelOf, cellOf, valueOf, defValueOf, defOf, defsIn, bindingOf, diagOf, targetBelow, extOf}
+use Rattle.making.proofs.ReadEvents.{Splits, splits-here, splits-later, splits-from, field-at, numbersOf, leads-there, chain-members}
+use Rattle.making.proofs.ReadEvents.{text-at, second-at}
 
 -- so that the first child of a record is found behind it
-pub first-behind : {k at r b : ℕ} {xs es : List Event} {e : Event} → Ordered k xs → Splits k at xs r b e es → first (childrenOf r) k xs ≡ first (childrenOf r) (r + 1) es
+pub first-behind : {k at r b : ℕ} {xs es : List Event} {e : Event} → Ordered k xs → Splits k at xs r b e es
+    → first (childrenOf r) k xs ≡ first (childrenOf r) (r + 1) es
 unfolding first
 first-behind {r = r} (ordered-next {e = e} o h) splits-here =
     by-test (inChain (childrenOf r) e)
@@ -28,7 +34,8 @@ first-behind {k} {r = r} (ordered-next {e = x} o h) (splits-later s) =
 
 -- a chain mapped by number is the chain mapped by record
 map-chain : {B : Type 0} (f : ℕ → B) (g : Numbered → B) (c k at : ℕ) (es : List Event)
-    → ((r b : ℕ) (e : Event) (later : List Event) → Splits k at es r b e later → inChain c e ≡ true → f r ≡ g (record { number = r; event = e }))
+    → ((r b : ℕ) (e : Event) (later : List Event) → Splits k at es r b e later → inChain c e ≡ true
+    → f r ≡ g (record { number = r; event = e }))
     → map f (numbersOf (members c k es)) ≡ map g (members c k es)
 unfolding members numbersOf
 map-chain f g c k at [] h = refl
@@ -39,11 +46,13 @@ map-chain f g c k at (x ∷ es) h =
     (λ t. rw t more)
 
 map-members : {B : Type 0} (f : ℕ → B) (g : Numbered → B) (c k at : ℕ) (es : List Event)
-    → ((r b : ℕ) (e : Event) (later : List Event) → Splits k at es r b e later → e .alive ≡ true → f r ≡ g (record { number = r; event = e }))
+    → ((r b : ℕ) (e : Event) (later : List Event) → Splits k at es r b e later → e .alive ≡ true
+    → f r ≡ g (record { number = r; event = e }))
     → map f (numbersOf (members c k es)) ≡ map g (members c k es)
 map-members f g c k at es h = map-chain f g c k at es (λ r b e later s t. h r b e later s (both (e .alive) _ t .0))
 
-module _ (head : List ℕ) (sixteen : length head ≡ 16) (es : List Event) (room more : ℕ) (fits : 1 + length es ≤ logCount (allWords head es room)) (ordered : Ordered 1 es) where
+module _ (head : List ℕ) (sixteen : length head ≡ 16) (es : List Event) (room more : ℕ)
+    (fits : 1 + length es ≤ logCount (allWords head es room)) (ordered : Ordered 1 es) where
   abbrev words : List ℕ
   words = allWords head es room
 
@@ -93,7 +102,8 @@ module _ (head : List ℕ) (sixteen : length head ≡ 16) (es : List Event) (roo
     pub second-text-at : secondText words bytes r ≡ e .second
     unfolding words16
     second-text-at =
-        let x : secondStart words r ≡ startOf (b + length (e .text)) (e .second) = field-at head sixteen es room s 4 (omega arith) ∙ rw t refl in
+        let x : secondStart words r ≡ startOf (b + length (e .text)) (e .second) = field-at head sixteen es room s 4 (omega arith)
+        ∙ rw t refl in
         let y : secondLength words r ≡ length (e .second) = field-at head sixteen es room s 5 (omega arith) ∙ rw t refl in
         rw (x, y) (second-at es more s t)
 
@@ -121,14 +131,16 @@ module _ (head : List ℕ) (sixteen : length head ≡ 16) (es : List Event) (roo
   cells-read : (r : ℕ) → map (cellAt words bytes) (numbersOf (below es r)) ≡ map cellOf (below es r)
   cells-read r = map-members (cellAt words bytes) cellOf (childrenOf r) 1 0 es (λ r b e later s t. cell-at s t)
 
-  value-at : {r b : ℕ} {e : Event} {later : List Event} → Splits 1 0 es r b e later → e .alive ≡ true → valueAt words bytes r ≡ valueOf es (record { number = r; event = e })
+  value-at : {r b : ℕ} {e : Event} {later : List Event} → Splits 1 0 es r b e later → e .alive ≡ true
+      → valueAt words bytes r ≡ valueOf es (record { number = r; event = e })
   unfolding valueAt valueOf readCells
   value-at {r} s t = rw (kind-at s t, n-at s t, first-text-at s t, target-at s t, below-at s t, cells-read r) refl
 
   values-read : (r : ℕ) → map (valueAt words bytes) (numbersOf (below es r)) ≡ map (valueOf es) (below es r)
   values-read r = map-members (valueAt words bytes) (valueOf es) (childrenOf r) 1 0 es (λ r b e later s t. value-at s t)
 
-  def-at : {r b : ℕ} {e : Event} {later : List Event} → Splits 1 0 es r b e later → e .alive ≡ true → defAt words bytes r ≡ defOf es (record { number = r; event = e })
+  def-at : {r b : ℕ} {e : Event} {later : List Event} → Splits 1 0 es r b e later → e .alive ≡ true
+      → defAt words bytes r ≡ defOf es (record { number = r; event = e })
   unfolding defAt defOf defValueAt defValueOf readLabels readValues
   def-at {r} s t =
       rw (kind-at s t, n-at s t, first-text-at s t, span-at s t, name-span-at s t, below-at s t, labels-read r, values-read r) refl
@@ -143,13 +155,15 @@ module _ (head : List ℕ) (sixteen : length head ≡ 16) (es : List Event) (roo
   pub bindings-read : (c : ℕ) → readBindings words bytes (first c 1 es) ≡ map bindingOf (members c 1 es)
   unfolding readBindings bindingAt
   bindings-read c =
-      rw (chain-of c) (map-members (bindingAt words bytes) bindingOf c 1 0 es (λ r b e later s t. rw (first-text-at s t, second-text-at s t, span-at s t) refl))
+      rw (chain-of c) (map-members (bindingAt words bytes) bindingOf c 1 0 es
+      (λ r b e later s t. rw (first-text-at s t, second-text-at s t, span-at s t) refl))
 
   -- the diagnostics of a chain
   pub diags-read : (c : ℕ) → readDiags words bytes (first c 1 es) ≡ map diagOf (members c 1 es)
   unfolding readDiags diagAt
   diags-read c =
-      rw (chain-of c) (map-members (diagAt words bytes) diagOf c 1 0 es (λ r b e later s t. rw (n-at s t, first-text-at s t, span-at s t, name-span-at s t) refl))
+      rw (chain-of c) (map-members (diagAt words bytes) diagOf c 1 0 es
+      (λ r b e later s t. rw (n-at s t, first-text-at s t, span-at s t, name-span-at s t) refl))
 
   -- the reference below an extension
   target-read : (c k at : ℕ) (later : List Event) → 0 < k → k + length later ≤ logCount words
@@ -164,7 +178,8 @@ module _ (head : List ℕ) (sixteen : length head ≡ 16) (es : List Event) (roo
       (λ t. rw t (target-read c (k + 1) (at + bytesIn x) later (omega arith) (omega arith) (λ r b e ys s. inj r b e ys (splits-later s))))
 
   -- the extensions of a chain, whose bodies are logs of their own
-  pub exts-read : (c : ℕ) → ((r b : ℕ) (e : Event) (later : List Event) → Splits 1 0 es r b e later → inChain c e ≡ true → e .m ≡ first (defsOf (e .log)) 1 es)
+  pub exts-read : (c : ℕ) → ((r b : ℕ) (e : Event) (later : List Event) → Splits 1 0 es r b e later → inChain c e ≡ true
+      → e .m ≡ first (defsOf (e .log)) 1 es)
       → readExts words bytes (first c 1 es) ≡ map (extOf es) (members c 1 es)
   unfolding readExts extAt extOf
   exts-read c bodies =
@@ -172,5 +187,14 @@ module _ (head : List ℕ) (sixteen : length head ≡ 16) (es : List Event) (roo
       (map-chain (extAt words bytes) (extOf es) c 1 0 es
       (λ r b e later s u.
       let t = both (e .alive) _ u .0 in
-      rw (child-at s t, target-read (childrenOf r) 1 0 es (omega arith) fits (λ r b e ys s. s), m-at s t, bodies r b e later s u, defs-read (e .log), span-at s t, name-span-at s t)
+      rw (
+        child-at s t,
+        target-read (childrenOf r) 1 0 es (omega arith) fits (λ r b e ys s. s),
+        m-at s t,
+        bodies r b e later s u,
+        defs-read
+            (e .log),
+        span-at s t,
+        name-span-at s t,
+      )
       refl))

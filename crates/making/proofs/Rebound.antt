@@ -6,12 +6,14 @@ use native.Mathlib.Omega.{arith}
 use lib.ListN.{length}
 use Rattle.paths_numbers.proofs.Texts.{not-both}
 use Rattle.making.specs.declared.ctx.LowerCtx.{LowerCtx}
-use Rattle.making.specs.State.{State}
-use Rattle.making.specs.Events.{Event, defsOf, extsOf, bindings, childrenOf, first, last, bytesIn, endOf, members, defsIn}
-use Rattle.making.specs.Removed.{dead}
-use Rattle.making.specs.Represents.{Place, Waiting, logOf, extsLog, Each, each-none, each-next, Sort, is-def, is-ext, is-binding, is-diag, is-part, Open, Stands, at-root, at-top, at-definition, AllStand, no-places, more-places, Stack, bottom, above}
-use Rattle.making.specs.Whole.{At, at-here, at-later, Making}
-use Rattle.log.specs.Record.{bindingKind}
+use Rattle.making.specs.meaning.State.{State}
+use Rattle.making.specs.machine.Events.{Event, defsOf, extsOf, bindings, childrenOf, first, last, bytesIn, endOf, members, defsIn}
+use Rattle.making.specs.machine.Removed.{dead}
+use Rattle.making.specs.machine.Represents.{Place, Waiting, logOf, extsLog, Each, each-none, each-next, Sort, is-def, is-ext}
+use Rattle.making.specs.machine.Represents.{is-binding, is-diag, is-part, Open, Stands, at-root, at-top, at-definition, AllStand}
+use Rattle.making.specs.machine.Represents.{no-places, more-places, Stack, bottom, above}
+use Rattle.making.specs.machine.Whole.{At, at-here, at-later, Making}
+use Rattle.log.specs.meaning.Record.{bindingKind}
 use Rattle.making.proofs.Append.{chain-other}
 use Rattle.making.proofs.Members.{SameBelow, defs-same}
 use Rattle.making.proofs.Growing.{each-map, exts-same}
@@ -28,7 +30,8 @@ rebound-same [] = none-rebound
 rebound-same (e ∷ es) = same-bound (rebound-same es)
 
 -- one of them
-pub rebound-at : (xs : List Event) (e : Event) (ys : List Event) → e .chain ≡ bindings → e .kind ≡ bindingKind → Rebound (xs ++ e ∷ ys) (xs ++ dead e ∷ ys)
+pub rebound-at : (xs : List Event) (e : Event) (ys : List Event) → e .chain ≡ bindings → e .kind ≡ bindingKind
+    → Rebound (xs ++ e ∷ ys) (xs ++ dead e ∷ ys)
 rebound-at [] e ys c k = unbound c k (rebound-same ys)
 rebound-at (x ∷ xs) e ys c k = same-bound (rebound-at xs e ys c k)
 
@@ -74,13 +77,15 @@ rebound-thinned none-rebound = none-thinned
 rebound-thinned (same-bound h) = same-there (rebound-thinned h)
 rebound-thinned (unbound c k h) = gone (rebound-thinned h)
 
-pub each-thinned : {P : ℕ → Event → Type 0} {k : ℕ} {es fs : List Event} → ((r : ℕ) (e : Event) → P r e → P r (dead e)) → Thinned es fs → Each P k es → Each P k fs
+pub each-thinned : {P : ℕ → Event → Type 0} {k : ℕ} {es fs : List Event} → ((r : ℕ) (e : Event) → P r e → P r (dead e)) → Thinned es fs
+    → Each P k es → Each P k fs
 each-thinned f none-thinned each-none = each-none
 each-thinned f (same-there h) (each-next p q) = each-next p (each-thinned f h q)
 each-thinned f (gone h) (each-next p q) = each-next (f _ _ p) (each-thinned f h q)
 
 -- what is so of each record, where it does not hang on whether that is there
-pub each-rebound : {P : ℕ → Event → Type 0} {k : ℕ} {es fs : List Event} → ((r : ℕ) (e : Event) → P r e → P r (dead e)) → Rebound es fs → Each P k es → Each P k fs
+pub each-rebound : {P : ℕ → Event → Type 0} {k : ℕ} {es fs : List Event} → ((r : ℕ) (e : Event) → P r e → P r (dead e)) → Rebound es fs
+    → Each P k es → Each P k fs
 each-rebound f h q = each-thinned f (rebound-thinned h) q
 
 -- the kind of a record
@@ -127,10 +132,23 @@ parted : (xs : List Event) {ys fs : List Event} → Rebound (xs ++ ys) fs → Pa
 parted [] h = record { front = []; back = _; is = refl; frontBound = none-rebound; backBound = h }
 parted (x ∷ xs) (same-bound h) =
     let p = parted xs h in
-    record { front = x ∷ p .front; back = p .back; is = ap (λ (l : List Event). x ∷ l) (p .is); frontBound = same-bound (p .frontBound); backBound = p .backBound }
+    record {
+      front = x ∷ p .front;
+      back = p .back;
+      is = ap (λ (l : List Event). x ∷ l) (p .is);
+      frontBound = same-bound (p .frontBound);
+      backBound = p .backBound;
+    }
 parted (x ∷ xs) (unbound c k h) =
     let p = parted xs h in
-    record { front = dead x ∷ p .front; back = p .back; is = ap (λ (l : List Event). dead x ∷ l) (p .is); frontBound = unbound c k (p .frontBound); backBound = p .backBound }
+    record {
+      front = dead x ∷ p .front;
+      back = p .back;
+      is = ap (λ (l : List Event). dead x ∷ l) (p .is);
+      frontBound = unbound c k
+          (p .frontBound);
+      backBound = p .backBound;
+    }
 
 -- a definition is where it was
 head-same : {e : Event} {ys fs : List Event} → (e .chain ≡ bindings → ⊥) → Rebound (e ∷ ys) fs → (zs : List Event) × (fs ≡ e ∷ zs)
@@ -147,20 +165,30 @@ places-rebound {es} {fs} h (more-places {p} s q) = more-places (stands s) (place
     stands (at-definition xs e ys l i t c a b d f) =
         let m = parted xs (subst (λ (z : List Event). Rebound z fs) i h) in
         let y = head-same (λ z. omega (arith, sym c ∙ z)) (m .backBound) in
-        at-definition (m .front) e (y .0) l (m .is ∙ ap (λ (z : List Event). m .front ++ z) (y .1)) t c a (b ∙ sym (rebound-end 0 (m .frontBound))) d f
+        at-definition (m .front) e (y .0) l (m .is ∙ ap (λ (z : List Event). m .front ++ z) (y .1)) t c a
+        (b ∙ sym (rebound-end 0 (m .frontBound))) d f
 
 -- a log
-pub open-rebound : {ws : List Waiting} {c d : LowerCtx} {s t : State} {es fs : List Event} → Rebound es fs → Open ws c es s → d .defs ≡ c .defs → d .exts ≡ c .exts
+pub open-rebound : {ws : List Waiting} {c d : LowerCtx} {s t : State} {es fs : List Event} → Rebound es fs → Open ws c es s
+    → d .defs ≡ c .defs → d .exts ≡ c .exts
     → d .part ≡ c .part → d .cell ≡ c .cell → t .defs ≡ s .defs → t .exts ≡ s .exts → Open ws d fs t
 open-rebound {ws} {c} {d} {es = es} {fs} h o dd dx dp dc td tx =
     let below : SameBelow (λ (r : ℕ). ⊥) es fs = λ r z. members-rebound (childrenOf r) (λ q. omega arith) 1 h in
     let defs : (l : ℕ) → defsIn l fs ≡ defsIn l es =
-    λ l. defs-same (λ (r : ℕ). ⊥) es fs below l (members-rebound (defsOf l) (λ q. omega arith) 1 h) (λ r x a t c z. z) (λ r v x y a t c b u d z. z) in
-    let exts = exts-same (λ (r : ℕ). ⊥) es fs below (extsLog ws) (members-rebound (extsOf (extsLog ws)) (λ q. omega arith) 1 h) (λ r y a t c. (λ z. z, defs (y .log))) in
+    λ l. defs-same (λ (r : ℕ). ⊥) es fs below l (members-rebound (defsOf l) (λ q. omega arith) 1 h) (λ r x a t c z. z)
+    (λ r v x y a t c b u d z. z) in
+    let exts = exts-same (λ (r : ℕ). ⊥) es fs below (extsLog ws) (members-rebound (extsOf (extsLog ws)) (λ q. omega arith) 1 h)
+    (λ r y a t c. (λ z. z, defs (y .log))) in
     let l = last-rebound in
     record {
-      defsRun = rw dd (record { firstIs = o .defsRun .firstIs ∙ sym (first-rebound (defsOf (logOf ws)) (λ q. omega arith) 1 h); lastIs = o .defsRun .lastIs ∙ sym (last-rebound (defsOf (logOf ws)) (λ q. omega arith) 1 h) });
-      extsRun = rw dx (record { firstIs = o .extsRun .firstIs ∙ sym (first-rebound (extsOf (extsLog ws)) (λ q. omega arith) 1 h); lastIs = o .extsRun .lastIs ∙ sym (last-rebound (extsOf (extsLog ws)) (λ q. omega arith) 1 h) });
+      defsRun = rw dd (record {
+        firstIs = o .defsRun .firstIs ∙ sym (first-rebound (defsOf (logOf ws)) (λ q. omega arith) 1 h);
+        lastIs = o .defsRun .lastIs ∙ sym (last-rebound (defsOf (logOf ws)) (λ q. omega arith) 1 h);
+      });
+      extsRun = rw dx (record {
+        firstIs = o .extsRun .firstIs ∙ sym (first-rebound (extsOf (extsLog ws)) (λ q. omega arith) 1 h);
+        lastIs = o .extsRun .lastIs ∙ sym (last-rebound (extsOf (extsLog ws)) (λ q. omega arith) 1 h);
+      });
       partIs = rw (dp, dd, last-rebound (childrenOf (c .defs .last)) (λ q. omega arith) 1 h) (o .partIs);
       cellIs = rw (dc, dp, last-rebound (childrenOf (c .part)) (λ q. omega arith) 1 h) (o .cellIs);
       defsSay = defs (logOf ws) ∙ o .defsSay ∙ sym td;
@@ -170,19 +198,23 @@ open-rebound {ws} {c} {d} {es = es} {fs} h o dd dx dp dc td tx =
     }
 
 -- the records of a log in the making
-pub making-rebound : {hand : ℕ → Type 0} (xs : List Event) {es fs : List Event} → Rebound es fs → Making hand (xs ++ es) → Making hand (xs ++ fs)
+pub making-rebound : {hand : ℕ → Type 0} (xs : List Event) {es fs : List Event} → Rebound es fs → Making hand (xs ++ es)
+    → Making hand (xs ++ fs)
 making-rebound xs none-rebound m = m
 making-rebound {hand} xs (same-bound {e} {es} {fs} h) m =
     subst (λ (l : List Event). Making hand l) (append-assoc xs (e ∷ []) fs)
     (making-rebound (xs ++ e ∷ []) h (subst (λ (l : List Event). Making hand l) (sym (append-assoc xs (e ∷ []) es)) m))
 making-rebound {hand} xs (unbound {e} {es} {fs} c k h) m =
     subst (λ (l : List Event). Making hand l) (append-assoc xs (dead e ∷ []) fs)
-    (making-rebound (xs ++ dead e ∷ []) h (subst (λ (l : List Event). Making hand l) (sym (append-assoc xs (dead e ∷ []) es)) (making-remove xs e es c k m)))
+    (making-rebound (xs ++ dead e ∷ []) h (subst (λ (l : List Event). Making hand l) (sym (append-assoc xs (dead e ∷ []) es))
+    (making-remove xs e es c k m)))
 
 -- and those that wait
 pub stack-rebound : {ws : List Waiting} {es fs : List Event} → Rebound es fs → Stack ws es → Stack ws fs
 stack-rebound h bottom = bottom
 stack-rebound {fs = fs} h (above {w} xs ys q m kp o a i st mk) =
     let p = parted xs (subst (λ (z : List Event). Rebound z fs) q h) in
-    above {w = w} (p .front) (p .back) (p .is) (omega (arith, m, rebound-length (p .frontBound))) kp (open-rebound (p .frontBound) o refl refl refl refl refl refl)
-    (places-rebound (p .frontBound) a) (each-rebound (λ r e x. record { ofDefs = x .ofDefs; ofExts = x .ofExts; ofParts = x .ofParts }) (p .backBound) i) (stack-rebound (p .frontBound) st) (making-rebound [] (p .frontBound) mk)
+    above {w = w} (p .front) (p .back) (p .is) (omega (arith, m, rebound-length (p .frontBound))) kp
+    (open-rebound (p .frontBound) o refl refl refl refl refl refl)
+    (places-rebound (p .frontBound) a) (each-rebound (λ r e x. record { ofDefs = x .ofDefs; ofExts = x .ofExts; ofParts = x .ofParts })
+    (p .backBound) i) (stack-rebound (p .frontBound) st) (making-rebound [] (p .frontBound) mk)

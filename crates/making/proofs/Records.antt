@@ -4,9 +4,9 @@ use mathlib.Core.Path.{_≡_, refl}
 use mathlib.Core.List.{List, [], _∷_}
 use borrow.Author.Tests.{eq-eqb, ne-eqb}
 use lib.ListN.{set}
-use Rattle.paths_numbers.specs.Text.{written}
+use Rattle.paths_numbers.specs.meaning.Text.{written}
 use Rattle.making.specs.declared.ctx.Rec.{Rec}
-use Rattle.making.specs.Made.{startAt, sixteen, setLink}
+use Rattle.making.specs.machine.Made.{startAt, sixteen, setLink}
 
 -- the words with both texts' starts worked out
 abbrev laid : ℕ → ℕ → ℕ → ℕ → Rec → List ℕ

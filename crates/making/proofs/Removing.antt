@@ -7,23 +7,25 @@ use native.Mathlib.Omega.{arith}
 use borrow.Author.Tests.{ne-eqb, eqb-true, eqb-false, le-leb}
 use lib.Dec.{eqb}
 use lib.ListN.{length, getD, replicate, length-append, length-replicate, replicate-append-replicate}
-use Rattle.paths_numbers.specs.Text.{written, isEmpty}
+use Rattle.paths_numbers.specs.meaning.Text.{written, isEmpty}
 use Rattle.paths_numbers.proofs.Texts.{by-test, not-both}
 use Rattle.paths_numbers.proofs.Written.{written-nil, written-length}
 use Rattle.making.specs.declared.ctx.Chain.{Chain}
 use Rattle.making.specs.declared.ctx.LowerCtx.{LowerCtx}
-use Rattle.log.specs.Record.{outField, nextOf, textStart, textLength, secondStart, secondLength}
-use Rattle.making.specs.Events.{Event, bindings, childrenOf, first, last, startOf, words16, bytesIn, wordsFrom, texts, endOf, allWords, allBytes}
-use Rattle.making.specs.Buffers.{Layout}
-use Rattle.making.specs.Holding.{Hand, Runs, Holds, going, over}
-use Rattle.making.specs.Removed.{dead, clearedText, clearedTexts, clearedWords, setNext, without, withoutBind, Removes}
+use Rattle.log.specs.meaning.Record.{outField, nextOf, textStart, textLength, secondStart, secondLength}
+use Rattle.making.specs.machine.Events.{Event, bindings, childrenOf, first, last, startOf, words16, bytesIn, wordsFrom, texts, endOf}
+use Rattle.making.specs.machine.Events.{allWords, allBytes}
+use Rattle.making.specs.machine.Buffers.{Layout}
+use Rattle.making.specs.machine.Holding.{Hand, Runs, Holds, going, over}
+use Rattle.making.specs.machine.Removed.{dead, clearedText, clearedTexts, clearedWords, setNext, without, withoutBind, Removes}
 use Rattle.making.proofs.Append.{last-first, first-last}
 use Rattle.making.proofs.ReadEvents.{Splits, splits-here, splits-later, field-at}
 use Rattle.making.proofs.Layouts.{count-words, same-count, length-texts}
 use Rattle.making.proofs.Make.{length-from}
 use Rattle.log.proofs.Texts.{written-twice}
 use Rattle.making.proofs.Holding.{diags-other}
-use Rattle.making.proofs.Unlinked.{first-front, first-gone, last-front, last-behind, first-apart, last-apart, same-end, same-size, same-order, bytes-removed, all-removed}
+use Rattle.making.proofs.Unlinked.{first-front, first-gone, last-front, last-behind, first-apart, last-apart, same-end, same-size}
+use Rattle.making.proofs.Unlinked.{same-order, bytes-removed, all-removed}
 
 -- a record with what stands before and behind it
 pub splits-of : (k at : ℕ) (xs : List Event) (e : Event) (ys : List Event) → Splits k at (xs ++ e ∷ ys) (k + length xs) (endOf at xs) e ys
@@ -34,13 +36,15 @@ splits-of k at (x ∷ xs) e ys =
     rw z (splits-later (splits-of (k + 1) (at + bytesIn x) xs e ys))
 
 -- a text of a record set to zeros
-cleared-at : (bytes : List ℕ) (at : ℕ) (text : List ℕ) → at + length text ≤ length bytes → clearedText bytes (startOf at text) (length text) ≡ written bytes at (replicate (length text) 0)
+cleared-at : (bytes : List ℕ) (at : ℕ) (text : List ℕ) → at + length text ≤ length bytes
+    → clearedText bytes (startOf at text) (length text) ≡ written bytes at (replicate (length text) 0)
 unfolding clearedText isEmpty
 cleared-at bytes at [] h = rw (le-leb 0 (length bytes) (omega arith)) (written-nil bytes 0 ∙ sym (written-nil bytes at))
 cleared-at bytes at (a ∷ text) h = rw (le-leb (at + length (a ∷ text)) (length bytes) h) refl
 
 -- its chain
-module _ (c : ℕ) (x : Chain) (xs : List Event) (e : Event) (ys : List Event) (ec : e .chain ≡ c) (run : Runs c x (xs ++ e ∷ ys)) (p n : ℕ) (pe : p ≡ last c 1 xs) (ne : n ≡ first c (1 + length xs + 1) ys) where
+module _ (c : ℕ) (x : Chain) (xs : List Event) (e : Event) (ys : List Event) (ec : e .chain ≡ c) (run : Runs c x (xs ++ e ∷ ys)) (p n : ℕ)
+    (pe : p ≡ last c 1 xs) (ne : n ≡ first c (1 + length xs + 1) ys) where
   first-left : cond (eqb p 0) n (x .first) ≡ first c 1 (xs ++ dead e ∷ ys)
   first-left =
       by-test (eqb p 0)
@@ -73,8 +77,13 @@ module _ (c : ℕ) (x : Chain) (xs : List Event) (e : Event) (ys : List Event) (
   runs-without = record { firstIs = first-left; lastIs = last-left }
 
 -- another chain
-runs-apart : {d : ℕ} {x : Chain} (xs : List Event) (e : Event) (ys : List Event) → (e .chain ≡ d → ⊥) → Runs d x (xs ++ e ∷ ys) → Runs d x (xs ++ dead e ∷ ys)
-runs-apart {d} xs e ys n r = record { firstIs = r .firstIs ∙ sym (first-apart e ys d 1 xs n); lastIs = r .lastIs ∙ sym (last-apart e ys d 1 xs n) }
+runs-apart : {d : ℕ} {x : Chain} (xs : List Event) (e : Event) (ys : List Event) → (e .chain ≡ d → ⊥) → Runs d x (xs ++ e ∷ ys)
+    → Runs d x (xs ++ dead e ∷ ys)
+runs-apart {d} xs e ys n r = record {
+  firstIs = r .firstIs ∙ sym (first-apart e ys d 1 xs n);
+  lastIs = r .lastIs
+      ∙ sym (last-apart e ys d 1 xs n);
+}
 
 -- texts end behind those of a record among them
 pub end-least : (at : ℕ) (ys : List Event) → at ≤ endOf at ys
@@ -92,7 +101,8 @@ length-all : (es : List Event) (room : ℕ) → length (allWords (replicate 16 0
 unfolding allWords
 length-all es room =
     length-append (replicate {A = ℕ} 16 0) (wordsFrom 1 0 es ++ replicate room 0)
-    ∙ ap (λ (i : ℕ). 16 + i) (length-append (wordsFrom 1 0 es) (replicate room 0) ∙ rw (length-from 1 0 es, length-replicate {A = ℕ} room 0) refl)
+    ∙ ap (λ (i : ℕ). 16 + i) (length-append (wordsFrom 1 0 es) (replicate room 0)
+    ∙ rw (length-from 1 0 es, length-replicate {A = ℕ} room 0) refl)
 
 pub length-bytes : (es : List Event) (room : ℕ) → length (allBytes es room) ≡ endOf 0 es + room
 unfolding allBytes
@@ -102,7 +112,8 @@ length-bytes es room = length-append (texts es) (replicate room 0) ∙ omega (ar
 bindings-top : (o : ℕ) → bindings ≡ childrenOf o → ⊥
 bindings-top o q = omega arith
 
-module _ {words bytes : List ℕ} {records used : ℕ} (xs : List Event) (e : Event) (ys : List Event) (l : Layout words bytes records used (xs ++ e ∷ ys)) where
+module _ {words bytes : List ℕ} {records used : ℕ} (xs : List Event) (e : Event) (ys : List Event)
+    (l : Layout words bytes records used (xs ++ e ∷ ys)) where
   abbrev A : List Event
   A = xs ++ e ∷ ys
 
@@ -133,14 +144,20 @@ module _ {words bytes : List ℕ} {records used : ℕ} (xs : List Event) (e : Ev
   pub starts : e .alive ≡ true → (textStart words r ≡ startOf (endOf 0 xs) (e .text)) × (textLength words r ≡ length (e .text))
       × (secondStart words r ≡ startOf (endOf 0 xs + length (e .text)) (e .second)) × (secondLength words r ≡ length (e .second))
   unfolding words16 outField
-  starts alive =
-      (field 2 (omega arith) ∙ rw alive refl, field 3 (omega arith) ∙ rw alive refl, field 4 (omega arith) ∙ rw alive refl, field 5 (omega arith) ∙ rw alive refl)
+  starts alive = (
+    field 2 (omega arith) ∙ rw alive refl,
+    field 3 (omega arith) ∙ rw alive refl,
+    field 4 (omega arith)
+        ∙ rw alive refl,
+    field 5 (omega arith) ∙ rw alive refl,
+  )
 
   -- its texts lie in the bytes
   ends : endOf 0 xs + bytesIn e ≤ endOf 0 A
   ends = end-above 0 xs e ys
 
-  pub words-left : e .alive ≡ true → e .chain ≡ bindings → (p n : ℕ) → p ≡ last bindings 1 xs → n ≡ nextOf words r → setNext p n (clearedWords words r) ≡ allWords head (xs ++ dead e ∷ ys) room
+  pub words-left : e .alive ≡ true → e .chain ≡ bindings → (p n : ℕ) → p ≡ last bindings 1 xs → n ≡ nextOf words r
+      → setNext p n (clearedWords words r) ≡ allWords head (xs ++ dead e ∷ ys) room
   unfolding clearedWords
   words-left alive ec p n pe ne =
       rw (pe, ne ∙ next-is alive ec, le-leb (r * 16 + 16) (length words) in-words)
@@ -171,7 +188,8 @@ module _ {words bytes : List ℕ} {records used : ℕ} (xs : List Event) (e : Ev
       ∙ sym (bytes-removed xs e ys (length bytes - endOf 0 A)))
 
   -- so the buffers hold the records left
-  pub layout-left : (w b : List ℕ) → w ≡ allWords head (xs ++ dead e ∷ ys) room → b ≡ allBytes (xs ++ dead e ∷ ys) (length bytes - endOf 0 A)
+  pub layout-left : (w b : List ℕ) → w ≡ allWords head (xs ++ dead e ∷ ys) room
+      → b ≡ allBytes (xs ++ dead e ∷ ys) (length bytes - endOf 0 A)
       → Layout w b records used (xs ++ dead e ∷ ys)
   layout-left w b we be =
       let B = xs ++ dead e ∷ ys in
@@ -193,12 +211,14 @@ module _ {words bytes : List ℕ} {records used : ℕ} (xs : List Event) (e : Ev
       }
 
 -- what removing a binding ensures
-pub removes-going : (c d : LowerCtx) (words bytes w b : List ℕ) (previous r n : ℕ) → c .short ≡ false → n ≡ nextOf words r → d ≡ withoutBind c previous n
+pub removes-going : (c d : LowerCtx) (words bytes w b : List ℕ) (previous r n : ℕ) → c .short ≡ false → n ≡ nextOf words r
+    → d ≡ withoutBind c previous n
     → w ≡ setNext previous n (clearedWords words r) → b ≡ clearedTexts words bytes r → Removes c d words bytes w b previous r
 unfolding withoutBind
 removes-going c d words bytes w b previous r n s ne de we be = record { holds = go; stays = λ t. absurd (not-both t s) }
   where
-    go : (g : Hand) (xs : List Event) (e : Event) (ys : List Event) → Holds g c words bytes (xs ++ e ∷ ys) → e .chain ≡ bindings → e .alive ≡ true
+    go : (g : Hand) (xs : List Event) (e : Event) (ys : List Event) → Holds g c words bytes (xs ++ e ∷ ys) → e .chain ≡ bindings
+        → e .alive ≡ true
         → (c .short ≡ false → r ≡ 1 + length xs) → (c .short ≡ false → previous ≡ last bindings 1 xs) → Holds g d w b (xs ++ dead e ∷ ys)
     go g xs e ys (over t x) ec al rr pp = absurd (not-both t s)
     go g xs e ys (going t l en) ec al rr pp =
@@ -215,5 +235,6 @@ removes-going c d words bytes w b previous r n s ne de we be = record { holds = 
           defsRun = runs-apart xs e ys (λ z. omega (arith, sym ec ∙ z)) (en .defsRun);
           extsRun = runs-apart xs e ys (λ z. omega (arith, sym ec ∙ z)) (en .extsRun);
           bindsRun = runs-without bindings (c .binds) xs e ys ec (en .bindsRun) previous n p (m ∙ next-is xs e ys l al ec);
-          diagsRun = runs-apart xs e ys (λ z. diags-other (g .post) bindings (λ i. omega arith) (λ i. omega arith) (sym z ∙ ec)) (en .diagsRun);
+          diagsRun = runs-apart xs e ys (λ z. diags-other (g .post) bindings (λ i. omega arith) (λ i. omega arith) (sym z ∙ ec))
+              (en .diagsRun);
         }))

@@ -8,10 +8,10 @@ use borrow.Author.Tests.{eqb-true, leb-true}
 use lib.Dec.{eqb, leb}
 use lib.ListN.{length}
 use Rattle.paths_numbers.proofs.Texts.{by-test, not-both, both}
-use Rattle.log.specs.Record.{nodeKind, propertyKind, cellListKind, extensionKind, oneOf, defKinds, hasChildren}
-use Rattle.log.specs.Sound.{kindsIn, below as placeBelow}
-use Rattle.making.specs.Events.{Event, defsOf, extsOf, childrenOf, first, below}
-use Rattle.making.specs.Whole.{There, Stands, in-defs, in-exts, in-bindings, in-diagnostics, in-post, in-children}
+use Rattle.log.specs.meaning.Record.{nodeKind, propertyKind, cellListKind, extensionKind, oneOf, defKinds, hasChildren}
+use Rattle.log.specs.meaning.Sound.{kindsIn, below as placeBelow}
+use Rattle.making.specs.machine.Events.{Event, defsOf, extsOf, childrenOf, first, below}
+use Rattle.making.specs.machine.Whole.{There, Stands, in-defs, in-exts, in-bindings, in-diagnostics, in-post, in-children}
 
 -- the numbers of a list lie between two
 unfoldable between : ℕ → ℕ → List ℕ → Bool
@@ -41,7 +41,8 @@ child-range j k o = one-between 7 12 j (kindsIn (placeBelow k)) all o
     all =
         by-test (eqb k nodeKind)
         (λ t. rw t refl)
-        (λ t. by-test (eqb k propertyKind) (λ u. rw (t, u) refl) (λ u. by-test (eqb k cellListKind) (λ v. rw (t, u, v) refl) (λ v. rw (t, u, v) refl)))
+        (λ t. by-test (eqb k propertyKind) (λ u. rw (t, u) refl)
+        (λ u. by-test (eqb k cellListKind) (λ v. rw (t, u, v) refl) (λ v. rw (t, u, v) refl)))
 
 -- an extension by its kind
 pub record Extends (hand : ℕ → Type 0) (es : List Event) (r : ℕ) (e : Event) : Type 0 where
@@ -61,7 +62,8 @@ extends (in-post q k) d = absurd (omega (arith, sym k ∙ d))
 extends {e = e} (in-children {x = x} h q c o) d = absurd (omega (arith, child-range (e .kind) (x .kind) o))
 
 -- and by its chain
-pub by-chain : (l : ℕ) {hand : ℕ → Type 0} {es : List Event} {r : ℕ} {x : Event} → Stands hand es r x → x .chain ≡ extsOf l → x .m ≡ first (defsOf (x .log)) 1 es
+pub by-chain : (l : ℕ) {hand : ℕ → Type 0} {es : List Event} {r : ℕ} {x : Event} → Stands hand es r x → x .chain ≡ extsOf l
+    → x .m ≡ first (defsOf (x .log)) 1 es
 by-chain l (in-defs k q o) c = absurd (omega (arith, sym q ∙ c))
 by-chain l (in-exts z q k n b o) c = b
 by-chain l (in-bindings q k) c = absurd (omega (arith, sym q ∙ c))

@@ -7,15 +7,14 @@ use native.Mathlib.Omega.{arith}
 use borrow.Author.Tests.{lt-ltb, le-ltb, lt-leb, ltb-true, leb-true, leb-false}
 use lib.Dec.{ltb, leb}
 use lib.ListN.{length}
-use Rattle.paths_numbers.specs.Text.{written}
-use Rattle.paths_numbers.specs.Path.{atMost, largestUsize}
+use Rattle.paths_numbers.specs.meaning.Text.{written}
+use Rattle.paths_numbers.specs.meaning.Path.{atMost, largestUsize}
 use Rattle.paths_numbers.proofs.Texts.{by-test, not-both, both}
 use Rattle.paths_numbers.proofs.Lengths.{kept, cut}
-use Rattle.log.specs.Record.{logCount}
+use Rattle.log.specs.meaning.Record.{logCount, mostBytes}
 use Rattle.making.specs.declared.ctx.LowerCtx.{LowerCtx}
 use Rattle.making.specs.declared.ctx.Rec.{Rec}
-use Rattle.making.specs.Buffers.{mostBytes}
-use Rattle.making.specs.Made.{sixteen, setLink, hasRoom, Room, ranShort, oneMore, makes, counted, madeWords, madeBytes, Told}
+use Rattle.making.specs.machine.Made.{sixteen, setLink, hasRoom, Room, ranShort, oneMore, makes, counted, madeWords, madeBytes, Told}
 
 -- a choice by a test that is known
 pub cond-true : {A : Type 0} (t : Bool) (x y : A) → t ≡ true → cond t x y ≡ x
@@ -30,29 +29,37 @@ unfolding makes
 makes-short c words bytes size link s = sym (cond-true (c .short) _ _ s)
 
 -- nor where its link is not among the words
-pub makes-unlinked : (c : LowerCtx) (words bytes : List ℕ) (size link : ℕ) → c .short ≡ false → length words ≤ link → false ≡ makes c words bytes size link
+pub makes-unlinked : (c : LowerCtx) (words bytes : List ℕ) (size link : ℕ) → c .short ≡ false → length words ≤ link
+    → false ≡ makes c words bytes size link
 unfolding makes
-makes-unlinked c words bytes size link s h = sym (cond-false (c .short) _ _ s ∙ cond-false (ltb link (length words)) _ _ (le-ltb link (length words) h))
+makes-unlinked c words bytes size link s h = sym (cond-false (c .short) _ _ s
+    ∙ cond-false (ltb link (length words)) _ _ (le-ltb link (length words) h))
 
 -- else by its room
-pub makes-room : (c : LowerCtx) (words bytes : List ℕ) (size link : ℕ) → c .short ≡ false → link < length words → hasRoom c words bytes size ≡ makes c words bytes size link
+pub makes-room : (c : LowerCtx) (words bytes : List ℕ) (size link : ℕ) → c .short ≡ false → link < length words
+    → hasRoom c words bytes size ≡ makes c words bytes size link
 unfolding makes
-makes-room c words bytes size link s h = sym (cond-false (c .short) _ _ s ∙ cond-true (ltb link (length words)) _ _ (lt-ltb link (length words) h))
+makes-room c words bytes size link s h = sym (cond-false (c .short) _ _ s
+    ∙ cond-true (ltb link (length words)) _ _ (lt-ltb link (length words) h))
 
 -- what is told where none is made, and where one is
 module _ (c : LowerCtx) (words bytes : List ℕ) (r : Rec) (x y : List ℕ) (link : ℕ) where
-  pub told-none : (d : LowerCtx) → makes c words bytes (length x + length y) link ≡ false → d ≡ ranShort c → Told c d words bytes words bytes r x y link
+  pub told-none : (d : LowerCtx) → makes c words bytes (length x + length y) link ≡ false → d ≡ ranShort c
+      → Told c d words bytes words bytes r x y link
   unfolding counted madeWords madeBytes
   told-none d n e = record { state = rw n e; wordsAre = rw n refl; bytesAre = rw n refl }
 
-  pub told-made : (d : LowerCtx) (w b : List ℕ) → makes c words bytes (length x + length y) link ≡ true → d ≡ oneMore c (length x + length y)
-      → w ≡ setLink link (c .records) (written words (c .records * 16) (sixteen (c .bytes) (length x) (length y) r)) → b ≡ written bytes (c .bytes) (x ++ y)
+  pub told-made : (d : LowerCtx) (w b : List ℕ) → makes c words bytes (length x + length y) link ≡ true
+      → d ≡ oneMore c (length x + length y)
+      → w ≡ setLink link (c .records) (written words (c .records * 16) (sixteen (c .bytes) (length x) (length y) r))
+      → b ≡ written bytes (c .bytes) (x ++ y)
       → Told c d words bytes w b r x y link
   unfolding counted madeWords madeBytes
   told-made d w b n e f g = record { state = rw n e; wordsAre = rw n f; bytesAre = rw n g }
 
 -- room by the test is room
-pub room-is : (c : LowerCtx) (words bytes : List ℕ) (size link : ℕ) → hasRoom c words bytes size ≡ true → link < length words → Room c words bytes size link
+pub room-is : (c : LowerCtx) (words bytes : List ℕ) (size link : ℕ) → hasRoom c words bytes size ≡ true → link < length words
+    → Room c words bytes size link
 unfolding hasRoom
 room-is c words bytes size link h l =
     let a = both (ltb (c .records) (logCount words)) _ h in
@@ -70,7 +77,8 @@ makes-is c words bytes size link m =
     room-is c words bytes size link (a .1) (ltb-true _ _ (a .0)))
 
 -- the same for a size that is cut at the largest usize: what is cut has no room
-pub makes-cut : (c : LowerCtx) (words bytes : List ℕ) (n size link : ℕ) → size ≡ atMost largestUsize n → makes c words bytes size link ≡ makes c words bytes n link
+pub makes-cut : (c : LowerCtx) (words bytes : List ℕ) (n size link : ℕ) → size ≡ atMost largestUsize n
+    → makes c words bytes size link ≡ makes c words bytes n link
 unfolding makes hasRoom
 makes-cut c words bytes n size link e =
     by-test (leb n largestUsize)
@@ -93,7 +101,8 @@ not-false false e = sym e
 
 -- what a code that tests for a size, and then writes texts of these lengths, tells
 module _ (c : LowerCtx) (words bytes : List ℕ) (r : Rec) (x y : List ℕ) (link size : ℕ)
-    (same : makes c words bytes size link ≡ makes c words bytes (length x + length y) link) (t : Bool) (test : t ≡ makes c words bytes size link) where
+    (same : makes c words bytes size link ≡ makes c words bytes (length x + length y) link) (t : Bool)
+    (test : t ≡ makes c words bytes size link) where
   pub tested-none : (d : LowerCtx) → not t ≡ true → d ≡ ranShort c → Told c d words bytes words bytes r x y link
   tested-none d f e = told-none c words bytes r x y link d (sym same ∙ sym test ∙ not-true t f) e
 
@@ -113,5 +122,6 @@ makes-joined c words bytes x link size p j e =
     let z : length x + 0 ≡ length p = omega (arith, ap length j) in
     rw z (makes-cut c words bytes (length p) size link e)
 
-pub joined-size : (x : List ℕ) (size : ℕ) (p : List ℕ) → p ≡ x → size ≡ atMost largestUsize (length p) → length x ≤ mostBytes → size ≡ length x
+pub joined-size : (x : List ℕ) (size : ℕ) (p : List ℕ) → p ≡ x → size ≡ atMost largestUsize (length p) → length x ≤ mostBytes
+    → size ≡ length x
 joined-size x size p j e h = e ∙ kept largestUsize (length p) (omega (arith, ap length j)) ∙ ap length j

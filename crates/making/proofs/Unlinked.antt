@@ -9,12 +9,14 @@ use borrow.Author.Tests.{ne-eqb, eqb-true, eqb-false}
 use lib.Dec.{eqb}
 use lib.ListN.{length, take, drop, replicate, length-append, length-replicate}
 use lib.Seq.{set-append-left, take-append-le, drop-append-le, take-append-add, drop-append-add, drop-at}
-use Rattle.paths_numbers.specs.Text.{written}
+use Rattle.paths_numbers.specs.meaning.Text.{written}
 use Rattle.paths_numbers.proofs.Texts.{by-test, both}
 use Rattle.paths_numbers.proofs.Written.{written-length}
-use Rattle.making.specs.Events.{Event, childrenOf, inChain, first, last, words16, bytesIn, wordsFrom, texts, endOf, allWords, allBytes, Ordered, ordered-next}
-use Rattle.making.specs.Removed.{dead, setNext}
-use Rattle.making.proofs.Append.{linked, linked-none, length-words, last-from, last-to, last-first, first-last, set-append-add, set-behind}
+use Rattle.making.specs.machine.Events.{Event, childrenOf, inChain, first, last, words16, bytesIn, wordsFrom, texts, endOf, allWords}
+use Rattle.making.specs.machine.Events.{allBytes, Ordered, ordered-next}
+use Rattle.making.specs.machine.Removed.{dead, setNext}
+use Rattle.making.proofs.Append.{linked, linked-none, length-words, last-from, last-to, last-first, first-last, set-append-add}
+use Rattle.making.proofs.Append.{set-behind}
 use Rattle.making.proofs.ReadEvents.{piece, length-piece}
 use Rattle.making.proofs.Make.{length-from}
 use Rattle.making.proofs.Layouts.{length-texts}
@@ -37,7 +39,8 @@ first-behind c k (x ∷ xs) zs p z =
     (λ t. rw (t, n) (first-behind c (k + 1) xs zs (omega arith) (rw t at z)))
 
 -- the last of a chain that has records behind, or has none
-pub last-behind : (c k : ℕ) (xs zs : List Event) → 0 < k → (last c (k + length xs) zs ≡ 0 → ⊥) → last c k (xs ++ zs) ≡ last c (k + length xs) zs
+pub last-behind : (c k : ℕ) (xs zs : List Event) → 0 < k → (last c (k + length xs) zs ≡ 0 → ⊥)
+    → last c k (xs ++ zs) ≡ last c (k + length xs) zs
 unfolding last
 last-behind c k [] zs p n = let e : k + 0 ≡ k = omega arith in rw e refl
 last-behind c k (x ∷ xs) zs p n =
@@ -90,7 +93,8 @@ dead-words k at e es = refl
 
 -- one record in front: its words in the old list A and the new one B, where the record before the one removed leads to n now
 module _ (c : ℕ) (top : (o : ℕ) → c ≡ childrenOf o → ⊥) where
-  step : (k at l n : ℕ) (x : Event) (B A : List Event) (w : List ℕ) → 0 < k → ((d : ℕ) → (c ≡ d → ⊥) → first d (k + 1) B ≡ first d (k + 1) A)
+  step : (k at l n : ℕ) (x : Event) (B A : List Event) (w : List ℕ) → 0 < k
+      → ((d : ℕ) → (c ≡ d → ⊥) → first d (k + 1) B ≡ first d (k + 1) A)
       → ((l ≡ 0 → ⊥) → (k + 1 ≤ l) × (first c (k + 1) B ≡ first c (k + 1) A)) → (l ≡ 0 → first c (k + 1) B ≡ n)
       → words16 k at x B ++ linked l (k + 1) n w ≡ linked (cond (eqb l 0) (cond (inChain c x) k 0) l) k n (words16 k at x A ++ w)
   unfolding linked words16
@@ -121,7 +125,8 @@ module _ (c : ℕ) (top : (o : ℕ) → c ≡ childrenOf o → ⊥) where
     -- all words after it is removed
     pub words-removed : (k at : ℕ) (xs : List Event) → 0 < k
         → wordsFrom k at (xs ++ dead e ∷ ys)
-        ≡ linked (last c k xs) k (first c (k + length xs + 1) ys) (written (wordsFrom k at (xs ++ e ∷ ys)) (length xs * 16) (replicate 16 0))
+        ≡ linked (last c k xs) k (first c (k + length xs + 1) ys)
+        (written (wordsFrom k at (xs ++ e ∷ ys)) (length xs * 16) (replicate 16 0))
     unfolding wordsFrom last
     words-removed k at [] p =
         let W = wordsFrom (k + 1) (at + bytesIn e) ys in
@@ -136,7 +141,13 @@ module _ (c : ℕ) (top : (o : ℕ) → c ≡ childrenOf o → ⊥) where
         let n = first c (k + 1 + length xs + 1) ys in
         let nn : k + suc (length xs) + 1 ≡ k + 1 + length xs + 1 = omega arith in
         let ix : suc (length xs) * 16 ≡ length (words16 k at x A) + length xs * 16 = omega (arith, length-words k at x A) in
-        rw (nn, ix, words-removed (k + 1) (at + bytesIn x) xs (omega arith), written-after (words16 k at x A) W (replicate 16 0) (length xs * 16))
+        rw (
+          nn,
+          ix,
+          words-removed (k + 1) (at + bytesIn x) xs (omega arith),
+          written-after (words16 k at x A) W (replicate 16 0)
+              (length xs * 16),
+        )
         (step k at l n x B A (written W (length xs * 16) (replicate 16 0)) p
         (λ d ne. first-apart e ys d (k + 1) xs (λ q. ne (sym ec ∙ q)))
         (λ nz.
@@ -162,7 +173,8 @@ dead-piece e = refl
 pub written-before : (w z s : List ℕ) (n : ℕ) → n + length s ≤ length w → written (w ++ z) n s ≡ written w n s ++ z
 unfolding written
 written-before w z s n h =
-    rw (take-append-le n w z (omega arith), drop-append-le (n + length s) w z h) (sym (append-assoc (take n w ++ s) (drop (n + length s) w) z))
+    rw (take-append-le n w z (omega arith), drop-append-le (n + length s) w z h)
+    (sym (append-assoc (take n w ++ s) (drop (n + length s) w) z))
 
 -- the counts are as they were
 pub same-end : (at : ℕ) (xs : List Event) (e : Event) (ys : List Event) → endOf at (xs ++ dead e ∷ ys) ≡ endOf at (xs ++ e ∷ ys)
@@ -190,12 +202,15 @@ bytes-removed xs e ys room =
     let split : (x : Event) → texts (xs ++ x ∷ ys) ++ replicate room 0 ≡ texts xs ++ (piece x ++ R) =
     λ x. rw (texts-append xs (x ∷ ys), texts-piece x ys) (simp append-assoc) in
     let len : length (piece e) ≡ length zs = length-piece e ∙ sym (length-replicate {A = ℕ} (bytesIn e) 0) in
-    rw (split (dead e), split e, at, written-after (texts xs) (piece e ++ R) zs 0, dead-piece e) (ap (λ (s : List ℕ). texts xs ++ s) (written-front (piece e) R zs len))
+    rw (split (dead e), split e, at, written-after (texts xs) (piece e ++ R) zs 0, dead-piece e)
+    (ap (λ (s : List ℕ). texts xs ++ s) (written-front (piece e) R zs len))
 
 -- all words
-module _ (c : ℕ) (top : (o : ℕ) → c ≡ childrenOf o → ⊥) (head : List ℕ) (sixteen : length head ≡ 16) (xs : List Event) (e : Event) (ys : List Event) (ec : e .chain ≡ c) (room : ℕ) where
+module _ (c : ℕ) (top : (o : ℕ) → c ≡ childrenOf o → ⊥) (head : List ℕ) (sixteen : length head ≡ 16) (xs : List Event) (e : Event)
+    (ys : List Event) (ec : e .chain ≡ c) (room : ℕ) where
   pub all-removed : allWords head (xs ++ dead e ∷ ys) room
-      ≡ setNext (last c 1 xs) (first c (1 + length xs + 1) ys) (written (allWords head (xs ++ e ∷ ys) room) ((1 + length xs) * 16) (replicate 16 0))
+      ≡ setNext (last c 1 xs) (first c (1 + length xs + 1) ys) (written (allWords head (xs ++ e ∷ ys) room) ((1 + length xs) * 16)
+      (replicate 16 0))
   unfolding allWords setNext linked
   all-removed =
       let z = replicate {A = ℕ} 16 0 in
@@ -203,10 +218,17 @@ module _ (c : ℕ) (top : (o : ℕ) → c ≡ childrenOf o → ⊥) (head : List
       let W = wordsFrom 1 0 (xs ++ e ∷ ys) in
       let n = first c (1 + length xs + 1) ys in
       let at : (1 + length xs) * 16 ≡ length head + length xs * 16 = omega arith in
-      let lw : length W ≡ (length xs + suc (length ys)) * 16 = length-from 1 0 (xs ++ e ∷ ys) ∙ ap (λ (i : ℕ). i * 16) (length-append xs (e ∷ ys)) in
+      let lw : length W ≡ (length xs + suc (length ys)) * 16 = length-from 1 0 (xs ++ e ∷ ys)
+      ∙ ap (λ (i : ℕ). i * 16) (length-append xs (e ∷ ys)) in
       let v = written W (length xs * 16) z in
       let lv : length v ≡ length W = written-length W (length xs * 16) z (omega arith) in
-      rw (words-removed c top e ys ec 1 0 xs (omega arith), at, written-after head (W ++ Z) z (length xs * 16), written-before W Z z (length xs * 16) (omega arith))
+      rw (
+        words-removed c top e ys ec 1 0 xs (omega arith),
+        at,
+        written-after head (W ++ Z) z (length xs * 16),
+        written-before W Z z
+            (length xs * 16) (omega arith),
+      )
       (by-test (eqb (last c 1 xs) 0)
       (λ t. rw t refl)
       (λ t.
@@ -215,4 +237,5 @@ module _ (c : ℕ) (top : (o : ℕ) → c ≡ childrenOf o → ⊥) (head : List
       let lo = last-from c 1 xs nz in
       let hi = last-to c 1 xs nz in
       let ix : l * 16 + 1 ≡ length head + ((l - 1) * 16 + 1) = omega arith in
-      rw (t, ix) (sym (set-append-add head (v ++ Z) ((l - 1) * 16 + 1) n ∙ ap (λ (y : List ℕ). head ++ y) (set-append-left v Z ((l - 1) * 16 + 1) n (omega arith))))))
+      rw (t, ix) (sym (set-append-add head (v ++ Z) ((l - 1) * 16 + 1) n
+      ∙ ap (λ (y : List ℕ). head ++ y) (set-append-left v Z ((l - 1) * 16 + 1) n (omega arith))))))

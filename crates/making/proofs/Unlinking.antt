@@ -9,20 +9,23 @@ use lib.Dec.{eqb}
 use lib.ListN.{length}
 use Rattle.paths_numbers.proofs.Texts.{by-test, not-both, both}
 use Rattle.making.specs.declared.ctx.LowerCtx.{LowerCtx}
-use Rattle.making.specs.State.{State, removeAt, unbindAt}
-use Rattle.log.specs.ReadBack.{chainOf}
-use Rattle.making.specs.Events.{Event, bindings, diagnostics, inChain, first, last, Numbered, members, bindingOf}
-use Rattle.making.specs.Removed.{dead, withoutBind, Removes}
-use Rattle.making.specs.Holding.{diagsOf, Holds}
-use Rattle.making.specs.Holding as H
-use Rattle.making.specs.Represents.{Context, handOf, Each, Sort, Open, AllStand, Stack, Common, Represents, going, over, lastNumber, Unlinks, InHand, is-def, is-ext, is-binding, is-diag, is-part}
-use Rattle.making.specs.Whole.{At, Making}
-use Rattle.log.specs.Record.{bindingKind}
+use Rattle.making.specs.meaning.State.{State}
+use Rattle.making.specs.machine.Adding.{removeAt, unbindAt}
+use Rattle.log.specs.meaning.ReadBack.{chainOf}
+use Rattle.making.specs.machine.Events.{Event, bindings, diagnostics, inChain, first, last, Numbered, members, bindingOf}
+use Rattle.making.specs.machine.Removed.{dead, withoutBind, Removes}
+use Rattle.making.specs.machine.Holding.{diagsOf, Holds}
+use Rattle.making.specs.machine.Holding as H
+use Rattle.making.specs.machine.Represents.{Context, handOf, Each, Sort, Open, AllStand, Stack, Common, Represents, going, over}
+use Rattle.making.specs.machine.Represents.{lastNumber, Unlinks, InHand, is-def, is-ext, is-binding, is-diag, is-part}
+use Rattle.making.specs.machine.Whole.{At, Making}
+use Rattle.log.specs.meaning.Record.{bindingKind}
 use Rattle.making.proofs.Append.{new-in}
 use Rattle.making.proofs.Holding.{diags-other}
 use Rattle.making.proofs.ReadEvents.{numbersOf}
 use Rattle.making.proofs.Below.{none-last}
-use Rattle.making.proofs.Rebound.{rebound-at, members-rebound, first-rebound, each-rebound, sorts-rebound, places-rebound, open-rebound, stack-rebound}
+use Rattle.making.proofs.Rebound.{rebound-at, members-rebound, first-rebound, each-rebound, sorts-rebound, places-rebound}
+use Rattle.making.proofs.Rebound.{open-rebound, stack-rebound}
 use Rattle.making.proofs.Represented.{ends}
 use Rattle.making.proofs.Cuts.{cut}
 use Rattle.making.proofs.InHand.{chain-reads}
@@ -40,7 +43,8 @@ last-number c k (x ∷ es) p =
     (λ q.
     let m = none-last c (k + 1) es (omega arith) (eqb-true _ _ q) in
     by-test (inChain c x) (λ t. rw (q, t, m) refl) (λ t. rw (q, t, m) refl))
-    (λ q. by-test (inChain c x) (λ t. rw (q, t) (last-cons k (numbersOf (members c (k + 1) es)) (λ z. eqb-false _ _ q (sym h ∙ ap lastNumber z)) ∙ h)) (λ t. rw (q, t) h))
+    (λ q. by-test (inChain c x) (λ t. rw (q, t) (last-cons k (numbersOf (members c (k + 1) es))
+    (λ z. eqb-false _ _ q (sym h ∙ ap lastNumber z)) ∙ h)) (λ t. rw (q, t) h))
   where
     last-cons : (n : ℕ) (l : List ℕ) → (l ≡ [] → ⊥) → lastNumber (n ∷ l) ≡ lastNumber l
     last-cons n [] z = absurd (z refl)
@@ -84,7 +88,8 @@ binding-kind (is-part r o c a h k) q = absurd (omega (arith, sym c ∙ q))
 
 -- the operation
 module _ (c d : LowerCtx) (words bytes w b : List ℕ) (previous r n : ℕ) (state : d ≡ withoutBind c previous n) where
-  module _ (k : Context) (s : State) (ns ms : List ℕ) (xs : List Event) (e : Event) (ys : List Event) (chain : e .chain ≡ bindings) (kind : e .kind ≡ bindingKind) (alive : e .alive ≡ true)
+  module _ (k : Context) (s : State) (ns ms : List ℕ) (xs : List Event) (e : Event) (ys : List Event) (chain : e .chain ≡ bindings)
+      (kind : e .kind ≡ bindingKind) (alive : e .alive ≡ true)
       (front : numbersOf (members bindings 1 xs) ≡ ns) (back : numbersOf (members bindings (1 + length xs + 1) ys) ≡ ms) where
     abbrev es : List Event
     es = xs ++ e ∷ ys
@@ -92,7 +97,8 @@ module _ (c d : LowerCtx) (words bytes w b : List ℕ) (previous r n : ℕ) (sta
     abbrev fs : List Event
     fs = xs ++ dead e ∷ ys
 
-    was : members bindings 1 es ≡ members bindings 1 xs ++ record { number = 1 + length xs; event = e } ∷ members bindings (1 + length xs + 1) ys
+    was : members bindings 1 es ≡ members bindings 1 xs ++ record { number = 1 + length xs; event = e }
+        ∷ members bindings (1 + length xs + 1) ys
     unfolding members
     was = members-parts bindings 1 xs (e ∷ ys) ∙ rw (new-in bindings e alive chain) refl
 
@@ -100,17 +106,22 @@ module _ (c d : LowerCtx) (words bytes w b : List ℕ) (previous r n : ℕ) (sta
     unfolding members
     remain = members-parts bindings 1 xs (dead e ∷ ys)
 
-    unbound-binds : map bindingOf (members bindings 1 es) ≡ s .binds → map bindingOf (members bindings 1 fs) ≡ removeAt (length ns) (s .binds)
+    unbound-binds : map bindingOf (members bindings 1 es) ≡ s .binds
+        → map bindingOf (members bindings 1 fs) ≡ removeAt (length ns) (s .binds)
     unbound-binds q =
         let a = map bindingOf (members bindings 1 xs) in
         let y = map bindingOf (members bindings (1 + length xs + 1) ys) in
         let x = bindingOf (record { number = 1 + length xs; event = e }) in
-        let size : length ns ≡ length a = ap length (sym front) ∙ length-numbers (members bindings 1 xs) ∙ sym (length-map-members (members bindings 1 xs)) in
+        let size : length ns ≡ length a = ap length (sym front) ∙ length-numbers (members bindings 1 xs)
+        ∙ sym (length-map-members (members bindings 1 xs)) in
         let old : s .binds ≡ a ++ x ∷ y = sym q ∙ ap (map bindingOf) was ∙ map-append bindingOf (members bindings 1 xs) _ in
-        ap (map bindingOf) remain ∙ map-append bindingOf (members bindings 1 xs) _ ∙ sym (remove-here a x y (length ns) size) ∙ ap (removeAt (length ns)) (sym old)
+        ap (map bindingOf) remain ∙ map-append bindingOf (members bindings 1 xs) _ ∙ sym (remove-here a x y (length ns) size)
+        ∙ ap (removeAt (length ns)) (sym old)
 
-    left : c .short ≡ false → c .records ≡ s .records → c .bytes ≡ s .bytes → Open (k .waiting) c es s → Common k c es s → Stack (k .waiting) es → AllStand es (k .places) → Each (Sort es) 1 es → Making (InHand (k .waiting)) es
-        → Holds (handOf k) d w b fs → Represents k d w b (unbindAt (length ns) s) × (d .short ≡ false) × (chainOf w (d .binds .first) ≡ ns ++ ms)
+    left : c .short ≡ false → c .records ≡ s .records → c .bytes ≡ s .bytes → Open (k .waiting) c es s → Common k c es s
+        → Stack (k .waiting) es → AllStand es (k .places) → Each (Sort es) 1 es → Making (InHand (k .waiting)) es
+        → Holds (handOf k) d w b fs → Represents k d w b (unbindAt (length ns) s) × (d .short ≡ false)
+        × (chainOf w (d .binds .first) ≡ ns ++ ms)
     unfolding unbindAt withoutBind
     left z cr cb o m st ps ss mk (H.over t x) = absurd (not-both t (ap (λ (a : LowerCtx). a .short) state ∙ z))
     left z cr cb o m st ps ss mk (H.going t l en) =
@@ -128,31 +139,41 @@ module _ (c d : LowerCtx) (words bytes w b : List ℕ) (previous r n : ℕ) (sta
         } in
         let is : Represents k d w b (unbindAt (length ns) s) =
         going fs t l (ap (λ (a : LowerCtx). a .records) state ∙ cr) (ap (λ (a : LowerCtx). a .bytes) state ∙ cb)
-        (open-rebound h o (ap (λ (a : LowerCtx). a .defs) state) (ap (λ (a : LowerCtx). a .exts) state) (ap (λ (a : LowerCtx). a .part) state) (ap (λ (a : LowerCtx). a .cell) state) refl refl)
+        (open-rebound h o (ap (λ (a : LowerCtx). a .defs) state) (ap (λ (a : LowerCtx). a .exts) state)
+        (ap (λ (a : LowerCtx). a .part) state) (ap (λ (a : LowerCtx). a .cell) state) refl refl)
         common (stack-rebound h st) (places-rebound h ps) (sorts-rebound h ss) (making-remove xs e ys chain kind mk) in
         let read : chainOf w (d .binds .first) ≡ ns ++ ms =
-        ap (λ (i : ℕ). chainOf w i) (en .bindsRun .firstIs) ∙ chain-reads l bindings ∙ ap numbersOf remain ∙ numbers-parts (members bindings 1 xs) _ ∙ rw (front, back) refl in
+        ap (λ (i : ℕ). chainOf w i) (en .bindsRun .firstIs) ∙ chain-reads l bindings ∙ ap numbersOf remain
+        ∙ numbers-parts (members bindings 1 xs) _ ∙ rw (front, back) refl in
         (is, t, read)
 
-  removed : Removes c d words bytes w b previous r → (k : Context) (s : State) (ns ms : List ℕ) → Represents k c words bytes s → c .short ≡ false → chainOf words (c .binds .first) ≡ ns ++ r ∷ ms
-      → previous ≡ lastNumber ns → Represents k d w b (unbindAt (length ns) s) × (d .short ≡ false) × (chainOf w (d .binds .first) ≡ ns ++ ms)
+  removed : Removes c d words bytes w b previous r → (k : Context) (s : State) (ns ms : List ℕ) → Represents k c words bytes s
+      → c .short ≡ false → chainOf words (c .binds .first) ≡ ns ++ r ∷ ms
+      → previous ≡ lastNumber ns → Represents k d w b (unbindAt (length ns) s) × (d .short ≡ false)
+      × (chainOf w (d .binds .first) ≡ ns ++ ms)
   removed removes k s ns ms (over h m) z q p = absurd (not-both h z)
   removed removes k s ns ms (going es h l cr cb o m st ps ss mk) z q p =
-      let read : numbersOf (members bindings 1 es) ≡ ns ++ r ∷ ms = sym (chain-reads l bindings) ∙ ap (λ (i : ℕ). chainOf words i) (sym (m .bindsRun .firstIs)) ∙ q in
+      let read : numbersOf (members bindings 1 es) ≡ ns ++ r ∷ ms = sym (chain-reads l bindings)
+      ∙ ap (λ (i : ℕ). chainOf words i) (sym (m .bindsRun .firstIs)) ∙ q in
       let t = cut bindings 1 es ns r ms read in
       let in₀ = both (t .event .alive) _ (t .within) in
       let chain : t .event .chain ≡ bindings = eqb-true _ _ (in₀ .1) in
       let prev : previous ≡ last bindings 1 (t .xs) = p ∙ ap lastNumber (sym (t .front)) ∙ last-number bindings 1 (t .xs) (omega arith) in
       let i = t .is in
-      let held : Holds (handOf k) c words bytes (t .xs ++ t .event ∷ t .ys) = subst (λ (l : List Event). Holds (handOf k) c words bytes l) i (H.going h l (ends o m)) in
-      let kind = binding-kind (each-at ss (subst (λ (v : List Event). At 1 v (1 + length (t .xs)) (t .event)) (sym i) (at-cut 1 (t .xs) (t .event) (t .ys)))) chain in
+      let held : Holds (handOf k) c words bytes (t .xs ++ t .event ∷ t .ys) = subst (λ (l : List Event). Holds (handOf k) c words bytes l) i
+      (H.going h l (ends o m)) in
+      let kind = binding-kind (each-at ss (subst (λ (v : List Event). At 1 v (1 + length (t .xs)) (t .event)) (sym i)
+      (at-cut 1 (t .xs) (t .event) (t .ys)))) chain in
       left k s ns ms (t .xs) (t .event) (t .ys) chain kind (in₀ .0) (t .front) (t .back) h cr cb
-      (subst (λ (l : List Event). Open (k .waiting) c l s) i o) (subst (λ (l : List Event). Common k c l s) i m) (subst (λ (l : List Event). Stack (k .waiting) l) i st)
-      (subst (λ (l : List Event). AllStand l (k .places)) i ps) (subst (λ (l : List Event). Each (Sort l) 1 l) i ss) (subst (λ (l : List Event). Making (InHand (k .waiting)) l) i mk)
+      (subst (λ (l : List Event). Open (k .waiting) c l s) i o) (subst (λ (l : List Event). Common k c l s) i m)
+      (subst (λ (l : List Event). Stack (k .waiting) l) i st)
+      (subst (λ (l : List Event). AllStand l (k .places)) i ps) (subst (λ (l : List Event). Each (Sort l) 1 l) i ss)
+      (subst (λ (l : List Event). Making (InHand (k .waiting)) l) i mk)
       (removes .holds (handOf k) (t .xs) (t .event) (t .ys) held chain (in₀ .0) (λ _. t .number) (λ _. prev))
 
   pub unlinks : c .short ≡ false → Removes c d words bytes w b previous r → Unlinks c d words bytes w b previous r
   unlinks z removes = record { steps = removed removes; stays = λ t. absurd (not-both t z) }
 
-pub unlinks-short : (c : LowerCtx) (words bytes : List ℕ) (previous r : ℕ) → c .short ≡ true → Unlinks c c words bytes words bytes previous r
+pub unlinks-short : (c : LowerCtx) (words bytes : List ℕ) (previous r : ℕ) → c .short ≡ true
+    → Unlinks c c words bytes words bytes previous r
 unlinks-short c words bytes previous r t = record { steps = λ k s ns ms h z. absurd (not-both t z); stays = λ z. (t, refl, refl) }

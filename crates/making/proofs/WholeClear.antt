@@ -8,14 +8,14 @@ use borrow.Author.Tests.{eq-eqb, eqb-true, le-leb, lt-leb, leb-false, lt-ltb, le
 use lib.Dec.{eqb, leb, ltb}
 use lib.ListN.{length, getD, replicate, length-append, List·getD-append}
 use lib.Seq.{getD-append-add, getD-drop}
-use Rattle.paths_numbers.specs.Text.{isEmpty}
+use Rattle.paths_numbers.specs.meaning.Text.{isEmpty}
 use Rattle.paths_numbers.proofs.Texts.{by-test}
-use Rattle.log.specs.Record.{recordWords, outField, textStart, textLength, secondStart, secondLength, logCount}
-use Rattle.log.specs.Sound.{Link, targets, times, followed, timesReached, isReached}
-use Rattle.log.specs.Written.{holds, holdersIn, holders}
-use Rattle.making.specs.Events.{Event, startOf, words16, bytesIn, wordsFrom, texts, endOf, allWords, allBytes, Ordered}
-use Rattle.making.specs.Whole.{There, Whole}
-use Rattle.making.specs.Finished.{headIn}
+use Rattle.log.specs.meaning.Record.{recordWords, outField, textStart, textLength, secondStart, secondLength, logCount}
+use Rattle.log.specs.meaning.Sound.{Link, targets, times, followed, timesReached, isReached}
+use Rattle.log.specs.meaning.Written.{holds, holdersIn, holders}
+use Rattle.making.specs.machine.Events.{Event, startOf, words16, bytesIn, wordsFrom, texts, endOf, allWords, allBytes, Ordered}
+use Rattle.making.specs.machine.Whole.{There, Whole}
+use Rattle.making.specs.machine.Finished.{headIn}
 use Rattle.making.proofs.Make.{length-from}
 use Rattle.making.proofs.Layouts.{length-texts}
 use Rattle.making.proofs.ReadEvents.{Splits, splits-here, splits-later, splits-at, field-at, piece, length-piece, bytes-at}
@@ -71,7 +71,8 @@ unfoldable holder : ℕ → ℕ → ℕ → List Event → ℕ
 holder i at k [] = 0
 holder i at k (e ∷ es) = cond (ltb i (at + bytesIn e)) k (holder i (at + bytesIn e) (k + 1) es)
 
-holder-is : (i : ℕ) {k at r b : ℕ} {xs es : List Event} {e : Event} → Splits k at xs r b e es → b ≤ i → i < b + bytesIn e → holder i at k xs ≡ r
+holder-is : (i : ℕ) {k at r b : ℕ} {xs es : List Event} {e : Event} → Splits k at xs r b e es → b ≤ i → i < b + bytesIn e
+    → holder i at k xs ≡ r
 unfolding holder
 holder-is i {at = at} {e = e} splits-here h l = rw (lt-ltb i (at + bytesIn e) l) refl
 holder-is i {at = at} (splits-later {x = x} s) h l = rw (le-ltb i (at + bytesIn x) (omega (arith, splits-at s))) (holder-is i s h l)
@@ -94,7 +95,15 @@ held-by i k at (x ∷ xs) h l =
     (λ t. record { number = k; start = at; event = x; later = xs; splits = splits-here; low = h; high = ltb-true i (at + bytesIn x) t })
     (λ t.
     let f = held-by i (k + 1) (at + bytesIn x) xs (ltb-false i (at + bytesIn x) t) l in
-    record { number = f .number; start = f .start; event = f .event; later = f .later; splits = splits-later (f .splits); low = f .low; high = f .high })
+    record {
+      number = f .number;
+      start = f .start;
+      event = f .event;
+      later = f .later;
+      splits = splits-later (f .splits);
+      low = f .low;
+      high = f .high;
+    })
 
 -- zeros
 zeros-at : (n i : ℕ) → getD (replicate {A = ℕ} n 0) i 0 ≡ 0
@@ -122,7 +131,8 @@ abbrev own : List ℕ → ℕ → ℕ → ℕ
 own words r i = holds (textStart words r) (textLength words r) i + holds (secondStart words r) (secondLength words r) i
 
 -- a byte is held as often as a link leads to a record o, where no other holds it
-most-held : (words : List ℕ) (ls : List Link) (i o : ℕ) → ((r : ℕ) → 1 ≤ timesReached ls r → own words r i ≤ cond (eqb r o) 1 0) → holdersIn words ls i ≤ timesReached ls o
+most-held : (words : List ℕ) (ls : List Link) (i o : ℕ) → ((r : ℕ) → 1 ≤ timesReached ls r → own words r i ≤ cond (eqb r o) 1 0)
+    → holdersIn words ls i ≤ timesReached ls o
 unfolding holdersIn targets times
 most-held words [] i o f = omega arith
 most-held words (l ∷ ls) i o f =
@@ -138,7 +148,8 @@ least-held words (l ∷ ls) i r h =
     (λ t. rw (eqb-true (l .to) r t) (omega arith))
     (λ t. omega (arith, least-held words ls i r (omega (arith, rw t at h))))
 
-module _ (es : List Event) (records used room more : ℕ) (fits : 1 + length es ≤ logCount (allWords (headIn records used es) es room)) (ordered : Ordered 1 es) (whole : Whole es) where
+module _ (es : List Event) (records used room more : ℕ) (fits : 1 + length es ≤ logCount (allWords (headIn records used es) es room))
+    (ordered : Ordered 1 es) (whole : Whole es) where
   abbrev head : List ℕ
   head = headIn records used es
 
@@ -154,7 +165,8 @@ module _ (es : List Event) (records used room more : ℕ) (fits : 1 + length es 
       let t = text-words es records used room more fits ordered whole h in
       let s = second-words es records used room more fits ordered whole h in
       let b = split (h .at) 0 .start in
-      rw (t .0, t .1, s .0, s .1, held-start b i (e .text), held-start (b + length (e .text)) i (e .second)) (held-both b (length (e .text)) (length (e .second)) i)
+      rw (t .0, t .1, s .0, s .1, held-start b i (e .text), held-start (b + length (e .text)) i (e .second))
+      (held-both b (length (e .text)) (length (e .second)) i)
 
   own-most : (i r : ℕ) → 1 ≤ timesReached (followed words) r → own words r i ≤ cond (eqb r (holder i 0 1 es)) 1 0
   own-most i r k =
@@ -175,7 +187,12 @@ module _ (es : List Event) (records used room more : ℕ) (fits : 1 + length es 
   -- "texts unshared"
   pub none-shared : (i : ℕ) → holders words i ≤ 1
   none-shared i =
-      omega (arith, most-held words (followed words) i (holder i 0 1 es) (own-most i), led-once es records used room fits ordered whole (holder i 0 1 es))
+      omega (
+        arith,
+        most-held words (followed words) i (holder i 0 1 es) (own-most i),
+        led-once es records used room fits ordered whole
+            (holder i 0 1 es),
+      )
 
   -- bytes that no chain reaches
   pub bytes-clear : (i : ℕ) → holders words i ≡ 0 → getD bytes i 0 ≡ 0

@@ -1,5 +1,5 @@
--- Each record of a complete log in the making keeps 01's rules for writing: words not named are zero, empty texts start at 0, and an extension
--- has one reference.
+-- Each record of a complete log in the making keeps 01's rules for writing: words not named are zero, empty texts start at 0, and an
+-- extension has one reference.
 use Prim.Native.Nat.{ℕ, suc, _+_, _≤_, _<_}
 use mathlib.Core.Path.{_≡_, refl, sym, ap, _∙_}
 use mathlib.Core.Bool.{true, false}
@@ -9,11 +9,11 @@ use borrow.Author.Tests.{eqb-true, eqb-false}
 use lib.Dec.{eqb}
 use lib.ListN.{length, getD}
 use Rattle.paths_numbers.proofs.Texts.{by-test, not-both, is-empty}
-use Rattle.log.specs.Record.{recordWords, outField, kindOf, nextOf, nOf, extensionKind, hasChildren, logCount}
-use Rattle.log.specs.Written.{hasText, hasSecondText, named, Kept}
-use Rattle.making.specs.Events.{Event, childrenOf, inChain, first, startOf, alive16, members, below, allWords, Ordered}
-use Rattle.making.specs.Whole.{There, Plain, Whole}
-use Rattle.making.specs.Finished.{headIn}
+use Rattle.log.specs.meaning.Record.{recordWords, outField, kindOf, nextOf, nOf, extensionKind, hasChildren, logCount}
+use Rattle.log.specs.meaning.Written.{hasText, hasSecondText, named, Kept}
+use Rattle.making.specs.machine.Events.{Event, childrenOf, inChain, first, startOf, alive16, members, below, allWords, Ordered}
+use Rattle.making.specs.machine.Whole.{There, Plain, Whole}
+use Rattle.making.specs.machine.Finished.{headIn}
 use Rattle.making.proofs.ReadEvents.{Splits, splits-here, splits-later, splits-from}
 use Rattle.making.proofs.FirstOf.{split, in-chain, leads-first}
 use Rattle.making.proofs.Standing.{extends}
@@ -32,7 +32,8 @@ empty-start : (at : ℕ) (s : List ℕ) → length s ≡ 0 → startOf at s ≡ 
 empty-start at s h = rw (is-empty s h) refl
 
 -- words not named
-module _ (r b : ℕ) (x : Event) (later : List Event) (p : Plain x) (kids : hasChildren (x .kind) ≡ false → first (childrenOf r) (r + 1) later ≡ 0) where
+module _ (r b : ℕ) (x : Event) (later : List Event) (p : Plain x)
+    (kids : hasChildren (x .kind) ≡ false → first (childrenOf r) (r + 1) later ≡ 0) where
   abbrev Zero : ℕ → Type 0
   Zero i = named (x .kind) (x .n) i ≡ false → getD (alive16 r b x later) i 0 ≡ 0
 
@@ -100,7 +101,8 @@ rest-members c (splits-later {x = x} s) q t =
     (λ u. absurd (omega (arith, splits-from s, rw u at q)))
     (λ u. rw u (rest-members c s (rw u at q) t))
 
-module _ (es : List Event) (records used room more : ℕ) (fits : 1 + length es ≤ logCount (allWords (headIn records used es) es room)) (ordered : Ordered 1 es) (whole : Whole es) where
+module _ (es : List Event) (records used room more : ℕ) (fits : 1 + length es ≤ logCount (allWords (headIn records used es) es room))
+    (ordered : Ordered 1 es) (whole : Whole es) where
   abbrev words : List ℕ
   words = allWords (headIn records used es) es room
 
@@ -123,7 +125,8 @@ module _ (es : List Event) (records used room more : ℕ) (fits : 1 + length es 
     unnamed-is : (i : ℕ) → i < recordWords → named (kindOf words a) (nOf words a) i ≡ false → outField words a i ≡ 0
     unnamed-is i l n =
         word-is es records used room more fits ordered whole h i l
-        ∙ unnamed-zero a b x later (whole .making .plain a x h) kids-none i l (rw (kind-is es records used room fits ordered whole h, n-is) at n)
+        ∙ unnamed-zero a b x later (whole .making .plain a x h) kids-none i l
+        (rw (kind-is es records used room fits ordered whole h, n-is) at n)
 
     -- the reference of an extension
     one-below : kindOf words a ≡ extensionKind → length (below es a) ≡ 1

@@ -7,20 +7,26 @@ use native.Mathlib.Omega.{arith}
 use borrow.Author.Tests.{eqb-true, eqb-false, leb-true, lt-leb, le-ltb}
 use lib.Dec.{eqb, leb}
 use lib.ListN.{length, getD}
-use Rattle.paths_numbers.specs.Text.{isEmpty}
-use Rattle.paths_numbers.specs.Path.{goodPath}
+use Rattle.paths_numbers.specs.meaning.Text.{isEmpty}
+use Rattle.paths_numbers.specs.meaning.Path.{goodPath}
 use Rattle.paths_numbers.proofs.Texts.{by-test, not-both}
-use Rattle.log.specs.Record.{outField, kindOf, nextOf, childOf, mOf, textStart, textLength, secondStart, secondLength, spanStart, spanEnd, nameStart, nameEnd, firstDef, firstExt, firstBind, firstDiag, firstPost, versionKind, pluginKind, bindingKind, extensionKind, oneOf, defKinds, hasChildren, hasSpan, hasNameSpan, logCount, leadsOut}
-use Rattle.log.specs.Sound.{Link, nonemptyPath, followed, timesReached, anyOf, headsOut, linksOut, textsOut, spansReversed, pathWrong, recordFault, atFault, sound, firstFault, lowestFault}
-use Rattle.making.specs.Events.{Event, defsOf, extsOf, bindings, diagnostics, postDiagnostics, childrenOf, first, startOf, alive16, words16, bytesIn, endOf, allWords, allBytes, Ordered}
-use Rattle.making.specs.Whole.{There, pathRight, Whole}
-use Rattle.making.specs.Finished.{headIn}
+use Rattle.log.specs.meaning.Record.{outField, kindOf, nextOf, childOf, mOf, textStart, textLength, secondStart, secondLength, spanStart}
+use Rattle.log.specs.meaning.Record.{spanEnd, nameStart, nameEnd, firstDef, firstExt, firstBind, firstDiag, firstPost, versionKind}
+use Rattle.log.specs.meaning.Record.{pluginKind, bindingKind, extensionKind, oneOf, defKinds, hasChildren, hasSpan, hasNameSpan, logCount}
+use Rattle.log.specs.meaning.Record.{leadsOut}
+use Rattle.log.specs.meaning.Sound.{Link, nonemptyPath, followed, timesReached, anyOf, headsOut, linksOut, textsOut, spansReversed}
+use Rattle.log.specs.meaning.Sound.{pathWrong, recordFault, atFault, sound, firstFault, lowestFault}
+use Rattle.making.specs.machine.Events.{Event, defsOf, extsOf, bindings, diagnostics, postDiagnostics, childrenOf, first, startOf}
+use Rattle.making.specs.machine.Events.{alive16, words16, bytesIn, endOf, allWords, allBytes, Ordered}
+use Rattle.making.specs.machine.Whole.{There, pathRight, Whole}
+use Rattle.making.specs.machine.Finished.{headIn}
 use Rattle.making.proofs.ReadEvents.{Splits, splits-here, splits-later, field-at}
 use Rattle.making.proofs.ReadLog.{first-text-at, second-text-at}
 use Rattle.making.proofs.Removing.{end-least, length-bytes}
 use Rattle.making.proofs.FirstOf.{at-to, at-same, split, leads-first, leads-next}
 use Rattle.making.proofs.Standing.{extends, owned}
-use Rattle.making.proofs.LogLinks.{sixteen, head-def, head-ext, head-bind, head-diag, head-post, kind-is, next-is, child-is, m-is, reached-there, followed-fits}
+use Rattle.making.proofs.LogLinks.{sixteen, head-def, head-ext, head-bind, head-diag, head-post, kind-is, next-is, child-is, m-is}
+use Rattle.making.proofs.LogLinks.{reached-there, followed-fits}
 use Rattle.making.proofs.LedOnce.{led-once}
 
 -- the texts of a record end with those of all
@@ -45,8 +51,10 @@ if-false false = refl
 
 -- a path that is right is not wrong
 not-wrong : (k : ℕ) (s t : List ℕ)
-    → cond (oneOf k (versionKind ∷ pluginKind ∷ [])) (goodPath s) (cond (oneOf k defKinds) (nonemptyPath s) (cond (eqb k bindingKind) (nonemptyPath t) true)) ≡ true
-    → cond (oneOf k (versionKind ∷ pluginKind ∷ [])) (not (goodPath s)) (cond (oneOf k defKinds) (not (nonemptyPath s)) (cond (eqb k bindingKind) (not (nonemptyPath t)) false)) ≡ false
+    → cond (oneOf k (versionKind ∷ pluginKind ∷ [])) (goodPath s)
+    (cond (oneOf k defKinds) (nonemptyPath s) (cond (eqb k bindingKind) (nonemptyPath t) true)) ≡ true
+    → cond (oneOf k (versionKind ∷ pluginKind ∷ [])) (not (goodPath s))
+    (cond (oneOf k defKinds) (not (nonemptyPath s)) (cond (eqb k bindingKind) (not (nonemptyPath t)) false)) ≡ false
 not-wrong k s t h =
     by-test (oneOf k (versionKind ∷ pluginKind ∷ []))
     (λ u. let g : goodPath s ≡ true = rw u at h in rw (u, g) refl)
@@ -59,12 +67,14 @@ not-wrong k s t h =
     (λ x. rw (u, v, x) refl)))
 
 -- no record at fault
-none-fault : (left : ℕ) (words bytes : List ℕ) (links : List Link) (r : ℕ) → ((s : ℕ) → atFault words bytes links s ≡ false) → firstFault left words bytes links r ≡ sound
+none-fault : (left : ℕ) (words bytes : List ℕ) (links : List Link) (r : ℕ) → ((s : ℕ) → atFault words bytes links s ≡ false)
+    → firstFault left words bytes links r ≡ sound
 unfolding firstFault
 none-fault zero words bytes links r f = refl
 none-fault (suc left) words bytes links r f = rw (f r) (none-fault left words bytes links (r + 1) f)
 
-module _ (es : List Event) (records used room more : ℕ) (fits : 1 + length es ≤ logCount (allWords (headIn records used es) es room)) (ordered : Ordered 1 es) (whole : Whole es) where
+module _ (es : List Event) (records used room more : ℕ) (fits : 1 + length es ≤ logCount (allWords (headIn records used es) es room))
+    (ordered : Ordered 1 es) (whole : Whole es) where
   abbrev head : List ℕ
   head = headIn records used es
 
@@ -125,7 +135,8 @@ module _ (es : List Event) (records used room more : ℕ) (fits : 1 + length es 
     body-inside =
         by-test (eqb (kindOf words a) extensionKind)
         (λ t.
-        let k : x .kind ≡ extensionKind = sym (kind-is es records used room fits ordered whole h) ∙ eqb-true (kindOf words a) extensionKind t in
+        let k : x .kind ≡ extensionKind = sym (kind-is es records used room fits ordered whole h)
+        ∙ eqb-true (kindOf words a) extensionKind t in
         rw t
         (first-inside (mOf words a) (defsOf (x .log))
         (m-is es records used room fits ordered whole h ∙ extends (whole .making .stands a x h) k .body)))
@@ -164,7 +175,14 @@ module _ (es : List Event) (records used room more : ℕ) (fits : 1 + length es 
         let n = length-bytes es more in
         let p = start-most start (x .text) in
         let q = start-most (start + length (x .text)) (x .second) in
-        rw (text-words .0, text-words .1, second-words .0, second-words .1, le-ltb (length bytes) (startOf start (x .text) + length (x .text)) (omega arith))
+        rw (
+          text-words .0,
+          text-words .1,
+          second-words .0,
+          second-words .1,
+          le-ltb (length bytes)
+              (startOf start (x .text) + length (x .text)) (omega arith),
+        )
         (le-ltb (length bytes) (startOf (start + length (x .text)) (x .second) + length (x .second)) (omega arith))
 
     -- its spans are in order
@@ -172,7 +190,17 @@ module _ (es : List Event) (records used room more : ℕ) (fits : 1 + length es 
     unfolding spansReversed
     spans-right =
         let p = whole .right a x h in
-        rw (span-words .0, span-words .1, name-words .0, name-words .1, le-ltb (x .to) (x .from) (p .spanOrder), le-ltb (x .nameTo) (x .nameFrom) (p .nameOrder), if-false (hasSpan (kindOf words a)), if-false (hasNameSpan (kindOf words a)))
+        rw (
+          span-words .0,
+          span-words .1,
+          name-words .0,
+          name-words .1,
+          le-ltb (x .to) (x .from) (p .spanOrder),
+          le-ltb (x .nameTo)
+              (x .nameFrom) (p .nameOrder),
+          if-false (hasSpan (kindOf words a)),
+          if-false (hasNameSpan (kindOf words a)),
+        )
         refl
 
     -- and its path is right
@@ -181,13 +209,25 @@ module _ (es : List Event) (records used room more : ℕ) (fits : 1 + length es 
     path-right =
         let s = split (h .at) 0 .splits in
         let six = sixteen es records used room fits ordered whole in
-        rw (kind-is es records used room fits ordered whole h, first-text-at head six es room more fits ordered s (h .alive), second-text-at head six es room more fits ordered s (h .alive))
+        rw (
+          kind-is es records used room fits ordered whole h,
+          first-text-at head six es room more fits ordered s (h .alive),
+          second-text-at
+              head six es room more fits ordered s (h .alive),
+        )
         (not-wrong (x .kind) (x .text) (x .second) (whole .right a x h .path))
 
     no-fault : recordFault words bytes (followed words) a ≡ false
     unfolding recordFault anyOf
     no-fault =
-        rw (links-inside, lt-leb 2 (timesReached (followed words) a) (omega (arith, led-once es records used room fits ordered whole a)), texts-inside, followed-fits es records used room fits ordered whole a, spans-right, path-right)
+        rw (
+          links-inside,
+          lt-leb 2 (timesReached (followed words) a) (omega (arith, led-once es records used room fits ordered whole a)),
+          texts-inside,
+          followed-fits es records used room fits ordered whole a,
+          spans-right,
+          path-right,
+        )
         refl
 
   -- no record is at fault
@@ -195,7 +235,8 @@ module _ (es : List Event) (records used room more : ℕ) (fits : 1 + length es 
   unfolding atFault
   none-at-fault r =
       by-test (leb 1 (timesReached (followed words) r))
-      (λ t. rw t (no-fault (reached-there es records used room fits ordered whole r (leb-true 1 (timesReached (followed words) r) t) .there)))
+      (λ t. rw t (no-fault (reached-there es records used room fits ordered whole r
+      (leb-true 1 (timesReached (followed words) r) t) .there)))
       (λ t. rw t refl)
 
   pub rules-kept : lowestFault words bytes ≡ sound

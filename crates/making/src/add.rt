@@ -2,23 +2,24 @@
 // the count of records before it is made.
 ghost use mathlib.Core.Path.{_≡_};
 ghost use mathlib.Core.List.{[], _∷_};
-ghost use Rattle.paths_numbers.specs.Path.{joined};
-ghost use Rattle.making.specs.PathPlaces.{pathIn};
-ghost use Rattle.making.specs.State.{define, bind, emit};
-ghost use Rattle.making.specs.Made.{endLink, childLink, grown, withDef, withExt, withBind, withDiag};
-ghost use Rattle.making.specs.Recs.{bareDef, bindingMade, diagMade};
-ghost use Rattle.making.specs.Represents.{Steps};
-ghost use Rattle.making.specs.Kept.{Keeps};
+ghost use Rattle.paths_numbers.specs.meaning.Path.{joined};
+ghost use Rattle.making.specs.machine.PathPlaces.{pathIn};
+ghost use Rattle.making.specs.meaning.State.{define, bind, emit};
+ghost use Rattle.making.specs.machine.Made.{endLink, childLink, grown, withDef, withExt, withBind, withDiag};
+ghost use Rattle.making.specs.machine.Recs.{bareDef, bindingMade, diagMade};
+ghost use Rattle.making.specs.machine.Represents.{Steps};
+ghost use Rattle.making.specs.machine.Kept.{Keeps};
 use crate::ctx::Chain;
 use crate::ctx::LowerCtx;
 use crate::place::PathAt;
 use crate::recs::DefKind;
-use crate::recs::Span;
 use crate::recs::kind_number;
 use crate::recs::omit_number;
 use crate::recs::spanned_rec;
 use log::kinds::BINDING;
 use log::kinds::DIAGNOSTIC;
+use log::layout;
+use log::parts::Span;
 
 impl LowerCtx {
     // A definition at the path of this name and unit address under a path.
@@ -33,7 +34,9 @@ impl LowerCtx {
         name: &[u8],
         unit: &[u8],
     ) -> LowerCtx
-        ensures { λ r. ⌜ Steps self r (now (words .entry)) (now (bytes .entry)) (now (words .exit)) (now (bytes .exit)) (define (bareDef kind span «name_span» (joined (pathIn (self .bytes) (now (bytes .entry)) path) (now (name .entry)) (now (unit .entry))))) ⌝ }
+        ensures { λ r. ⌜ Steps self r (now (words .entry)) (now (bytes .entry)) (now (words .exit)) (now (bytes .exit))
+            (define (bareDef kind span «name_span» (joined (pathIn (self .bytes) (now (bytes .entry)) path) (now (name .entry))
+            (now (unit .entry))))) ⌝ }
     {
         let link = end_link(self.defs);
         let rec = spanned_rec(kind_number(kind), omit_number(kind), 0, span, name_span);
@@ -51,7 +54,8 @@ impl LowerCtx {
         name_span: Span,
         path: PathAt,
     ) -> LowerCtx
-        ensures { λ r. ⌜ Steps self r (now (words .entry)) (now (bytes .entry)) (now (words .exit)) (now (bytes .exit)) (define (bareDef kind span «name_span» (pathIn (self .bytes) (now (bytes .entry)) path))) ⌝ }
+        ensures { λ r. ⌜ Steps self r (now (words .entry)) (now (bytes .entry)) (now (words .exit)) (now (bytes .exit))
+            (define (bareDef kind span «name_span» (pathIn (self .bytes) (now (bytes .entry)) path))) ⌝ }
     {
         let link = end_link(self.defs);
         let rec = spanned_rec(kind_number(kind), omit_number(kind), 0, span, name_span);
@@ -69,7 +73,8 @@ impl LowerCtx {
         name_span: Span,
         path: &[u8],
     ) -> LowerCtx
-        ensures { λ r. ⌜ Steps self r (now (words .entry)) (now (bytes .entry)) (now (words .exit)) (now (bytes .exit)) (define (bareDef kind span «name_span» (now (path .entry)))) ⌝ }
+        ensures { λ r. ⌜ Steps self r (now (words .entry)) (now (bytes .entry)) (now (words .exit)) (now (bytes .exit))
+            (define (bareDef kind span «name_span» (now (path .entry)))) ⌝ }
     {
         let link = end_link(self.defs);
         let rec = spanned_rec(kind_number(kind), omit_number(kind), 0, span, name_span);
@@ -86,7 +91,8 @@ impl LowerCtx {
         path: PathAt,
         span: Span,
     ) -> LowerCtx
-        ensures { λ r. ⌜ Steps self r (now (words .entry)) (now (bytes .entry)) (now (words .exit)) (now (bytes .exit)) (bind (bindingMade (now (label .entry)) (pathIn (self .bytes) (now (bytes .entry)) path) span ∷ [])) ⌝ }
+        ensures { λ r. ⌜ Steps self r (now (words .entry)) (now (bytes .entry)) (now (words .exit)) (now (bytes .exit))
+            (bind (bindingMade (now (label .entry)) (pathIn (self .bytes) (now (bytes .entry)) path) span ∷ [])) ⌝ }
     {
         let link = end_link(self.binds);
         let rec = spanned_rec(BINDING, 0, 0, span, Span { from: 0, to: 0 });
@@ -104,7 +110,8 @@ impl LowerCtx {
         span: Span,
         name_span: Span,
     ) -> LowerCtx
-        ensures { λ r. ⌜ Steps self r (now (words .entry)) (now (bytes .entry)) (now (words .exit)) (now (bytes .exit)) (emit (diagMade code (now (text .entry)) span «name_span» ∷ [])) ⌝ }
+        ensures { λ r. ⌜ Steps self r (now (words .entry)) (now (bytes .entry)) (now (words .exit)) (now (bytes .exit))
+            (emit (diagMade code (now (text .entry)) span «name_span» ∷ [])) ⌝ }
     {
         let link = end_link(self.diags);
         let rec = spanned_rec(DIAGNOSTIC, code, 0, span, name_span);
@@ -123,7 +130,9 @@ impl LowerCtx {
         name: &[u8],
         unit: &[u8],
     ) -> LowerCtx
-        ensures { λ r. ⌜ Steps self r (now (words .entry)) (now (bytes .entry)) (now (words .exit)) (now (bytes .exit)) (emit (diagMade code (joined (pathIn (self .bytes) (now (bytes .entry)) path) (now (name .entry)) (now (unit .entry))) span (record { from = 0; to = 0 }) ∷ [])) ⌝ }
+        ensures { λ r. ⌜ Steps self r (now (words .entry)) (now (bytes .entry)) (now (words .exit)) (now (bytes .exit))
+            (emit (diagMade code (joined (pathIn (self .bytes) (now (bytes .entry)) path) (now (name .entry)) (now (unit .entry))) span
+            (record { from = 0; to = 0 }) ∷ [])) ⌝ }
     {
         let link = end_link(self.diags);
         let rec = spanned_rec(DIAGNOSTIC, code, 0, span, Span { from: 0, to: 0 });
@@ -141,7 +150,9 @@ impl LowerCtx {
         path: PathAt,
         name: PathAt,
     ) -> LowerCtx
-        ensures { λ r. ⌜ Steps self r (now (words .entry)) (now (bytes .entry)) (now (words .exit)) (now (bytes .exit)) (emit (diagMade code (joined (pathIn (self .bytes) (now (bytes .entry)) path) (pathIn (self .bytes) (now (bytes .entry)) name) []) span (record { from = 0; to = 0 }) ∷ [])) ⌝ }
+        ensures { λ r. ⌜ Steps self r (now (words .entry)) (now (bytes .entry)) (now (words .exit)) (now (bytes .exit))
+            (emit (diagMade code (joined (pathIn (self .bytes) (now (bytes .entry)) path) (pathIn (self .bytes) (now (bytes .entry)) name)
+            []) span (record { from = 0; to = 0 }) ∷ [])) ⌝ }
         ensures { λ r. ⌜ Keeps self r (now (words .entry)) (now (bytes .entry)) (now (words .exit)) (now (bytes .exit)) ⌝ }
     {
         let link = end_link(self.diags);
@@ -160,7 +171,8 @@ impl LowerCtx {
         name_span: Span,
         text: PathAt,
     ) -> LowerCtx
-        ensures { λ r. ⌜ Steps self r (now (words .entry)) (now (bytes .entry)) (now (words .exit)) (now (bytes .exit)) (emit (diagMade code (pathIn (self .bytes) (now (bytes .entry)) text) span «name_span» ∷ [])) ⌝ }
+        ensures { λ r. ⌜ Steps self r (now (words .entry)) (now (bytes .entry)) (now (words .exit)) (now (bytes .exit))
+            (emit (diagMade code (pathIn (self .bytes) (now (bytes .entry)) text) span «name_span» ∷ [])) ⌝ }
         ensures { λ r. ⌜ Keeps self r (now (words .entry)) (now (bytes .entry)) (now (words .exit)) (now (bytes .exit)) ⌝ }
     {
         let link = end_link(self.diags);
@@ -235,7 +247,7 @@ pub(crate) fn end_link(chain: Chain) -> usize
     if chain.last == 0 {
         return 0;
     }
-    (chain.last as usize) * 16 + 1
+    (chain.last as usize) * layout::RECORD_WORDS + layout::NEXT_AT
 }
 
 // Where the link to the next child of a record stands.
@@ -243,7 +255,7 @@ pub(crate) fn child_link(owner: u32, last: u32) -> usize
     ensures { λ r. ⌜ r ≡ childLink owner last ⌝ }
 {
     if last == 0 {
-        return (owner as usize) * 16 + 6;
+        return (owner as usize) * layout::RECORD_WORDS + layout::CHILD_AT;
     }
-    (last as usize) * 16 + 1
+    (last as usize) * layout::RECORD_WORDS + layout::NEXT_AT
 }

@@ -2,17 +2,16 @@
 ghost use mathlib.Core.Path.{_≡_};
 ghost use mathlib.Core.Bool.{cond};
 ghost use mathlib.Core.List.{[]};
-ghost use Rattle.log.specs.Record.{extensionKind, referenceKind};
-ghost use Rattle.making.specs.Made.{Told, endLink, childLink, noChain, entered, withExt, leftDropped, leftKept};
-ghost use Rattle.making.specs.Recs.{meant, spannedRec, partRec, targetN, labelIn, pathWithin, targetMade, ToldPart};
-ghost use Rattle.making.specs.Represents.{Enters, LeavesDropped, LeavesKept, Newest};
+ghost use Rattle.log.specs.meaning.Record.{extensionKind, referenceKind};
+ghost use Rattle.making.specs.machine.Made.{Told, endLink, childLink, noChain, entered, withExt, leftDropped, leftKept};
+ghost use Rattle.making.specs.machine.Recs.{spannedRec, partRec, targetN, labelIn, pathWithin, ToldPart};
+ghost use Rattle.log.specs.machine.Parts.{meant, targetMade};
+ghost use Rattle.making.specs.machine.Represents.{Enters, LeavesDropped, LeavesKept, Newest};
 use crate::add::child_link;
 use crate::add::end_link;
 use crate::ctx::Chain;
 use crate::ctx::LowerCtx;
 use crate::place::PathAt;
-use crate::recs::Span;
-use crate::recs::TargetKind;
 use crate::recs::label_of;
 use crate::recs::part_rec;
 use crate::recs::path_of;
@@ -20,6 +19,9 @@ use crate::recs::spanned_rec;
 use crate::recs::target_number;
 use log::kinds::EXTENSION;
 use log::kinds::REFERENCE;
+use log::layout;
+use log::parts::Span;
+use log::parts::TargetKind;
 use log::record::out_field;
 
 impl LowerCtx {
@@ -51,7 +53,8 @@ impl LowerCtx {
         label: &[u8],
         path: &[u8],
     ) -> LowerCtx
-        ensures { λ r. ⌜ LeavesKept self r outer (now (words .entry)) (now (bytes .entry)) (now (words .exit)) (now (bytes .exit)) (targetMade kind (now (label .entry)) (now (path .entry))) (meant span) (meant «name_span») ⌝ }
+        ensures { λ r. ⌜ LeavesKept self r outer (now (words .entry)) (now (bytes .entry)) (now (words .exit)) (now (bytes .exit))
+            (targetMade kind (now (label .entry)) (now (path .entry))) (meant span) (meant «name_span») ⌝ }
     {
         let with = self.add_extension(words, bytes, span, name_span);
         let made = with.add_target(words, bytes, self.records, kind, label, path);
@@ -65,8 +68,8 @@ impl LowerCtx {
         let r = self.defs.last;
         PathAt {
             root: false,
-            start: out_field(words, r, 2),
-            size: out_field(words, r, 3),
+            start: out_field(words, r, layout::TEXT_START),
+            size: out_field(words, r, layout::TEXT_LENGTH),
         }
     }
 
@@ -78,7 +81,8 @@ impl LowerCtx {
         span: Span,
         name_span: Span,
     ) -> LowerCtx
-        ensures { λ r. ⌜ ToldPart self r (now (words .entry)) (now (bytes .entry)) (now (words .exit)) (now (bytes .exit)) (spannedRec extensionKind 0 (self .defs .first) span «name_span») [] [] (endLink (self .exts)) withExt ⌝ }
+        ensures { λ r. ⌜ ToldPart self r (now (words .entry)) (now (bytes .entry)) (now (words .exit)) (now (bytes .exit))
+            (spannedRec extensionKind 0 (self .defs .first) span «name_span») [] [] (endLink (self .exts)) withExt ⌝ }
     {
         let none: [u8; 0] = [];
         let link = end_link(self.exts);
@@ -97,7 +101,9 @@ impl LowerCtx {
         label: &[u8],
         path: &[u8],
     ) -> LowerCtx
-        ensures { λ r. ⌜ Told self r (now (words .entry)) (now (bytes .entry)) (now (words .exit)) (now (bytes .exit)) (partRec referenceKind (targetN kind) 0) (labelIn kind (now (label .entry))) (pathWithin kind (now (path .entry))) (childLink owner 0) ⌝ }
+        ensures { λ r. ⌜ Told self r (now (words .entry)) (now (bytes .entry)) (now (words .exit)) (now (bytes .exit))
+            (partRec referenceKind (targetN kind) 0) (labelIn kind (now (label .entry))) (pathWithin kind (now (path .entry)))
+            (childLink owner 0) ⌝ }
     {
         let link = child_link(owner, 0);
         let rec = part_rec(REFERENCE, target_number(kind), 0);

@@ -3,12 +3,11 @@ ghost use mathlib.Core.Path.{_≡_};
 ghost use Prim.Native.Nat.{_+_, _*_, _≤_, _<_};
 ghost use lib.ListN.{length};
 ghost use mathlib.Core.List.{[]};
-ghost use Rattle.paths_numbers.specs.Text.{written};
-ghost use Rattle.paths_numbers.specs.Path.{joined};
-ghost use Rattle.log.specs.Record.{logCount};
-ghost use Rattle.making.specs.Buffers.{mostBytes};
-ghost use Rattle.making.specs.PathPlaces.{pathIn};
-ghost use Rattle.making.specs.Made.{startAt, sixteen, setLink, hasRoom, makes, ranShort, oneMore, Told, ToldBytes};
+ghost use Rattle.paths_numbers.specs.meaning.Text.{written};
+ghost use Rattle.paths_numbers.specs.meaning.Path.{joined};
+ghost use Rattle.log.specs.meaning.Record.{logCount, mostBytes};
+ghost use Rattle.making.specs.machine.PathPlaces.{pathIn};
+ghost use Rattle.making.specs.machine.Made.{startAt, sixteen, setLink, hasRoom, makes, ranShort, oneMore, Told, ToldBytes};
 use crate::fill::write_and_copy;
 use crate::fill::write_joined;
 use crate::fill::write_joined_at;
@@ -20,6 +19,8 @@ use crate::place::joined_len;
 use crate::place::joined_len_at;
 use crate::place::place_len;
 use crate::place::settle;
+use log::layout::RECORD_WORDS;
+use log::limits::MOST_BYTES;
 use log::record::log_count;
 use paths_numbers::dt_property::ByteCount;
 use paths_numbers::dt_property::bytestring_len;
@@ -89,7 +90,7 @@ pub(crate) fn put_record(
         0,
         0,
     ];
-    write_words(words, (number as usize) * 16, &w);
+    write_words(words, (number as usize) * RECORD_WORDS, &w);
     if link != 0 {
         words[link] = number;
     }
@@ -113,10 +114,10 @@ fn has_room(ctx: LowerCtx, words: &[u32], bytes: &[u8], size: usize) -> bool
         return false;
     }
     let used = ctx.bytes as usize;
-    if 16777216 < used {
+    if MOST_BYTES < used {
         return false;
     }
-    if 16777216 - used < size {
+    if MOST_BYTES - used < size {
         return false;
     }
     used + size <= bytes.len()
@@ -134,7 +135,8 @@ impl LowerCtx {
         second: &[u8],
         link: usize,
     ) -> LowerCtx
-        ensures { λ r. ⌜ Told self r (now (words .entry)) (now (bytes .entry)) (now (words .exit)) (now (bytes .exit)) rec (now (first .entry)) (now (second .entry)) link ⌝ }
+        ensures { λ r. ⌜ Told self r (now (words .entry)) (now (bytes .entry)) (now (words .exit)) (now (bytes .exit)) rec
+            (now (first .entry)) (now (second .entry)) link ⌝ }
     {
         if !self.admits(words, bytes, first.len() + second.len(), link) {
             return self.run_short();
@@ -154,7 +156,8 @@ impl LowerCtx {
         unit: &[u8],
         link: usize,
     ) -> LowerCtx
-        ensures { λ r. ⌜ Told self r (now (words .entry)) (now (bytes .entry)) (now (words .exit)) (now (bytes .exit)) rec (joined (pathIn (self .bytes) (now (bytes .entry)) path) (now (name .entry)) (now (unit .entry))) [] link ⌝ }
+        ensures { λ r. ⌜ Told self r (now (words .entry)) (now (bytes .entry)) (now (words .exit)) (now (bytes .exit)) rec
+            (joined (pathIn (self .bytes) (now (bytes .entry)) path) (now (name .entry)) (now (unit .entry))) [] link ⌝ }
     {
         let place = settle(path, self.bytes, bytes);
         let size = joined_len(bytes, place, name, unit);
@@ -175,7 +178,8 @@ impl LowerCtx {
         name: PathAt,
         link: usize,
     ) -> LowerCtx
-        ensures { λ r. ⌜ Told self r (now (words .entry)) (now (bytes .entry)) (now (words .exit)) (now (bytes .exit)) rec (joined (pathIn (self .bytes) (now (bytes .entry)) path) (pathIn (self .bytes) (now (bytes .entry)) name) []) [] link ⌝ }
+        ensures { λ r. ⌜ Told self r (now (words .entry)) (now (bytes .entry)) (now (words .exit)) (now (bytes .exit)) rec
+            (joined (pathIn (self .bytes) (now (bytes .entry)) path) (pathIn (self .bytes) (now (bytes .entry)) name) []) [] link ⌝ }
     {
         let place = settle(path, self.bytes, bytes);
         let below = settle(name, self.bytes, bytes);
@@ -196,7 +200,8 @@ impl LowerCtx {
         path: PathAt,
         link: usize,
     ) -> LowerCtx
-        ensures { λ r. ⌜ Told self r (now (words .entry)) (now (bytes .entry)) (now (words .exit)) (now (bytes .exit)) rec (pathIn (self .bytes) (now (bytes .entry)) path) [] link ⌝ }
+        ensures { λ r. ⌜ Told self r (now (words .entry)) (now (bytes .entry)) (now (words .exit)) (now (bytes .exit)) rec
+            (pathIn (self .bytes) (now (bytes .entry)) path) [] link ⌝ }
     {
         let place = settle(path, self.bytes, bytes);
         let size = place_len(place);
@@ -217,7 +222,8 @@ impl LowerCtx {
         path: PathAt,
         link: usize,
     ) -> LowerCtx
-        ensures { λ r. ⌜ Told self r (now (words .entry)) (now (bytes .entry)) (now (words .exit)) (now (bytes .exit)) rec (now (label .entry)) (pathIn (self .bytes) (now (bytes .entry)) path) link ⌝ }
+        ensures { λ r. ⌜ Told self r (now (words .entry)) (now (bytes .entry)) (now (words .exit)) (now (bytes .exit)) rec
+            (now (label .entry)) (pathIn (self .bytes) (now (bytes .entry)) path) link ⌝ }
     {
         let place = settle(path, self.bytes, bytes);
         let size = place_len(place);
@@ -237,7 +243,8 @@ impl LowerCtx {
         text: &[u8],
         link: usize,
     ) -> LowerCtx
-        ensures { λ r. ⌜ ToldBytes self r (now (words .entry)) (now (bytes .entry)) (now (words .exit)) (now (bytes .exit)) rec (now (text .entry)) link ⌝ }
+        ensures { λ r. ⌜ ToldBytes self r (now (words .entry)) (now (bytes .entry)) (now (words .exit)) (now (bytes .exit)) rec
+            (now (text .entry)) link ⌝ }
     {
         match bytestring_len(text) {
             ByteCount::MissingDigit => self,
@@ -268,7 +275,8 @@ impl LowerCtx {
     fn put(self, words: &mut [u32], rec: Rec, first: u32, second: u32, link: usize) -> LowerCtx
         requires { ⌜ (self .records < logCount (now words)) × (link < length (now words)) × (self .bytes + (first + second) ≤ mostBytes) ⌝ }
         ensures { λ r. ⌜ r ≡ oneMore self (first + second) ⌝ }
-        ensures { λ _. ⌜ now (words .exit) ≡ setLink link (self .records) (written (now (words .entry)) (self .records * 16) (sixteen (self .bytes) first second rec)) ⌝ }
+        ensures { λ _. ⌜ now (words .exit) ≡ setLink link (self .records)
+            (written (now (words .entry)) (self .records * 16) (sixteen (self .bytes) first second rec)) ⌝ }
     {
         put_record(words, self.records, self.bytes, first, second, link, rec);
         self.count_one(first + second)

@@ -1,6 +1,6 @@
 // What lowering drops with a body that is not kept.
 ghost use mathlib.Core.Path.{_≡_};
-ghost use Rattle.making.specs.Dropped.{staysKind, droppedWords, droppedBytes, Drops, DropsFrom};
+ghost use Rattle.making.specs.machine.Dropped.{staysKind, droppedWords, droppedBytes, Drops, DropsFrom};
 use crate::ctx::LowerCtx;
 use crate::remove::clear_texts;
 use crate::remove::clear_words;

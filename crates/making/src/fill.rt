@@ -3,9 +3,9 @@ ghost use mathlib.Core.Path.{_≡_};
 ghost use Prim.Native.Nat.{_+_, _≤_};
 ghost use lib.ListN.{length, take, drop, replicate};
 ghost use mathlib.Core.List.{[], _++_};
-ghost use Rattle.paths_numbers.specs.Text.{written};
-ghost use Rattle.paths_numbers.specs.Path.{joined};
-ghost use Rattle.making.specs.PathPlaces.{pathOf};
+ghost use Rattle.paths_numbers.specs.meaning.Text.{written};
+ghost use Rattle.paths_numbers.specs.meaning.Path.{joined};
+ghost use Rattle.making.specs.machine.PathPlaces.{pathOf};
 use crate::place::PathAt;
 use crate::place::joined_byte_at;
 use crate::place::joined_len;
@@ -81,8 +81,10 @@ pub(crate) fn write_and_copy(out: &mut [u8], at: usize, text: &[u8], path: PathA
 // Writes the path of what has this name and unit address under the path of a place, from index `at`
 // on, which lies behind it.
 pub(crate) fn write_joined(out: &mut [u8], at: usize, path: PathAt, name: &[u8], unit: &[u8])
-    requires { ⌜ (path .start + path .size ≤ at) × (at + length (joined (pathOf (now out) path) (now name) (now unit)) ≤ length (now out)) ⌝ }
-    ensures { λ _. ⌜ now (out .exit) ≡ written (now (out .entry)) at (joined (pathOf (now (out .entry)) path) (now (name .entry)) (now (unit .entry))) ⌝ }
+    requires { ⌜ (path .start + path .size ≤ at) × (at + length (joined (pathOf (now out) path) (now name) (now unit)) ≤ length
+        (now out)) ⌝ }
+    ensures { λ _. ⌜ now (out .exit) ≡ written (now (out .entry)) at
+        (joined (pathOf (now (out .entry)) path) (now (name .entry)) (now (unit .entry))) ⌝ }
 {
     if path.root {
         let root = [b'/'];
@@ -111,8 +113,10 @@ fn write_joined_below(
     unit: &[u8],
     n: usize,
 )
-    requires { ⌜ (from + size ≤ at) × (at + n ≤ length (now out)) × (n ≡ length (joined (take size (drop from (now out))) (now name) (now unit))) ⌝ }
-    ensures { λ _. ⌜ now (out .exit) ≡ written (now (out .entry)) at (joined (take size (drop from (now (out .entry)))) (now (name .entry)) (now (unit .entry))) ⌝ }
+    requires { ⌜ (from + size ≤ at) × (at + n ≤ length (now out))
+        × (n ≡ length (joined (take size (drop from (now out))) (now name) (now unit))) ⌝ }
+    ensures { λ _. ⌜ now (out .exit) ≡ written (now (out .entry)) at
+        (joined (take size (drop from (now (out .entry)))) (now (name .entry)) (now (unit .entry))) ⌝ }
 {
     let mut i = 0;
     while i < n {
@@ -125,8 +129,10 @@ fn write_joined_below(
 // Writes the `n` bytes of the path of a name under a path, both of places, from index `at` on, which
 // lies behind them.
 pub(crate) fn write_joined_at(out: &mut [u8], at: usize, path: PathAt, name: PathAt, n: usize)
-    requires { ⌜ (path .start + path .size ≤ at) × (name .start + name .size ≤ at) × (at + n ≤ length (now out)) × (n ≡ length (joined (pathOf (now out) path) (pathOf (now out) name) [])) ⌝ }
-    ensures { λ _. ⌜ now (out .exit) ≡ written (now (out .entry)) at (joined (pathOf (now (out .entry)) path) (pathOf (now (out .entry)) name) []) ⌝ }
+    requires { ⌜ (path .start + path .size ≤ at) × (name .start + name .size ≤ at) × (at + n ≤ length (now out))
+        × (n ≡ length (joined (pathOf (now out) path) (pathOf (now out) name) [])) ⌝ }
+    ensures { λ _. ⌜ now (out .exit) ≡ written (now (out .entry)) at
+        (joined (pathOf (now (out .entry)) path) (pathOf (now (out .entry)) name) []) ⌝ }
 {
     let mut i = 0;
     while i < n {

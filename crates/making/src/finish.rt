@@ -1,5 +1,5 @@
 // Where a log ends: record 0.
-ghost use Rattle.making.specs.Represents.{Finishes};
+ghost use Rattle.making.specs.machine.Represents.{Finishes};
 use crate::ctx::LowerCtx;
 use crate::fill::write_words;
 

@@ -3,8 +3,10 @@ ghost use mathlib.Core.Path.{_≡_};
 ghost use Prim.Native.Nat.{_+_, _≤_};
 ghost use mathlib.Core.List.{[]};
 ghost use lib.ListN.{length, getD};
-ghost use Rattle.paths_numbers.specs.Path.{joined, joinedLen};
-ghost use Rattle.making.specs.PathPlaces.{pathOf, placeLen, settled};
+ghost use Rattle.paths_numbers.specs.meaning.Path.{joined, joinedLen};
+ghost use Rattle.making.specs.machine.PathPlaces.{placedIn, pathOf, placeLen, settled};
+use log::layout;
+use log::record::out_field;
 use log::record::text_in;
 use paths_numbers::dt_node::path_byte;
 use paths_numbers::dt_node::path_len;
@@ -14,6 +16,28 @@ pub struct PathAt {
     pub root: bool,
     pub start: u32,
     pub size: u32,
+}
+
+// The place of a record's first text: a definition's path, a label.
+pub fn first_place(out: &[u32], r: u32) -> PathAt
+    ensures { λ p. ⌜ p ≡ placedIn (now (out .entry)) r 2 ⌝ }
+{
+    PathAt {
+        root: false,
+        start: out_field(out, r, layout::TEXT_START),
+        size: out_field(out, r, layout::TEXT_LENGTH),
+    }
+}
+
+// The place of its second text: a binding's path, a reference's.
+pub fn second_place(out: &[u32], r: u32) -> PathAt
+    ensures { λ p. ⌜ p ≡ placedIn (now (out .entry)) r 4 ⌝ }
+{
+    PathAt {
+        root: false,
+        start: out_field(out, r, layout::SECOND_START),
+        size: out_field(out, r, layout::SECOND_LENGTH),
+    }
 }
 
 // The same, or an empty part where its bytes do not lie among those in use.

@@ -1,7 +1,7 @@
 // What the records that lowering makes say beside their texts.
 ghost use mathlib.Core.Path.{_≡_};
 ghost use mathlib.Core.List.{[]};
-ghost use Rattle.making.specs.Recs.{kindNumber, omitNumber, spannedRec, partRec, targetN, labelIn, pathWithin};
+ghost use Rattle.making.specs.machine.Recs.{kindNumber, omitNumber, spannedRec, partRec, targetN, labelIn, pathWithin};
 use crate::ctx::Rec;
 use log::kinds::DELETED_NODE;
 use log::kinds::DELETED_PROPERTY;
@@ -9,12 +9,8 @@ use log::kinds::NODE;
 use log::kinds::PLUGIN;
 use log::kinds::PROPERTY;
 use log::kinds::VERSION;
-
-// A span: where it starts and where it ends.
-pub struct Span {
-    pub from: u32,
-    pub to: u32,
-}
+use log::parts::Span;
+use log::parts::TargetKind;
 
 // What a definition is; a node with an omit mark is a kind of its own.
 pub enum DefKind {
@@ -25,13 +21,6 @@ pub enum DefKind {
     DeletedProperty,
     Version,
     Plugin,
-}
-
-// What a reference names: a label, a path below a label, or a path.
-pub enum TargetKind {
-    Label,
-    LabelPath,
-    Path,
 }
 
 // 01's number of a definition's kind.

@@ -2,12 +2,13 @@
 ghost use mathlib.Core.Path.{_≡_};
 ghost use mathlib.Core.Bool.{cond};
 ghost use lib.Dec.{eqb};
-ghost use Rattle.making.specs.Removed.{clearedText, clearedTexts, clearedWords, setNext, withoutBind};
-ghost use Rattle.making.specs.Represents.{Unlinks};
+ghost use Rattle.making.specs.machine.Removed.{clearedText, clearedTexts, clearedWords, setNext, withoutBind};
+ghost use Rattle.making.specs.machine.Represents.{Unlinks};
 use crate::ctx::Chain;
 use crate::ctx::LowerCtx;
 use crate::fill::zero_bytes;
 use crate::fill::zero_words;
+use log::layout;
 use log::record::next_of;
 use log::record::out_field;
 
@@ -61,8 +62,16 @@ fn end_without(side: u32, beyond: u32, end: u32) -> u32
 pub(crate) fn clear_texts(words: &[u32], bytes: &mut [u8], r: u32)
     ensures { λ _. ⌜ now (bytes .exit) ≡ clearedTexts (now (words .entry)) (now (bytes .entry)) r ⌝ }
 {
-    clear_text(bytes, out_field(words, r, 2), out_field(words, r, 3));
-    clear_text(bytes, out_field(words, r, 4), out_field(words, r, 5));
+    clear_text(
+        bytes,
+        out_field(words, r, layout::TEXT_START),
+        out_field(words, r, layout::TEXT_LENGTH),
+    );
+    clear_text(
+        bytes,
+        out_field(words, r, layout::SECOND_START),
+        out_field(words, r, layout::SECOND_LENGTH),
+    );
 }
 
 // Sets a text to zeros, where it lies in the bytes.
@@ -80,11 +89,11 @@ fn clear_text(bytes: &mut [u8], start: u32, size: u32)
 pub(crate) fn clear_words(words: &mut [u32], r: u32)
     ensures { λ _. ⌜ now (words .exit) ≡ clearedWords (now (words .entry)) r ⌝ }
 {
-    let at = (r as usize) * 16;
-    if words.len() < at + 16 {
+    let at = (r as usize) * layout::RECORD_WORDS;
+    if words.len() < at + layout::RECORD_WORDS {
         return;
     }
-    zero_words(words, at, 16);
+    zero_words(words, at, layout::RECORD_WORDS);
 }
 
 // Sets the next link of a record, where there is one.
@@ -94,7 +103,7 @@ fn set_next(words: &mut [u32], r: u32, next: u32)
     if r == 0 {
         return;
     }
-    let at = (r as usize) * 16 + 1;
+    let at = (r as usize) * layout::RECORD_WORDS + layout::NEXT_AT;
     if words.len() <= at {
         return;
     }

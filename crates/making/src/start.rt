@@ -1,9 +1,9 @@
 // Where a log starts: both buffers cleared, and nothing made; and where the post checks start.
 ghost use mathlib.Core.Path.{_≡_};
 ghost use lib.ListN.{length, replicate};
-ghost use Rattle.making.specs.State.{start};
-ghost use Rattle.making.specs.Made.{checked};
-ghost use Rattle.making.specs.Represents.{Represents, atStart, StartsChecks};
+ghost use Rattle.making.specs.meaning.State.{start};
+ghost use Rattle.making.specs.machine.Made.{checked};
+ghost use Rattle.making.specs.machine.Represents.{Represents, atStart, StartsChecks};
 use crate::ctx::Chain;
 use crate::ctx::LowerCtx;
 use crate::fill::zero_bytes;

@@ -10,7 +10,7 @@ use mir.Syntax.{w64}
 use mir.Val.{SFits, toZ, ofZ}
 use mir.ValLaws.{toZ-pos, toZ-neg, sfits-le}
 use Rattle.paths_numbers.proofs.Integers.{Z, read, up, below, not-below, number, negative, natural}
-use Rattle.paths_numbers.specs.Expression.{turned, shiftBy}
+use Rattle.paths_numbers.specs.meaning.Expression.{turned, shiftBy}
 use Rattle.paths_numbers.specs.declared.operators.Evaluated.the-variants.{Value, ShiftAmount}
 
 -- the machine turns each bit

@@ -8,9 +8,9 @@ use borrow.Author.Tests.{eq-eqb, ne-eqb, eqb-true, ltb-true, ltb-false}
 use lib.Dec.{eqb, ltb}
 use lib.ListN.{length, getD, take, drop, drop-of-length-le, length-append, length-drop}
 use lib.Seq.{getD-drop, getD-at, split-at, take-at}
-use Rattle.paths_numbers.specs.Byte.{ampersand, openingBrace, closingBrace}
-use Rattle.paths_numbers.specs.Text.{begins}
-use Rattle.paths_numbers.specs.Reference.{lastByte, isBraced, innerText}
+use Rattle.paths_numbers.specs.meaning.Byte.{ampersand, openingBrace, closingBrace}
+use Rattle.paths_numbers.specs.meaning.Text.{begins}
+use Rattle.paths_numbers.specs.meaning.Reference.{lastByte, isBraced, innerText}
 use Rattle.paths_numbers.proofs.Texts.{no-rest}
 
 -- a test that changes nothing
@@ -43,7 +43,8 @@ braced-second [] h = refl
 braced-second (a ∷ []) h = rw (cond-same (eqb a ampersand) false) refl
 braced-second (a ∷ b ∷ s) h = simp (ne-eqb _ _ h, cond-same)
 
-pub braced-last : (s : List ℕ) → 3 ≤ length s → getD s 0 0 ≡ ampersand → getD s 1 0 ≡ openingBrace → eqb (lastByte s) closingBrace ≡ isBraced s
+pub braced-last : (s : List ℕ) → 3 ≤ length s → getD s 0 0 ≡ ampersand → getD s 1 0 ≡ openingBrace
+    → eqb (lastByte s) closingBrace ≡ isBraced s
 unfolding isBraced begins
 braced-last [] h e f = absurd (omega arith)
 braced-last (a ∷ []) h e f = absurd (omega arith)

@@ -9,11 +9,11 @@ use borrow.Author.Tests.{lt-ltb, le-ltb, le-leb, lt-leb, eq-eqb, ne-eqb}
 use lib.Dec.{ltb}
 use lib.ListN.{length, getD, drop, set, drop-of-length-le, length-set}
 use lib.Seq.{drop-cons}
-use Rattle.paths_numbers.specs.Byte.{digitOf, closingBracket}
-use Rattle.paths_numbers.specs.Bytestring.{nibbles, pairs, bytesOf, isOdd, countOf, bytesAnswer, bytesOut}
+use Rattle.paths_numbers.specs.meaning.Byte.{digitOf, closingBracket}
+use Rattle.paths_numbers.specs.meaning.Bytestring.{nibbles, pairs, bytesOf, isOdd, countOf, bytesAnswer, bytesOut}
 use Rattle.paths_numbers.specs.declared.dt_property.ByteCount.the-variants as C
 use Rattle.paths_numbers.specs.declared.dt_property.BytesWritten.the-variants as W
-use Rattle.paths_numbers.specs.Text.{written}
+use Rattle.paths_numbers.specs.meaning.Text.{written}
 use Rattle.paths_numbers.proofs.Written.{written-cons, written-nil}
 
 -- what the byte at i adds to the digits: it ends them, is passed over, or is one
@@ -89,7 +89,8 @@ left-end s i first e = go (ltb first 16) refl
     go false o = rw (o, e) refl
 
 -- a byte that is no digit, a digit that has to wait, and one that makes a pair
-pub left-skip : (s : List ℕ) (i first : ℕ) → nibbles (drop i s) ≡ nibbles (drop (i + 1) s) → digitsLeft s i first ≡ digitsLeft s (i + 1) first
+pub left-skip : (s : List ℕ) (i first : ℕ) → nibbles (drop i s) ≡ nibbles (drop (i + 1) s)
+    → digitsLeft s i first ≡ digitsLeft s (i + 1) first
 unfolding digitsLeft
 left-skip s i first e = rw e refl
 
@@ -125,7 +126,8 @@ pub write-end : {w l out : List ℕ} {to : ℕ} → ToWrite w l out to → pairs
 write-end {w} {l} {out} {to} t e = sym (t .whole ∙ rw e (written-nil out to))
 
 -- the answer and the buffer where a digit is missing, where the bytes fit, and where they do not
-pub lowered-missing : (s out : List ℕ) (at : ℕ) → countOf s ≡ C.MissingDigit → (W.MissingDigit ≡ bytesAnswer s (length out) at) × (out ≡ bytesOut s out at)
+pub lowered-missing : (s out : List ℕ) (at : ℕ) → countOf s ≡ C.MissingDigit
+    → (W.MissingDigit ≡ bytesAnswer s (length out) at) × (out ≡ bytesOut s out at)
 unfolding bytesAnswer bytesOut
 lowered-missing s out at e = let o = count-missing s e in (simp o, simp o)
 

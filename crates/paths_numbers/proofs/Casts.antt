@@ -78,10 +78,12 @@ module _ (a : ℤ) (f : SFits w64 a) where
   less-fits = minus-fits (ofZ w64 a) a read f
 
   pub less-cast-fits : leZ (pos 0) (Z a) ≡ false → T (nonNeg (Z (negsuc 0 -ℤ Z a))) × Fits w64 (natAbs (Z (negsuc 0 -ℤ Z a)))
-  less-cast-fits t = cast-fits (ofZ w64 (negsuc 0 -ℤ Z a)) (flip a) (minus-is (ofZ w64 a) a read f) (flip-fits a f) (below-zero a (rw read at t))
+  less-cast-fits t = cast-fits (ofZ w64 (negsuc 0 -ℤ Z a)) (flip a) (minus-is (ofZ w64 a) a read f) (flip-fits a f)
+      (below-zero a (rw read at t))
 
   pub less-cast-is : leZ (pos 0) (Z a) ≡ false → negsuc (natAbs (Z (negsuc 0 -ℤ Z a))) ≡ a
-  less-cast-is t = ap flip (cast-is (ofZ w64 (negsuc 0 -ℤ Z a)) (flip a) (minus-is (ofZ w64 a) a read f) (flip-fits a f) (below-zero a (rw read at t))) ∙ flip-flip a
+  less-cast-is t = ap flip (cast-is (ofZ w64 (negsuc 0 -ℤ Z a)) (flip a) (minus-is (ofZ w64 a) a read f) (flip-fits a f)
+      (below-zero a (rw read at t))) ∙ flip-flip a
 
 -- n below 2 ^ 63 as a signed number
 module _ (n : ℕ) (h : n < 2 ^ 63) where

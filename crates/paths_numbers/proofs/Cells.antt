@@ -8,9 +8,9 @@ use borrow.Author.Tests.{lt-ltb, le-ltb, ne-eqb}
 use lib.IntN.{pos, negsuc}
 use lib.ListN.{length}
 use lib.Pow.{pow-pos, pow-mono}
-use Rattle.paths_numbers.specs.Cell.{bitsOf, largest, sized, sizeOf, exprCell, charCell}
-use Rattle.paths_numbers.specs.Number.{unsignedNumber}
-use Rattle.paths_numbers.specs.Text.{isEmpty}
+use Rattle.paths_numbers.specs.meaning.Cell.{bitsOf, largest, sized, sizeOf, exprCell, charCell}
+use Rattle.paths_numbers.specs.meaning.Number.{unsignedNumber}
+use Rattle.paths_numbers.specs.meaning.Text.{isEmpty}
 use Rattle.paths_numbers.specs.declared.expr_eval.ParsedInt.{ParsedInt}
 use Rattle.paths_numbers.specs.declared.expr_eval.ParsedInt.the-variants.{Value}
 use Rattle.paths_numbers.specs.declared.dt_property.BitsSize.{BitsSize}

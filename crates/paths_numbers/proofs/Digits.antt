@@ -11,15 +11,16 @@ use lib.Dec.{ltb, leb}
 use lib.ListN.{length, getD, drop, drop-of-length-le}
 use lib.Seq.{drop-cons}
 use Rattle.paths_numbers.proofs.Texts.{cond-in}
-use Rattle.paths_numbers.specs.Byte.{digitOf}
-use Rattle.paths_numbers.specs.Number.{digits, behindSign, Within}
+use Rattle.paths_numbers.specs.meaning.Byte.{digitOf}
+use Rattle.paths_numbers.specs.meaning.Number.{digits, behindSign, Within}
 use Rattle.paths_numbers.specs.declared.expr_eval.IntErrorKind.{IntErrorKind}
 use Rattle.paths_numbers.specs.declared.expr_eval.IntErrorKind.the-variants.{InvalidDigit}
 use Rattle.paths_numbers.specs.declared.expr_eval.ParsedInt.{ParsedInt}
 use Rattle.paths_numbers.specs.declared.expr_eval.ParsedInt.the-variants.{Value, Failed}
 
 -- w is what the whole text gives, and the invariant says that the rest gives it too
-module _ (base most : ℕ) (over : IntErrorKind) (acc : ℕ) (s : List ℕ) (i : ℕ) (w : ParsedInt) (inv : w ≡ digits base most over acc (drop i s)) where
+module _ (base most : ℕ) (over : IntErrorKind) (acc : ℕ) (s : List ℕ) (i : ℕ) (w : ParsedInt)
+    (inv : w ≡ digits base most over acc (drop i s)) where
   -- the next byte is no digit of the base
   pub bad : i < length s → base ≤ digitOf (getD s i 0) → Failed InvalidDigit ≡ w
   unfolding digits
@@ -31,7 +32,8 @@ module _ (base most : ℕ) (over : IntErrorKind) (acc : ℕ) (s : List ℕ) (i :
   large h k l = sym (inv ∙ rw (drop-cons s i 0 h) (simp (lt-ltb _ _ k, lt-leb _ _ l)))
 
   -- the next digit, d, is taken
-  pub good : i < length s → (d : ℕ) → d ≡ digitOf (getD s i 0) → d < base → acc * base + d ≤ most → w ≡ digits base most over (acc * base + d) (drop (i + 1) s)
+  pub good : i < length s → (d : ℕ) → d ≡ digitOf (getD s i 0) → d < base → acc * base + d ≤ most
+      → w ≡ digits base most over (acc * base + d) (drop (i + 1) s)
   unfolding digits
   good h d e k l = inv ∙ rw (e, drop-cons s i 0 h, add-one) (simp (lt-ltb _ _ (rw e at k), le-leb _ _ (rw e at l)))
 

@@ -9,9 +9,9 @@ use borrow.Author.Tests.{eqb-true}
 use lib.Dec.{eqb}
 use lib.ListN.{length, getD, drop, drop-of-length-le}
 use lib.Seq.{drop-cons}
-use Rattle.paths_numbers.specs.Byte.{slash, atSign}
-use Rattle.paths_numbers.specs.Text.{same, isEmpty, startsWith}
-use Rattle.paths_numbers.specs.Path.{root, components, goodPath, join, joined, withUnit}
+use Rattle.paths_numbers.specs.meaning.Byte.{slash, atSign}
+use Rattle.paths_numbers.specs.meaning.Text.{same, isEmpty, startsWith}
+use Rattle.paths_numbers.specs.meaning.Path.{root, components, goodPath, join, joined, withUnit}
 use Rattle.paths_numbers.proofs.Texts.{by-test, both, not-both, same-ne}
 use Rattle.paths_numbers.proofs.Joined.{join-plain}
 
@@ -71,7 +71,8 @@ name-components (b ∷ s) n w =
     (λ e. rw e (plain-components s (rw e at w)))
 
 -- a "/" and a component behind components are components
-components-append : (after : Bool) (s t : List ℕ) → components after s ≡ true → components true t ≡ true → components after (s ++ slash ∷ t) ≡ true
+components-append : (after : Bool) (s t : List ℕ) → components after s ≡ true → components true t ≡ true
+    → components after (s ++ slash ∷ t) ≡ true
 unfolding components
 components-append true [] t e h = absurd (not-both e refl)
 components-append false [] t e h = h
@@ -102,7 +103,8 @@ good-parts a s g r =
     (eqb-true a slash (h .0), rw (h .0) at (h .1))
 
 -- a good path and a name that is not empty and has no "/" join to a good path
-pub good-join : (parent name : List ℕ) → goodPath parent ≡ true → isEmpty name ≡ false → withoutSlash name ≡ true → goodPath (join parent name) ≡ true
+pub good-join : (parent name : List ℕ) → goodPath parent ≡ true → isEmpty name ≡ false → withoutSlash name ≡ true
+    → goodPath (join parent name) ≡ true
 unfolding same
 good-join [] name g n w = rw (join-plain [] name (plain-not-root name w)) (good-components name (name-components name n w))
 good-join (a ∷ s) name g n w =
@@ -133,7 +135,8 @@ unfolding withUnit withoutSlash
 unit-plain name unit v w = by-test (isEmpty unit) (λ e. rw e v) (λ e. rw e (plain-append name (atSign ∷ unit) v w))
 
 -- so a good path and such a name with its unit address join to a good path
-pub good-joined : (parent name unit : List ℕ) → goodPath parent ≡ true → isEmpty name ≡ false → withoutSlash name ≡ true → withoutSlash unit ≡ true
+pub good-joined : (parent name unit : List ℕ) → goodPath parent ≡ true → isEmpty name ≡ false → withoutSlash name ≡ true
+    → withoutSlash unit ≡ true
     → goodPath (joined parent name unit) ≡ true
 unfolding joined
 good-joined parent name unit g n v w = good-join parent (withUnit name unit) g (unit-filled name unit n) (unit-plain name unit v w)

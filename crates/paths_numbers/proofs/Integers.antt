@@ -10,7 +10,7 @@ use lib.Signed.{mag, ltZ}
 use mir.Syntax.{w64}
 use mir.Val.{SFits, toZ, ofZ}
 use mir.ValLaws.{toZ-ofZ}
-use Rattle.paths_numbers.specs.Expression.{within}
+use Rattle.paths_numbers.specs.meaning.Expression.{within}
 use Rattle.paths_numbers.specs.declared.operators.Evaluated.the-variants.{Value, Outside}
 
 -- what the machine reads of a number's bits

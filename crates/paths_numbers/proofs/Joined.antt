@@ -8,9 +8,9 @@ use borrow.Author.Tests.{ne-eqb}
 use lib.Dec.{eqb}
 use lib.ListN.{length, getD, length-append, List·getD-append, List·getD-eq-default}
 use lib.Seq.{getD-append-add, getD-at}
-use Rattle.paths_numbers.specs.Byte.{slash, atSign}
-use Rattle.paths_numbers.specs.Text.{same, isEmpty}
-use Rattle.paths_numbers.specs.Path.{root, stem, join, joined, withUnit}
+use Rattle.paths_numbers.specs.meaning.Byte.{slash, atSign}
+use Rattle.paths_numbers.specs.meaning.Text.{same, isEmpty}
+use Rattle.paths_numbers.specs.meaning.Path.{root, stem, join, joined, withUnit}
 use Rattle.paths_numbers.proofs.Texts.{by-test, same-lengths, is-empty, not-empty}
 
 -- the bytes of two texts with one byte between them: those behind it
@@ -55,7 +55,8 @@ pub name-sign : (name unit : List ℕ) (i : ℕ) → length name ≡ i → (leng
 name-sign name unit i h n = rw (unit-some name unit n) (sym (getD-at name atSign unit 0 i h))
 
 -- and behind that the unit address
-pub name-unit : (name unit : List ℕ) (i : ℕ) → length name < i → (length unit ≡ 0 → ⊥) → getD unit (i - length name - 1) 0 ≡ getD (withUnit name unit) i 0
+pub name-unit : (name unit : List ℕ) (i : ℕ) → length name < i → (length unit ≡ 0 → ⊥)
+    → getD unit (i - length name - 1) 0 ≡ getD (withUnit name unit) i 0
 name-unit name unit i h n = rw (unit-some name unit n) (sym (behind name atSign unit i h))
 
 -- by whether the parent is "/"
@@ -89,18 +90,21 @@ module _ (parent name unit : List ℕ) where
   joined-plain e = join-plain parent (withUnit name unit) e
 
   -- its length
-  pub joined-length : same (withUnit name unit) root ≡ false → length (joined parent name unit) ≡ length (stem parent) + 1 + length (withUnit name unit)
+  pub joined-length : same (withUnit name unit) root ≡ false → length (joined parent name unit) ≡ length (stem parent) + 1 + length
+      (withUnit name unit)
   joined-length e = rw (joined-plain e) (omega (arith, length-append (stem parent) (slash ∷ withUnit name unit)))
 
   -- its bytes: those of the parent
-  pub joined-first : same (withUnit name unit) root ≡ false → (i : ℕ) → i < length (stem parent) → getD parent i 0 ≡ getD (joined parent name unit) i 0
+  pub joined-first : same (withUnit name unit) root ≡ false → (i : ℕ) → i < length (stem parent)
+      → getD parent i 0 ≡ getD (joined parent name unit) i 0
   joined-first e i h =
       sym (ap (λ (s : List ℕ). getD s i 0) (joined-plain e)
       ∙ List·getD-append (stem parent) (slash ∷ withUnit name unit) 0 i h
       ∙ ap (λ (s : List ℕ). getD s i 0) (stem-is parent i h))
 
   -- a "/"
-  pub joined-slash : same (withUnit name unit) root ≡ false → (i : ℕ) → i ≡ length (stem parent) → slash ≡ getD (joined parent name unit) i 0
+  pub joined-slash : same (withUnit name unit) root ≡ false → (i : ℕ) → i ≡ length (stem parent)
+      → slash ≡ getD (joined parent name unit) i 0
   joined-slash e i h = sym (ap (λ (s : List ℕ). getD s i 0) (joined-plain e) ∙ getD-at (stem parent) slash (withUnit name unit) 0 i (sym h))
 
   -- those of the name

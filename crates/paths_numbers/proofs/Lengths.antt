@@ -5,7 +5,7 @@ use mathlib.Core.Bool.{Bool, true, false}
 use native.Mathlib.Omega.{arith}
 use borrow.Author.Tests.{le-leb, leb-true, leb-false, ne-eqb}
 use lib.Dec.{eqb, leb}
-use Rattle.paths_numbers.specs.Path.{atMost}
+use Rattle.paths_numbers.specs.meaning.Path.{atMost}
 use Rattle.paths_numbers.proofs.Texts.{by-test}
 
 -- what is not larger is kept

@@ -22,3 +22,4 @@ pub mod Bytestring
 pub mod Braces
 pub mod Slashes
 pub mod Reference
+pub mod Lists

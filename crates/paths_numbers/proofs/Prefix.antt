@@ -7,7 +7,7 @@ use borrow.Author.Tests.{eq-eqb, ne-eqb}
 use lib.Dec.{eqb}
 use lib.ListN.{length, getD, take, drop}
 use Rattle.paths_numbers.proofs.Texts.{rest, cond-in}
-use Rattle.paths_numbers.specs.Number.{baseOf, baseOfLetter, behindPrefix}
+use Rattle.paths_numbers.specs.meaning.Number.{baseOf, baseOfLetter, behindPrefix}
 
 -- a text of less than two bytes has no prefix
 pub base-short : (s : List ℕ) → length s < 2 → 10 ≡ baseOf s
@@ -22,7 +22,8 @@ unfolding baseOf
 base-letter s c h e = rw (h, e)
 
 -- behind a 0 with no letter of a prefix the base is ten
-pub letter-none : (s : List ℕ) → getD s 0 0 ≡ 48 → (getD s 1 0 ≡ 120 → ⊥) → (getD s 1 0 ≡ 88 → ⊥) → (getD s 1 0 ≡ 98 → ⊥) → (getD s 1 0 ≡ 66 → ⊥) → (getD s 1 0 ≡ 111 → ⊥) → (getD s 1 0 ≡ 79 → ⊥) → 10 ≡ baseOf s
+pub letter-none : (s : List ℕ) → getD s 0 0 ≡ 48 → (getD s 1 0 ≡ 120 → ⊥) → (getD s 1 0 ≡ 88 → ⊥) → (getD s 1 0 ≡ 98 → ⊥)
+    → (getD s 1 0 ≡ 66 → ⊥) → (getD s 1 0 ≡ 111 → ⊥) → (getD s 1 0 ≡ 79 → ⊥) → 10 ≡ baseOf s
 unfolding baseOf
 letter-none s h x X b B o O =
     simp (eq-eqb _ _ h, ne-eqb _ _ x, ne-eqb _ _ X, ne-eqb _ _ b, ne-eqb _ _ B, ne-eqb _ _ o, ne-eqb _ _ O)

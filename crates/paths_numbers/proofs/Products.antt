@@ -10,7 +10,7 @@ use lib.Signed.{mag, ltZ, nonNeg, natAbs-le}
 use mir.Syntax.{w64}
 use mir.Val.{SFits, Fits}
 use Rattle.paths_numbers.proofs.Integers.{Z, read, up, number, kept, refused}
-use Rattle.paths_numbers.specs.Expression.{turned, within, mostOf}
+use Rattle.paths_numbers.specs.meaning.Expression.{turned, within, mostOf}
 use Rattle.paths_numbers.specs.declared.operators.Evaluated.the-variants.{Value, Outside}
 
 -- a size fits

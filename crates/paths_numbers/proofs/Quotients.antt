@@ -14,7 +14,7 @@ use mir.ValLaws.{sfits-le}
 use Rattle.paths_numbers.proofs.Integers.{Z, read}
 use Rattle.paths_numbers.proofs.Products.{neg-in}
 use Rattle.paths_numbers.proofs.Relations.{read-true}
-use Rattle.paths_numbers.specs.Expression.{isTrue, isWithin}
+use Rattle.paths_numbers.specs.meaning.Expression.{isTrue, isWithin}
 use Rattle.paths_numbers.specs.declared.operators.Evaluated.{Evaluated}
 
 -- the bits of -1

@@ -9,12 +9,14 @@ use borrow.Author.Tests.{eqb-true, eqb-false}
 use lib.Dec.{eqb}
 use lib.ListN.{length, take, drop}
 use lib.Seq.{take-length}
-use Rattle.paths_numbers.specs.Byte.{slash}
-use Rattle.paths_numbers.specs.Text.{startsWith}
-use Rattle.paths_numbers.specs.Reference.{Target, label, labelPath, path, unreadable, beforeSlash, hasSlash, inBraces, isBraced, innerText, target, labelOf, pathOf}
+use Rattle.paths_numbers.specs.meaning.Byte.{slash}
+use Rattle.paths_numbers.specs.meaning.Text.{startsWith}
+use Rattle.paths_numbers.specs.meaning.Reference.{Target, label, labelPath, path, unreadable, beforeSlash, hasSlash, inBraces}
+use Rattle.paths_numbers.specs.meaning.Reference.{isBraced, innerText, target, labelOf, pathOf}
 use Rattle.paths_numbers.proofs.Texts.{rest, no-rest}
 use Rattle.paths_numbers.proofs.Braces.{braced, braced-is, braced-inner, braced-text}
-use Rattle.paths_numbers.proofs.Slashes.{take-before, drop-behind, before-length, slash-found, slash-missing, slash-first, slash-inside, slash-split, before-none, before-some}
+use Rattle.paths_numbers.proofs.Slashes.{take-before, drop-behind, before-length, slash-found, slash-missing, slash-first}
+use Rattle.paths_numbers.proofs.Slashes.{slash-inside, slash-split, before-none, before-some}
 
 -- what stands between the braces, by the place k of its first "/"
 module _ (s : List ℕ) (k : ℕ) (e : k ≡ length (beforeSlash s)) where
@@ -43,11 +45,13 @@ unfolding target
 target-braced raw s i b = rw (b, i) refl
 
 -- the inner text gives the label and the path in either case
-pub target-parts : (raw s : List ℕ) → s ≡ innerText raw → (labelOf (inBraces s) ≡ labelOf (target raw)) × (pathOf (inBraces s) ≡ pathOf (target raw))
+pub target-parts : (raw s : List ℕ) → s ≡ innerText raw → (labelOf (inBraces s) ≡ labelOf (target raw))
+    × (pathOf (inBraces s) ≡ pathOf (target raw))
 unfolding target innerText inBraces hasSlash startsWith
 target-parts raw s i = rw i (go (isBraced raw) refl)
   where
-    go : (t : Bool) → isBraced raw ≡ t → (labelOf (inBraces (innerText raw)) ≡ labelOf (target raw)) × (pathOf (inBraces (innerText raw)) ≡ pathOf (target raw))
+    go : (t : Bool) → isBraced raw ≡ t → (labelOf (inBraces (innerText raw)) ≡ labelOf (target raw))
+        × (pathOf (inBraces (innerText raw)) ≡ pathOf (target raw))
     go true b = rw b (refl, refl)
     go false b = rw b (refl, refl)
 
@@ -94,7 +98,8 @@ target-says raw = go (isBraced raw) refl
   where
     go : (t : Bool) → isBraced raw ≡ t → Says raw (target raw)
     go true e = rw e (subst (λ (r : List ℕ). Says r (inBraces (innerText raw))) (sym (braced-text raw e)) (inside-says (innerText raw)))
-    go false e = rw e (λ s f. let z : _≡_ {A = Bool} false true = sym e ∙ ap isBraced f ∙ braced-is s in let o : _≡_ {A = ℕ} 0 1 = cc in omega arith)
+    go false e = rw e (λ s f. let z : _≡_ {A = Bool} false true = sym e ∙ ap isBraced f
+        ∙ braced-is s in let o : _≡_ {A = ℕ} 0 1 = cc in omega arith)
 
 -- so a target that is known says it; in particular no label holds a "/"
 pub target-told : (raw : List ℕ) (t : Target) → target raw ≡ t → Says raw t

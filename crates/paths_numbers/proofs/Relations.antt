@@ -9,7 +9,7 @@ use lib.IntN.{ℤ, pos, negsuc}
 use mir.Syntax.{w64}
 use mir.Val.{SFits, toZ, ofZ, boolByte}
 use Rattle.paths_numbers.proofs.Integers.{Z, read}
-use Rattle.paths_numbers.specs.Expression.{isTrue, ofTruth, eqZ}
+use Rattle.paths_numbers.specs.meaning.Expression.{isTrue, ofTruth, eqZ}
 
 -- a truth as a number
 pub read-truth : (t : Bool) → toZ w64 (boolByte t) ≡ ofTruth t

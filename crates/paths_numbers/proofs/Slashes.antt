@@ -10,16 +10,17 @@ use borrow.Author.Tests.{eq-eqb, ne-eqb, eqb-true}
 use lib.Dec.{eqb}
 use lib.ListN.{length, getD, take, drop, drop-of-length-le, length-take}
 use lib.Seq.{drop-cons}
-use Rattle.paths_numbers.specs.Byte.{slash}
-use Rattle.paths_numbers.specs.Text.{startsWith}
-use Rattle.paths_numbers.specs.Reference.{beforeSlash, behindSlash, hasSlash}
+use Rattle.paths_numbers.specs.meaning.Byte.{slash}
+use Rattle.paths_numbers.specs.meaning.Text.{startsWith}
+use Rattle.paths_numbers.specs.meaning.Reference.{beforeSlash, behindSlash, hasSlash}
 
 -- what the byte at i adds to the text before the first "/": it ends it, or belongs to it
 pub slash-here : (s : List ℕ) (i : ℕ) → i < length s → getD s i 0 ≡ slash → beforeSlash (drop i s) ≡ []
 unfolding beforeSlash
 slash-here s i h e = rw (drop-cons s i 0 h) (simp (eq-eqb _ _ e))
 
-pub slash-later : (s : List ℕ) (i : ℕ) → i < length s → (getD s i 0 ≡ slash → ⊥) → beforeSlash (drop i s) ≡ getD s i 0 ∷ beforeSlash (drop (i + 1) s)
+pub slash-later : (s : List ℕ) (i : ℕ) → i < length s → (getD s i 0 ≡ slash → ⊥)
+    → beforeSlash (drop i s) ≡ getD s i 0 ∷ beforeSlash (drop (i + 1) s)
 unfolding beforeSlash
 slash-later s i h e = rw (drop-cons s i 0 h, add-one) (simp (ne-eqb _ _ e))
 
@@ -34,7 +35,8 @@ unfolding beforeSlash
 take-before [] = refl
 take-before (b ∷ s) = go (take-before s) (eqb b slash) refl
   where
-    go : take (length (beforeSlash s)) s ≡ beforeSlash s → (t : Bool) → eqb b slash ≡ t → take (length (beforeSlash (b ∷ s))) (b ∷ s) ≡ beforeSlash (b ∷ s)
+    go : take (length (beforeSlash s)) s ≡ beforeSlash s → (t : Bool) → eqb b slash ≡ t
+        → take (length (beforeSlash (b ∷ s))) (b ∷ s) ≡ beforeSlash (b ∷ s)
     go r true e = rw e refl
     go r false e = rw e (ap (λ (l : List ℕ). b ∷ l) r)
 
@@ -43,13 +45,20 @@ unfolding beforeSlash behindSlash
 drop-behind [] = refl
 drop-behind (b ∷ s) = go (drop-behind s) (eqb b slash) refl
   where
-    go : drop (suc (length (beforeSlash s))) s ≡ behindSlash s → (t : Bool) → eqb b slash ≡ t → drop (suc (length (beforeSlash (b ∷ s)))) (b ∷ s) ≡ behindSlash (b ∷ s)
+    go : drop (suc (length (beforeSlash s))) s ≡ behindSlash s → (t : Bool) → eqb b slash ≡ t
+        → drop (suc (length (beforeSlash (b ∷ s)))) (b ∷ s) ≡ behindSlash (b ∷ s)
     go r true e = rw e refl
     go r false e = rw e r
 
 -- the text before it is no longer than the whole
 pub before-length : (s : List ℕ) → length (beforeSlash s) ≤ length s
-before-length s = omega (arith, ap length (take-before s), length-take (length (beforeSlash s)) s, min-le-right (length (beforeSlash s)) (length s))
+before-length s = omega (
+  arith,
+  ap length (take-before s),
+  length-take (length (beforeSlash s)) s,
+  min-le-right (length (beforeSlash s))
+      (length s),
+)
 
 -- there is a "/" where the text before it is shorter than the whole, and else none
 pub slash-found : (s : List ℕ) → length (beforeSlash s) < length s → hasSlash s ≡ true
@@ -95,7 +104,8 @@ unfolding beforeSlash behindSlash hasSlash
 slash-split [] h = let f : false ≡ true = h in let z : _≡_ {A = ℕ} 0 1 = cc in absurd (omega arith)
 slash-split (b ∷ s) h = go (slash-split s) (eqb b slash) refl
   where
-    go : (hasSlash s ≡ true → s ≡ beforeSlash s ++ slash ∷ behindSlash s) → (t : Bool) → eqb b slash ≡ t → b ∷ s ≡ beforeSlash (b ∷ s) ++ slash ∷ behindSlash (b ∷ s)
+    go : (hasSlash s ≡ true → s ≡ beforeSlash s ++ slash ∷ behindSlash s) → (t : Bool) → eqb b slash ≡ t
+        → b ∷ s ≡ beforeSlash (b ∷ s) ++ slash ∷ behindSlash (b ∷ s)
     go r true e = rw e (ap (λ (a : ℕ). a ∷ s) (eqb-true b slash e))
     go r false e = rw e (ap (λ (l : List ℕ). b ∷ l) (r (rw e at h)))
 

@@ -7,10 +7,11 @@ use native.Mathlib.Omega.{arith}
 use borrow.Author.Tests.{eqb-true, eqb-false}
 use lib.Dec.{eqb}
 use lib.ListN.{length, getD, drop}
-use Rattle.paths_numbers.specs.Byte.{slash}
-use Rattle.paths_numbers.specs.Text.{begins, same, startsWith}
-use Rattle.paths_numbers.specs.Path.{root, Stripped, found, nothing, strip, isFound, part, atOrUnder, stripped}
-use Rattle.paths_numbers.proofs.Texts.{by-test, not-both, same-true, same-ne, same-lengths, begins-refl, begins-same, begins-length, starts-at}
+use Rattle.paths_numbers.specs.meaning.Byte.{slash}
+use Rattle.paths_numbers.specs.meaning.Text.{begins, same, startsWith}
+use Rattle.paths_numbers.specs.meaning.Path.{root, Stripped, found, nothing, strip, isFound, part, atOrUnder, stripped}
+use Rattle.paths_numbers.proofs.Texts.{by-test, not-both, same-true, same-ne, same-lengths, begins-refl, begins-same, begins-length}
+use Rattle.paths_numbers.proofs.Texts.{starts-at}
 
 -- to begin with "/" is to start with its byte
 pub begins-root : (p : List ℕ) → begins p root ≡ startsWith slash p
@@ -18,7 +19,8 @@ unfolding begins startsWith
 begins-root [] = refl
 begins-root (a ∷ p) = by-test (eqb a slash) (λ e. rw e refl) (λ e. rw e refl)
 
--- what the tests find of a path p with q behind its base: whether p begins with the base, is as long, the base is "/", and q starts with "/"
+-- what the tests find of a path p with q behind its base: whether p begins with the base, is as long, the base is "/", and q starts with
+-- "/"
 unfoldable byTests : Bool → Bool → Bool → Bool → List ℕ → List ℕ → Stripped
 byTests true true root-base slash-next p q = found []
 byTests true false true slash-next p q = found p
@@ -85,7 +87,8 @@ part-by false u v w p q = refl
 
 -- a path lies at or under a base that it begins with where it is as long, or the base is "/", or a "/" follows
 pub under-tests : (p b : List ℕ)
-    → atOrUnder p b ≡ cond (begins p b) (cond (eqb (length p) (length b)) true (cond (same b root) true (eqb (getD p (length b) 0) slash))) false
+    → atOrUnder p b ≡ cond (begins p b) (cond (eqb (length p) (length b)) true (cond (same b root) true (eqb (getD p (length b) 0) slash)))
+    false
 unfolding atOrUnder
 under-tests p b = ap isFound (strip-case p b _ _ _ refl refl refl) ∙ found-by (begins p b) _ _ _ _ _
 

@@ -6,7 +6,7 @@ use mathlib.Core.List.{List, [], _∷_, _++_}
 use native.Mathlib.Omega.{arith}
 use lib.ListN.{length, getD, take}
 use lib.Seq.{take-suc}
-use Rattle.paths_numbers.specs.Number.{isSuffix, kept, trimmed}
+use Rattle.paths_numbers.specs.meaning.Number.{isSuffix, kept, trimmed}
 
 -- a text that ends in a suffix
 suffix-last : (s : List ℕ) (b : ℕ) → isSuffix b ≡ true → trimmed (s ++ (b ∷ [])) ≡ trimmed s

@@ -7,8 +7,9 @@ use lib.IntN.{ℤ, pos, negℤ, _+ℤ_, natAbs}
 use lib.Signed.{ltZ, natAbs-le}
 use mir.Syntax.{w64}
 use mir.Val.{SFits}
-use Rattle.paths_numbers.proofs.Integers.{Z, read, least, greatest, up, up-range, up-fits, up-size, up-add, up-neg, below, not-below, negative, natural, refused}
-use Rattle.paths_numbers.specs.Expression.{within}
+use Rattle.paths_numbers.proofs.Integers.{Z, read, least, greatest, up, up-range, up-fits, up-size, up-add, up-neg, below, not-below}
+use Rattle.paths_numbers.proofs.Integers.{negative, natural, refused}
+use Rattle.paths_numbers.specs.meaning.Expression.{within}
 use Rattle.paths_numbers.specs.declared.operators.Evaluated.the-variants.{Outside}
 
 -- e is d's opposite, and sums with either are omega's

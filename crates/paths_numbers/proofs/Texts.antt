@@ -9,7 +9,7 @@ use borrow.Author.Tests.{eq-eqb, ne-eqb, eqb-true}
 use lib.Dec.{eqb}
 use lib.ListN.{length, getD, take, drop, drop-of-length-le, length-drop, List·getD-append}
 use lib.Seq.{drop-cons, take-all, drop-length}
-use Rattle.paths_numbers.specs.Text.{begins, same, isEmpty, startsWith}
+use Rattle.paths_numbers.specs.meaning.Text.{begins, same, isEmpty, startsWith}
 
 -- no test is both true and false
 pub not-both : {t : Bool} → t ≡ true → t ≡ false → ⊥
@@ -126,7 +126,8 @@ begins-differs s p i h n =
     is-false (begins s p)
     (λ e. n (ap (λ (l : List ℕ). getD l i 0) (begins-split s p e) ∙ List·getD-append p (drop (length p) s) 0 i h))
 
--- the comparison without a way out: w is whether s begins with p, and the invariant says that a difference was found or what is left of both decides
+-- the comparison without a way out: w is whether s begins with p, and the invariant says that a difference was found or what is left of
+-- both decides
 module _ (s p : List ℕ) (i : ℕ) (found w : Bool) (inv : w ≡ cond found false (begins (drop i s) (drop i p))) where
   -- the bytes at i
   pub compared : i < length s → i < length p

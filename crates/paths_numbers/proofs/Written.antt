@@ -8,8 +8,8 @@ use native.Mathlib.Omega.{arith}
 use borrow.Author.Tests.{le-leb, lt-leb}
 use lib.ListN.{length, getD, take, drop, set, take-append-drop, length-append, length-drop, drop-of-length-le}
 use lib.Seq.{take-suc-set, drop-set-lt, drop-cons, append-snoc, length-take-le}
-use Rattle.paths_numbers.specs.Text.{written}
-use Rattle.paths_numbers.specs.Path.{builtAnswer, builtOut}
+use Rattle.paths_numbers.specs.meaning.Text.{written}
+use Rattle.paths_numbers.specs.meaning.Path.{builtAnswer, builtOut}
 use Rattle.paths_numbers.specs.declared.dt_node.Built.the-variants.{Bytes, NoRoom}
 
 -- nothing written is nothing changed
@@ -21,12 +21,14 @@ written-nil d at = rw (add-zero, append-nil) (take-append-drop at d)
 pub written-cons : (d : List ℕ) (at b : ℕ) (s : List ℕ) → at < length d → written d at (b ∷ s) ≡ written (set d at b) (at + 1) s
 unfolding written
 written-cons d at b s h =
-    let e : drop (at + suc (length s)) (set d at b) ≡ drop (at + suc (length s)) d = drop-set-lt (at + suc (length s)) d at b (omega arith) in
+    let e : drop (at + suc (length s)) (set d at b) ≡ drop (at + suc (length s)) d = drop-set-lt (at + suc (length s)) d at b (omega arith)
+    in
     let f : at + 1 + length s ≡ at + suc (length s) = omega arith in
     rw (f, e, add-one, take-suc-set d at b h) (sym (ap (λ (l : List ℕ). l ++ drop (at + suc (length s)) d) (append-snoc (take at d) b s)))
 
 -- one byte more of a text that is written byte by byte: w is the whole written, and the invariant says that the rest written gives it
-pub written-byte : (d : List ℕ) (at : ℕ) (s : List ℕ) (i b : ℕ) (w : List ℕ) → w ≡ written d (at + i) (drop i s) → at + i < length d → i < length s
+pub written-byte : (d : List ℕ) (at : ℕ) (s : List ℕ) (i b : ℕ) (w : List ℕ) → w ≡ written d (at + i) (drop i s) → at + i < length d
+    → i < length s
     → b ≡ getD s i 0 → w ≡ written (set d (at + i) b) (at + (i + 1)) (drop (i + 1) s)
 written-byte d at s i b w inv h k e =
     let f : at + suc i ≡ at + i + 1 = omega arith in

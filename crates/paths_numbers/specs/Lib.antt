@@ -1,8 +1,1 @@
-pub mod Byte
-pub mod Text
-pub mod Path
-pub mod Number
-pub mod Expression
-pub mod Cell
-pub mod Bytestring
-pub mod Reference
+pub mod meaning

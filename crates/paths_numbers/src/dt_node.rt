@@ -3,8 +3,9 @@
 ghost use mathlib.Core.Path.{_≡_};
 ghost use Prim.Native.Nat.{_+_, _≤_};
 ghost use lib.ListN.{length, getD};
-ghost use Rattle.paths_numbers.specs.Path.{root, stem, withUnit, joined, joinedLen, atMost, largestUsize, builtAnswer, builtOut, atOrUnder};
-ghost use Rattle.paths_numbers.specs.Text.{same, begins, written};
+ghost use Rattle.paths_numbers.specs.meaning.Path.{root, stem, withUnit, joined, joinedLen, atMost, largestUsize, builtAnswer};
+ghost use Rattle.paths_numbers.specs.meaning.Path.{builtOut, atOrUnder};
+ghost use Rattle.paths_numbers.specs.meaning.Text.{same, begins, written};
 use crate::mir::is_root;
 
 // What became of a path that was to be written.
@@ -106,8 +107,10 @@ fn name_byte(name: &[u8], unit: &[u8], i: usize) -> u8
 
 // Writes the path of a parent and a name into `out` from `at` on.
 pub fn build_path(parent: &[u8], name: &[u8], unit: &[u8], out: &mut [u8], at: usize) -> Built
-    ensures { λ r. ⌜ r ≡ builtAnswer (joined (now (parent .entry)) (now (name .entry)) (now (unit .entry))) (length (now (out .entry))) at ⌝ }
-    ensures { λ _. ⌜ now (out .exit) ≡ builtOut (joined (now (parent .entry)) (now (name .entry)) (now (unit .entry))) (now (out .entry)) at ⌝ }
+    ensures { λ r. ⌜ r ≡ builtAnswer (joined (now (parent .entry)) (now (name .entry)) (now (unit .entry))) (length (now (out .entry)))
+        at ⌝ }
+    ensures { λ _. ⌜ now (out .exit) ≡ builtOut (joined (now (parent .entry)) (now (name .entry)) (now (unit .entry))) (now (out .entry))
+        at ⌝ }
 {
     let n = path_len(parent, name, unit);
     if out.len() < at {
@@ -124,7 +127,8 @@ pub fn build_path(parent: &[u8], name: &[u8], unit: &[u8], out: &mut [u8], at: u
 fn write_path(parent: &[u8], name: &[u8], unit: &[u8], out: &mut [u8], at: usize, n: usize)
     requires { ⌜ at + n ≤ length (now out) ⌝ }
     requires { ⌜ n ≡ length (joined (now parent) (now name) (now unit)) ⌝ }
-    ensures { λ _. ⌜ now (out .exit) ≡ written (now (out .entry)) at (joined (now (parent .entry)) (now (name .entry)) (now (unit .entry))) ⌝ }
+    ensures { λ _. ⌜ now (out .exit) ≡ written (now (out .entry)) at
+        (joined (now (parent .entry)) (now (name .entry)) (now (unit .entry))) ⌝ }
 {
     let mut i = 0;
     while i < n {

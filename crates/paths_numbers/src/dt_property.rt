@@ -2,9 +2,9 @@
 ghost use mathlib.Core.Path.{_≡_};
 ghost use Prim.Native.Nat.{_+_, _≤_, _<_};
 ghost use lib.ListN.{length};
-ghost use Rattle.paths_numbers.specs.Bytestring.{nibbles, bytesOf, countOf, bytesAnswer, bytesOut};
-ghost use Rattle.paths_numbers.specs.Cell.{bitsOf, largest, sizeOf, exprCell, charCell};
-ghost use Rattle.paths_numbers.specs.Text.{written};
+ghost use Rattle.paths_numbers.specs.meaning.Bytestring.{nibbles, bytesOf, countOf, bytesAnswer, bytesOut};
+ghost use Rattle.paths_numbers.specs.meaning.Cell.{bitsOf, largest, sizeOf, exprCell, charCell};
+ghost use Rattle.paths_numbers.specs.meaning.Text.{written};
 use crate::expr_eval::IntErrorKind;
 use crate::expr_eval::ParsedInt;
 use crate::expr_eval::digit;

@@ -1,9 +1,10 @@
 // What expr_eval.rs makes of number texts and operators.
 ghost use mathlib.Core.Path.{_≡_};
 ghost use Prim.Native.Nat.{_+_, _<_, _≤_};
-ghost use Rattle.paths_numbers.specs.Byte.{digitOf};
-ghost use Rattle.paths_numbers.specs.Number.{isSuffix, trimmed, baseOf, digits, behindSign, unsigned, unsignedNumber, positive, negative, signed, signedNumber, Within};
-ghost use Rattle.paths_numbers.specs.Cell.{largest};
+ghost use Rattle.paths_numbers.specs.meaning.Byte.{digitOf};
+ghost use Rattle.paths_numbers.specs.meaning.Number.{isSuffix, trimmed, baseOf, digits, behindSign, unsigned, unsignedNumber};
+ghost use Rattle.paths_numbers.specs.meaning.Number.{positive, negative, signed, signedNumber, Within};
+ghost use Rattle.paths_numbers.specs.meaning.Cell.{largest};
 use crate::dt_property::BitsSize;
 
 // The largest and the smallest signed 64-bit number, by their distance from 0.

@@ -2,9 +2,9 @@
 ghost use mathlib.Core.Bool.{false, cond};
 ghost use mathlib.Core.Path.{_≡_};
 ghost use lib.Dec.{eqb};
-ghost use Rattle.paths_numbers.specs.Byte.{slash};
-ghost use Rattle.paths_numbers.specs.Path.{atOrUnder, stripped, root, components, goodPath};
-ghost use Rattle.paths_numbers.specs.Text.{same};
+ghost use Rattle.paths_numbers.specs.meaning.Byte.{slash};
+ghost use Rattle.paths_numbers.specs.meaning.Path.{atOrUnder, stripped, root, components, goodPath};
+ghost use Rattle.paths_numbers.specs.meaning.Text.{same};
 use crate::text::starts_with;
 
 // Whether `this` lies at or under `base`: whether stripping finds anything.

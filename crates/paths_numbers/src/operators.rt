@@ -2,7 +2,8 @@
 ghost use mathlib.Core.Path.{_≡_};
 ghost use lib.IntN.{_+ℤ_, _-ℤ_, _*ℤ_, natAbs};
 ghost use lib.Signed.{quotZ};
-ghost use Rattle.paths_numbers.specs.Expression.{isTrue, evalPrefix, evalInfix, isWithin, within, mostOf, quotient, remainder, shiftLeft, shiftRight, evalRelation, evalConditional};
+ghost use Rattle.paths_numbers.specs.meaning.Expression.{isTrue, evalPrefix, evalInfix, isWithin, within, mostOf, quotient};
+ghost use Rattle.paths_numbers.specs.meaning.Expression.{remainder, shiftLeft, shiftRight, evalRelation, evalConditional};
 
 // An operator's result, or why there is none.
 pub enum Evaluated {

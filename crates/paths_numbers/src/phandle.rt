@@ -1,6 +1,6 @@
 // What lower_phandle of lowering/mod.rs makes of a raw reference text, `&{..}`.
 ghost use mathlib.Core.Path.{_≡_};
-ghost use Rattle.paths_numbers.specs.Reference.{isBraced, innerText, beforeSlash, target, kindOf, labelOf, pathOf};
+ghost use Rattle.paths_numbers.specs.meaning.Reference.{isBraced, innerText, beforeSlash, target, kindOf, labelOf, pathOf};
 ghost use lib.ListN.{length};
 
 // What a raw reference names, by the names of the Rust's MirPhandleTarget; or that it cannot be read.

@@ -1,6 +1,6 @@
 // Bytes compared.
 ghost use mathlib.Core.Path.{_≡_};
-ghost use Rattle.paths_numbers.specs.Text.{begins, same};
+ghost use Rattle.paths_numbers.specs.meaning.Text.{begins, same};
 
 // Whether `s` begins with `p`. The last bytes are compared first, since paths often differ only there;
 // the loop has no way out of its middle, so that it is compiled to compare many bytes at a time.

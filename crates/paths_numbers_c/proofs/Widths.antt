@@ -10,7 +10,7 @@ use Rattle.paths_numbers.specs.declared.dt_property.SizeRead.{SizeRead}
 use Rattle.paths_numbers.specs.declared.dt_property.SizeRead.the-variants.{Size, Unsupported, Failed}
 use Rattle.paths_numbers.proofs.dt_property.SizeRead.{the-type}
 use Rattle.paths_numbers_c.specs.declared.PnNumber.{PnNumber}
-use Rattle.paths_numbers_c.specs.Told.{atWidth, widthTold}
+use Rattle.paths_numbers_c.specs.meaning.Told.{atWidth, widthTold}
 
 -- a reading that is no width
 abbrev pub None : SizeRead → Type 0

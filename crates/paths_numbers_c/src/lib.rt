@@ -2,14 +2,15 @@
 // them.
 ghost use mathlib.Core.Path.{_≡_};
 ghost use lib.ListN.{length};
-ghost use Rattle.paths_numbers.specs.Bytestring.{countOf, bytesAnswer, bytesOut};
-ghost use Rattle.paths_numbers.specs.Cell.{sizeOf};
-ghost use Rattle.paths_numbers.specs.Expression.{evalPrefix, evalInfix, evalConditional};
-ghost use Rattle.paths_numbers.specs.Number.{intCode, signedNumber};
-ghost use Rattle.paths_numbers.specs.Path.{atOrUnder, stripped, goodPath, joined, joinedLen, builtAnswer, builtOut};
-ghost use Rattle.paths_numbers.specs.Reference.{target, targetNumber};
-ghost use Rattle.paths_numbers.specs.Text.{same};
-ghost use Rattle.paths_numbers_c.specs.Told.{truth, builtTold, intTold, i64Told, cellTold, evalTold, countTold, writtenTold, widthTold, widthOf, intAt, exprAt, charAt, targetTold};
+ghost use Rattle.paths_numbers.specs.meaning.Bytestring.{countOf, bytesAnswer, bytesOut};
+ghost use Rattle.paths_numbers.specs.meaning.Cell.{sizeOf};
+ghost use Rattle.paths_numbers.specs.meaning.Expression.{evalPrefix, evalInfix, evalConditional};
+ghost use Rattle.paths_numbers.specs.meaning.Number.{intCode, signedNumber};
+ghost use Rattle.paths_numbers.specs.meaning.Path.{atOrUnder, stripped, goodPath, joined, joinedLen, builtAnswer, builtOut};
+ghost use Rattle.paths_numbers.specs.meaning.Reference.{target, targetNumber};
+ghost use Rattle.paths_numbers.specs.meaning.Text.{same};
+ghost use Rattle.paths_numbers_c.specs.meaning.Told.{truth, builtTold, intTold, i64Told, cellTold, evalTold, countTold, writtenTold};
+ghost use Rattle.paths_numbers_c.specs.meaning.Told.{widthTold, widthOf, intAt, exprAt, charAt, targetTold};
 use paths_numbers::dt_node::Built;
 use paths_numbers::dt_node::build_path;
 use paths_numbers::dt_node::is_path;
@@ -120,8 +121,10 @@ pub extern "C" fn pn_build_path(
     out: &mut [u8],
     at: usize,
 ) -> PnWritten
-    ensures { λ r. ⌜ r ≡ builtTold (builtAnswer (joined (now (parent .entry)) (now (name .entry)) (now (unit .entry))) (length (now (out .entry))) at) ⌝ }
-    ensures { λ _. ⌜ now (out .exit) ≡ builtOut (joined (now (parent .entry)) (now (name .entry)) (now (unit .entry))) (now (out .entry)) at ⌝ }
+    ensures { λ r. ⌜ r ≡ builtTold (builtAnswer (joined (now (parent .entry)) (now (name .entry)) (now (unit .entry)))
+        (length (now (out .entry))) at) ⌝ }
+    ensures { λ _. ⌜ now (out .exit) ≡ builtOut (joined (now (parent .entry)) (now (name .entry)) (now (unit .entry))) (now (out .entry))
+        at ⌝ }
 {
     told_built(build_path(parent, name, unit, out, at))
 }

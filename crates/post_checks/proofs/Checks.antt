@@ -8,18 +8,18 @@ use lib.Dec.{eqb}
 use lib.ListN.{length, getD, length-append}
 use Rattle.paths_numbers.proofs.Texts.{by-test, not-both}
 use Rattle.making.specs.declared.ctx.LowerCtx.{LowerCtx}
-use Rattle.log.specs.Meaning.{Diag}
-use Rattle.log.specs.Record.{nextOf, leads, logCount, outField}
-use Rattle.log.specs.ReadBack.{chainFrom}
-use Rattle.making.specs.State.{State, emit, diagsBytes}
-use Rattle.making.specs.Represents.{Context, Represents, Steps}
-use Rattle.making.specs.Kept.{Still, All, all-none, all-more, Kept, Keeps}
+use Rattle.log.specs.meaning.Contents.{Diag}
+use Rattle.log.specs.meaning.Record.{nextOf, leads, logCount, outField}
+use Rattle.log.specs.meaning.ReadBack.{chainFrom}
+use Rattle.making.specs.meaning.State.{State, emit, diagsBytes}
+use Rattle.making.specs.machine.Represents.{Context, Represents, Steps}
+use Rattle.making.specs.machine.Kept.{Still, All, all-none, all-more, Kept, Keeps}
 use Rattle.making.proofs.Keeping.{kept-none, kept-then, still-kept}
-use Rattle.queries.specs.Pass.{goesOn}
+use Rattle.queries.specs.machine.Pass.{goesOn}
 use Rattle.queries.proofs.Chain.{goes, goes-left, stops}
-use Rattle.post_checks.specs.Lowers.{Lowers}
-use Rattle.post_checks.specs.Checks.{Reports}
-use Rattle.post_checks.proofs.Lowers.{emit-grows, stays-over}
+use Rattle.resolving.specs.machine.Lowers.{Lowers}
+use Rattle.post_checks.specs.machine.Checks.{Reports}
+use Rattle.resolving.proofs.Lowers.{emit-grows, stays-over}
 
 -- diagnostics made in two steps, and none
 bytes-both : (ds es : List Diag) → diagsBytes (ds ++ es) ≡ diagsBytes ds + diagsBytes es
@@ -103,18 +103,21 @@ pub reports-none : (c : LowerCtx) (words bytes : List ℕ) (rs : List ℕ) → R
 reports-none c words bytes rs =
     record { reports = λ k s r a. rw (emit-none s) r; keeps = λ k s r a. kept-none c words bytes; stays = λ z. (z, refl, refl) }
 
-pub reports-one : {c d : LowerCtx} {words bytes w b : List ℕ} {ds : List Diag} {rs : List ℕ} → Keeps c d words bytes w b → Steps c d words bytes w b (emit ds)
+pub reports-one : {c d : LowerCtx} {words bytes w b : List ℕ} {ds : List Diag} {rs : List ℕ} → Keeps c d words bytes w b
+    → Steps c d words bytes w b (emit ds)
     → Reports c d words bytes w b rs ds
 reports-one {c} {ds = ds} h t =
     record {
-      reports = λ k s r a. by-test (c .short) (λ z. stays-over (emit ds s) (t .stays) z (emit-grows ds .records s) (emit-grows ds .bytes s) r) (λ z. t .steps k s r z);
+      reports = λ k s r a. by-test (c .short) (λ z. stays-over (emit ds s) (t .stays) z (emit-grows ds .records s) (emit-grows ds .bytes s)
+          r) (λ z. t .steps k s r z);
       keeps = λ k s r a. h .keeps k s r;
       stays = t .stays;
     }
 
 -- the same diagnostics, as they are told where the records stand
 pub reports-as : {c d : LowerCtx} {words bytes w b : List ℕ} {ds es : List Diag} {rs : List ℕ} → Reports c d words bytes w b rs ds
-    → ((k : Context) (s : State) → Represents k c words bytes s → c .short ≡ false → All (Still words (c .records)) rs → ds ≡ es) → Reports c d words bytes w b rs es
+    → ((k : Context) (s : State) → Represents k c words bytes s → c .short ≡ false → All (Still words (c .records)) rs → ds ≡ es)
+    → Reports c d words bytes w b rs es
 reports-as {c} {d} {words} {bytes} {w} {b} {es = es} h e =
     record {
       reports = λ k s r a.
@@ -127,14 +130,21 @@ reports-as {c} {d} {words} {bytes} {w} {b} {es = es} h e =
 
 -- the same where other records stay, and with them these
 pub reports-under : {c d : LowerCtx} {words bytes w b : List ℕ} {ds : List Diag} {rs qs : List ℕ} → Reports c d words bytes w b rs ds
-    → ((k : Context) (s : State) → Represents k c words bytes s → c .short ≡ false → All (Still words (c .records)) qs → All (Still words (c .records)) rs)
+    → ((k : Context) (s : State) → Represents k c words bytes s → c .short ≡ false → All (Still words (c .records)) qs
+    → All (Still words (c .records)) rs)
     → Reports c d words bytes w b qs ds
 reports-under h f =
-    record { reports = λ k s r a. h .reports k s r (λ z. f k s r z (a z)); keeps = λ k s r a. h .keeps k s r (λ z. f k s r z (a z)); stays = h .stays }
+    record {
+      reports = λ k s r a. h .reports k s r (λ z. f k s r z (a z));
+      keeps = λ k s r a. h .keeps k s r (λ z. f k s r z (a z));
+      stays = h .stays;
+    }
 
 -- two steps: what the second reports, as it was told before the first
-pub reports-then : {c d e : LowerCtx} {words bytes w b v u : List ℕ} {ds fs : List Diag} {rs qs : List ℕ} (es : List Diag) → Reports c d words bytes w b rs ds → Reports d e w b v u qs fs
-    → ((k : Context) (s : State) → Represents k c words bytes s → c .short ≡ false → Kept c d words bytes w b → All (Still words (c .records)) rs
+pub reports-then : {c d e : LowerCtx} {words bytes w b v u : List ℕ} {ds fs : List Diag} {rs qs : List ℕ} (es : List Diag)
+    → Reports c d words bytes w b rs ds → Reports d e w b v u qs fs
+    → ((k : Context) (s : State) → Represents k c words bytes s → c .short ≡ false → Kept c d words bytes w b
+    → All (Still words (c .records)) rs
     → All (Still w (d .records)) qs × (fs ≡ es))
     → Reports c e words bytes v u rs (ds ++ es)
 reports-then {c} {d} {e} {words} {bytes} {w} {b} {v} {u} {ds} {fs} {rs} {qs} es h g f =
@@ -144,7 +154,8 @@ reports-then {c} {d} {e} {words} {bytes} {w} {b} {v} {u} {ds} {fs} {rs} {qs} es 
           (λ z. stays-over (emit (ds ++ es) s) stay z (emit-grows (ds ++ es) .records s) (emit-grows (ds ++ es) .bytes s) r)
           (λ z.
           let i = f k s r z (h .keeps k s r a) (a z) in
-          subst (λ (t : State). Represents k e v u t) (ap (λ (l : List Diag). emit l (emit ds s)) (i .1) ∙ emit-then ds es s) (g .reports k (emit ds s) (h .reports k s r a) (λ n. i .0)));
+          subst (λ (t : State). Represents k e v u t) (ap (λ (l : List Diag). emit l (emit ds s)) (i .1) ∙ emit-then ds es s)
+          (g .reports k (emit ds s) (h .reports k s r a) (λ n. i .0)));
       keeps = λ k s r a.
           let x = h .keeps k s r a in
           by-test (c .short)
@@ -157,7 +168,8 @@ reports-then {c} {d} {e} {words} {bytes} {w} {b} {v} {u} {ds} {fs} {rs} {qs} es 
     stay z = let x = h .stays z in let y = g .stays (x .0) in (y .0, y .1 ∙ x .1, y .2 ∙ x .2)
 
 -- as what lowering does to the log
-pub reports-lower : {c d : LowerCtx} {words bytes w b : List ℕ} {ds : List Diag} {rs : List ℕ} (f : State → List Diag) → Reports c d words bytes w b rs ds
+pub reports-lower : {c d : LowerCtx} {words bytes w b : List ℕ} {ds : List Diag} {rs : List ℕ} (f : State → List Diag)
+    → Reports c d words bytes w b rs ds
     → ((k : Context) (s : State) → Represents k c words bytes s → c .short ≡ false → All (Still words (c .records)) rs × (ds ≡ f s))
     → Lowers c d words bytes w b (λ (s : State). emit (f s) s)
 reports-lower {c} {d} {words} {bytes} {w} {b} f h e =
@@ -170,8 +182,10 @@ reports-lower {c} {d} {words} {bytes} {w} {b} f h e =
           subst (λ (l : List Diag). Represents k d w b (emit l s)) (q .1) (h .reports k s r (λ y. q .0)));
     }
 
--- Where a walk through the chain from `first`, of at most so many records, is: at r, with so many left; what is reported and what is left to report
-pub record Walk (k : Context) (s : State) (c d : LowerCtx) (words bytes w b : List ℕ) (first most r left : ℕ) (whole : List Diag) (rest : List ℕ → List ℕ → List Diag) : Type 0 where
+-- Where a walk through the chain from `first`, of at most so many records, is: at r, with so many left; what is reported and what is left
+-- to report
+pub record Walk (k : Context) (s : State) (c d : LowerCtx) (words bytes w b : List ℕ) (first most r left : ℕ) (whole : List Diag)
+    (rest : List ℕ → List ℕ → List Diag) : Type 0 where
   pub done : List Diag
   pub says : Represents k d w b (emit done s)
   pub kept : Kept c d words bytes w b
@@ -180,57 +194,78 @@ pub record Walk (k : Context) (s : State) (c d : LowerCtx) (words bytes w b : Li
   pub steps : length passed + left ≡ most
   pub adds : whole ≡ done ++ rest passed (chainFrom left words r)
 
-pub record Walks (c d : LowerCtx) (words bytes w b : List ℕ) (rs : List ℕ) (first most r left : ℕ) (whole : List Diag) (rest : List ℕ → List ℕ → List Diag) : Type 0 where
-  pub walks : (k : Context) (s : State) → Represents k c words bytes s → c .short ≡ false → All (Still words (c .records)) rs → Walk k s c d words bytes w b first most r left whole rest
+pub record Walks (c d : LowerCtx) (words bytes w b : List ℕ) (rs : List ℕ) (first most r left : ℕ) (whole : List Diag)
+    (rest : List ℕ → List ℕ → List Diag) : Type 0 where
+  pub walks : (k : Context) (s : State) → Represents k c words bytes s → c .short ≡ false → All (Still words (c .records)) rs
+      → Walk k s c d words bytes w b first most r left whole rest
   pub idle : (k : Context) (s : State) → Represents k c words bytes s → c .short ≡ true → Kept c d words bytes w b
   pub stays : c .short ≡ true → (d .short ≡ true) × (w ≡ words) × (b ≡ bytes)
 
-pub walks-start : (c : LowerCtx) (words bytes : List ℕ) (rs : List ℕ) (first most : ℕ) (whole : List Diag) (rest : List ℕ → List ℕ → List Diag)
+pub walks-start : (c : LowerCtx) (words bytes : List ℕ) (rs : List ℕ) (first most : ℕ) (whole : List Diag)
+    (rest : List ℕ → List ℕ → List Diag)
     → whole ≡ rest [] (chainFrom most words first) → Walks c c words bytes words bytes rs first most first most whole rest
 walks-start c words bytes rs first most whole rest e =
     record {
-      walks = λ k s r z a. record { done = []; says = rw (emit-none s) r; kept = kept-none c words bytes; passed = []; chain = refl; steps = omega arith; adds = e };
+      walks = λ k s r z a. record {
+        done = [];
+        says = rw (emit-none s) r;
+        kept = kept-none c words bytes;
+        passed = [];
+        chain = refl;
+        steps = omega arith;
+        adds = e;
+      };
       idle = λ k s r z. kept-none c words bytes;
       stays = λ z. (z, refl, refl);
     }
 
-module _ {c d : LowerCtx} {words bytes w b : List ℕ} {rs : List ℕ} {first most r left : ℕ} {whole : List Diag} {rest : List ℕ → List ℕ → List Diag}
+module _ {c d : LowerCtx} {words bytes w b : List ℕ} {rs : List ℕ} {first most r left : ℕ} {whole : List Diag}
+    {rest : List ℕ → List ℕ → List Diag}
     (walk : Walks c d words bytes w b rs first most r left whole rest) where
   -- one record on: f's diagnostics are added, and what is left to report is what was left but for these
-  pub walks-step : {f : LowerCtx} {v u : List ℕ} {qs : List ℕ} {ds : List Diag} (rest′ : List ℕ → List ℕ → List Diag) → goesOn w r left ≡ true → Reports d f w b v u qs ds
+  pub walks-step : {f : LowerCtx} {v u : List ℕ} {qs : List ℕ} {ds : List Diag} (rest′ : List ℕ → List ℕ → List Diag)
+      → goesOn w r left ≡ true → Reports d f w b v u qs ds
       → (next : ℕ) → next ≡ nextOf v r
       → (All (Still words (c .records)) rs → All (Still words (c .records)) (chainFrom most words first))
-      → ((k : Context) (s : State) → Represents k c words bytes s → c .short ≡ false → Kept c d words bytes w b → All (Still words (c .records)) rs → Still words (c .records) r → (passed : List ℕ)
+      → ((k : Context) (s : State) → Represents k c words bytes s → c .short ≡ false → Kept c d words bytes w b
+      → All (Still words (c .records)) rs → Still words (c .records) r → (passed : List ℕ)
       → chainFrom most words first ≡ passed ++ r ∷ chainFrom (left - 1) words (nextOf words r) → length passed + left ≡ most
-      → All (Still w (d .records)) qs × (rest passed (r ∷ chainFrom (left - 1) words (nextOf words r)) ≡ ds ++ rest′ (passed ++ r ∷ []) (chainFrom (left - 1) words (nextOf words r))))
+      → All (Still w (d .records)) qs × (rest passed (r ∷ chainFrom (left - 1) words (nextOf words r)) ≡ ds ++ rest′ (passed ++ r ∷ [])
+      (chainFrom (left - 1) words (nextOf words r))))
       → Walks c f words bytes v u rs first most next (left - 1) whole rest′
   walks-step {f} {v} {u} {qs} {ds} rest′ g h next en sub each =
       record {
         walks = λ k s q z a. onward k s q z (walk .walks k s q z a) a;
         idle = λ k s q z.
             let y = walk .stays z in
-            kept-then (walk .idle k s q z) (h .keeps k s (stays-over s (walk .stays) z (omega arith) (omega arith) q) (λ n. absurd (not-both (y .0) n)));
+            kept-then (walk .idle k s q z) (h .keeps k s (stays-over s (walk .stays) z (omega arith) (omega arith) q)
+            (λ n. absurd (not-both (y .0) n)));
         stays = λ z. let x = walk .stays z in let y = h .stays (x .0) in (y .0, y .1 ∙ x .1, y .2 ∙ x .2);
       }
     where
-      onward : (k : Context) (s : State) → Represents k c words bytes s → c .short ≡ false → Walk k s c d words bytes w b first most r left whole rest → All (Still words (c .records)) rs
+      onward : (k : Context) (s : State) → Represents k c words bytes s → c .short ≡ false
+          → Walk k s c d words bytes w b first most r left whole rest → All (Still words (c .records)) rs
           → Walk k s c f words bytes v u first most next (left - 1) whole rest′
       onward k s q z x a =
           let g′ : goesOn words r left ≡ true = goes-alike words w r left (x .kept .count) ∙ g in
           let e : chainFrom left words r ≡ r ∷ chainFrom (left - 1) words (nextOf words r) = goes words r left g′ in
-          let ch : chainFrom most words first ≡ x .passed ++ r ∷ chainFrom (left - 1) words (nextOf words r) = x .chain ∙ ap (λ (l : List ℕ). x .passed ++ l) e in
-          let st : Still words (c .records) r = all-first (all-behind (x .passed) (subst (λ (l : List ℕ). All (Still words (c .records)) l) ch (sub a))) in
+          let ch : chainFrom most words first ≡ x .passed ++ r ∷ chainFrom (left - 1) words (nextOf words r) = x .chain
+          ∙ ap (λ (l : List ℕ). x .passed ++ l) e in
+          let st : Still words (c .records) r = all-first (all-behind (x .passed)
+          (subst (λ (l : List ℕ). All (Still words (c .records)) l) ch (sub a))) in
           let i = each k s q z (x .kept) a st (x .passed) ch (x .steps) in
           let kp : Kept c f words bytes v u = kept-then (x .kept) (h .keeps k (emit (x .done) s) (x .says) (λ n. i .0)) in
           let ne : next ≡ nextOf words r = en ∙ kp .field r 1 st (omega arith) in
           record {
             done = x .done ++ ds;
-            says = subst (λ (t : State). Represents k f v u t) (emit-then (x .done) ds s) (h .reports k (emit (x .done) s) (x .says) (λ n. i .0));
+            says = subst (λ (t : State). Represents k f v u t) (emit-then (x .done) ds s)
+                (h .reports k (emit (x .done) s) (x .says) (λ n. i .0));
             kept = kp;
             passed = x .passed ++ r ∷ [];
             chain = ch ∙ rw ne (sym (append-assoc (x .passed) (r ∷ []) (chainFrom (left - 1) words (nextOf words r))));
             steps = rw (length-append (x .passed) (r ∷ [])) (omega (arith, x .steps, goes-left words r left g′));
-            adds = x .adds ∙ ap (λ (l : List ℕ). x .done ++ rest (x .passed) l) e ∙ ap (λ (l : List Diag). x .done ++ l) (i .1) ∙ sym (append-assoc (x .done) ds _) ∙ rw ne refl;
+            adds = x .adds ∙ ap (λ (l : List ℕ). x .done ++ rest (x .passed) l) e ∙ ap (λ (l : List Diag). x .done ++ l) (i .1)
+                ∙ sym (append-assoc (x .done) ds _) ∙ rw ne refl;
           }
 
   -- at the end all is reported

@@ -1,6 +1,3 @@
-pub mod Lowers
-pub mod Under
-pub mod Leading
 pub mod Checks
 pub mod Headers
 pub mod Duplicates

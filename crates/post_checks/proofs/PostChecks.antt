@@ -4,12 +4,14 @@ use mathlib.Core.Path.{_≡_, refl, sym, ap, subst, _∙_}
 use mathlib.Core.Bool.{Bool, true, false, cond}
 use mathlib.Core.List.{List, [], _∷_, _++_, append-assoc}
 use Rattle.making.specs.declared.ctx.LowerCtx.{LowerCtx}
-use Rattle.log.specs.Meaning.{Span, Cell, number, reference, Value, string, cellList, bytestring, phandle, DefValue, node, property, deletedNode, deletedProperty, version, plugin, Def, Diag}
-use Rattle.making.specs.State.{State, emit}
-use Rattle.making.specs.Represents.{Represents}
-use Rattle.queries.specs.Live.{live}
-use Rattle.post_checks.specs.Post.{duplicateLabels, checkCell, checkCells, checkValue, checkValues, checkDef, checkDefs, checkReferences, checkDirectives, postChecks}
-use Rattle.post_checks.specs.Lowers.{Lowers}
+use Rattle.log.specs.meaning.Contents.{Span, Cell, number, reference, Value, string, cellList, bytestring, phandle, DefValue, node}
+use Rattle.log.specs.meaning.Contents.{property, deletedNode, deletedProperty, version, plugin, Def, Diag}
+use Rattle.making.specs.meaning.State.{State, emit}
+use Rattle.making.specs.machine.Represents.{Represents}
+use Rattle.queries.specs.meaning.Live.{live}
+use Rattle.post_checks.specs.meaning.Post.{duplicateLabels, checkCell, checkCells, checkValue, checkValues, checkDef, checkDefs}
+use Rattle.post_checks.specs.meaning.Post.{checkReferences, checkDirectives, postChecks}
+use Rattle.resolving.specs.machine.Lowers.{Lowers}
 use Rattle.post_checks.proofs.Checks.{emit-then}
 
 -- references are checked by the bindings and the definitions alone
@@ -52,7 +54,8 @@ module _ (s t : State) (bs : s .binds ≡ t .binds) (ds : s .defs ≡ t .defs) w
   references-alike = rw (defs-alike (live [] (s .defs)), ds) refl
 
 -- two checks, of which the second reads nothing that the first reports
-pub checks-then : {c d e : LowerCtx} {words bytes w b v u : List ℕ} (f g : State → List Diag) → ((ds : List Diag) (s : State) → g (emit ds s) ≡ g s)
+pub checks-then : {c d e : LowerCtx} {words bytes w b v u : List ℕ} (f g : State → List Diag)
+    → ((ds : List Diag) (s : State) → g (emit ds s) ≡ g s)
     → Lowers c d words bytes w b (λ (s : State). emit (f s) s) → Lowers d e w b v u (λ (s : State). emit (g s) s)
     → Lowers c e words bytes v u (λ (s : State). emit (f s ++ g s) s)
 checks-then {e = e} {v = v} {u} f g same x y =
@@ -64,11 +67,15 @@ checks-then {e = e} {v = v} {u} f g same x y =
     }
 
 -- all three
-pub post-lowers : {c d e f : LowerCtx} {words bytes w b v u x y : List ℕ} → Lowers c d words bytes w b (λ (s : State). emit (duplicateLabels [] (s .binds)) s)
-    → Lowers d e w b v u (λ (s : State). emit (checkReferences s) s) → Lowers e f v u x y (λ (s : State). emit (checkDirectives (s .defs)) s)
+pub post-lowers : {c d e f : LowerCtx} {words bytes w b v u x y : List ℕ}
+    → Lowers c d words bytes w b (λ (s : State). emit (duplicateLabels [] (s .binds)) s)
+    → Lowers d e w b v u (λ (s : State). emit (checkReferences s) s)
+    → Lowers e f v u x y (λ (s : State). emit (checkDirectives (s .defs)) s)
     → Lowers c f words bytes x y (λ (s : State). emit (postChecks s) s)
 unfolding postChecks emit
 post-lowers labels references directives =
-    checks-then (λ (s : State). duplicateLabels [] (s .binds) ++ checkReferences s) (λ (s : State). checkDirectives (s .defs)) (λ ds s. refl)
-    (checks-then (λ (s : State). duplicateLabels [] (s .binds)) (λ (s : State). checkReferences s) (λ ds s. references-alike (emit ds s) s refl refl) labels references)
+    checks-then (λ (s : State). duplicateLabels [] (s .binds) ++ checkReferences s) (λ (s : State). checkDirectives (s .defs))
+    (λ ds s. refl)
+    (checks-then (λ (s : State). duplicateLabels [] (s .binds)) (λ (s : State). checkReferences s)
+    (λ ds s. references-alike (emit ds s) s refl refl) labels references)
     directives

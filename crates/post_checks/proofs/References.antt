@@ -10,38 +10,46 @@ use borrow.Author.Tests.{ne-eqb}
 use lib.Dec.{eqb}
 use lib.ListN.{length, getD, take}
 use lib.Seq.{take-suc, take-all}
-use Rattle.paths_numbers.specs.Path.{joined}
+use Rattle.paths_numbers.specs.meaning.Path.{joined}
 use Rattle.paths_numbers.proofs.Texts.{by-test}
 use Rattle.making.specs.declared.ctx.LowerCtx.{LowerCtx}
 use Rattle.making.specs.declared.place.PathAt.{PathAt}
-use Rattle.making.specs.declared.recs.Span as declared
-use Rattle.log.specs.Meaning.{Span, Def, Binding, Diag}
-use Rattle.log.specs.Record.{kindOf, childOf, nOf, mOf, spanStart, spanEnd, nameStart, nameEnd, textStart, textLength, firstText, secondText, logCount, nodeKind, propertyKind, deletedNodeKind, deletedPropertyKind, pluginKind, cellListKind, bytestringKind, referenceKind}
-use Rattle.log.specs.ReadBack.{chainOf, nameSpanAt, targetAt, readLabels, cellAt, readCells, valueAt, readValues, defValueAt, defAt, readDefs, bindingAt, readBindings}
-use Rattle.making.specs.PathPlaces.{pathIn}
-use Rattle.making.specs.Recs.{meant, diagMade, noSpan}
-use Rattle.making.specs.State.{State, emit}
-use Rattle.making.specs.Represents.{Context, Represents, Steps}
-use Rattle.making.specs.Kept.{Still, All, all-none, all-more, Kept, Keeps}
+use Rattle.log.specs.declared.parts.Span as declared
+use Rattle.log.specs.meaning.Contents.{Span, Def, Binding, Diag}
+use Rattle.log.specs.meaning.Record.{kindOf, childOf, nOf, mOf, spanStart, spanEnd, nameStart, nameEnd, textStart, textLength, firstText}
+use Rattle.log.specs.meaning.Record.{secondText, logCount, nodeKind, propertyKind, deletedNodeKind, deletedPropertyKind, pluginKind}
+use Rattle.log.specs.meaning.Record.{cellListKind, bytestringKind, referenceKind}
+use Rattle.log.specs.meaning.ReadBack.{chainOf, nameSpanAt, targetAt, readLabels, cellAt, readCells, valueAt, readValues, defValueAt, defAt}
+use Rattle.log.specs.meaning.ReadBack.{readDefs, bindingAt, readBindings}
+use Rattle.making.specs.machine.PathPlaces.{pathIn}
+use Rattle.making.specs.machine.Recs.{diagMade, noSpan}
+use Rattle.log.specs.machine.Parts.{meant}
+use Rattle.making.specs.meaning.State.{State, emit}
+use Rattle.making.specs.machine.Represents.{Context, Represents, Steps}
+use Rattle.making.specs.machine.Kept.{Still, All, all-none, all-more, Kept, Keeps}
 use Rattle.making.proofs.InHand.{represents-defs, represents-bindings}
 use Rattle.making.proofs.Keeping.{still-kept, binds-still, defs-still, parts-still, first-place, second-place}
-use Rattle.queries.specs.Kind.{setsOverlay}
-use Rattle.queries.specs.Live.{isLive, live}
-use Rattle.queries.specs.Query.{liveNumbers}
-use Rattle.queries.specs.Table.{fitted}
+use Rattle.queries.specs.meaning.Kind.{setsOverlay}
+use Rattle.queries.specs.meaning.Live.{isLive, live}
+use Rattle.queries.specs.meaning.Query.{liveNumbers}
+use Rattle.queries.specs.machine.Table.{fitted}
 use Rattle.queries.proofs.Chain.{chain-most}
 use Rattle.queries.proofs.Numbers.{live-numbers, live-most, written-start, fitted-full}
-use Rattle.post_checks.specs.Resolve.{firstBinding, byLabel, belowLabel, liveAt, resolve}
-use Rattle.post_checks.specs.Post.{checkTarget, checkCell, checkCells, checkValue, checkValues, checkDef, checkDefs, checkReferences}
-use Rattle.post_checks.specs.Lowers.{Lowers}
-use Rattle.post_checks.specs.Leading.{resolution, placedIn, Leads}
-use Rattle.post_checks.specs.Checks.{Reports, textPlace, said, targetLabel, targetPlace}
-use Rattle.post_checks.specs.declared.resolve.Resolved.{Resolved}
-use Rattle.post_checks.specs.declared.resolve.Resolved.the-variants as R
-use Rattle.post_checks.proofs.Checks.{all-first, all-at, chain-kept, reports-none, reports-one, reports-as, reports-under, reports-then, reports-lower}
+use Rattle.resolving.specs.meaning.Resolve.{firstBinding, byLabel, belowLabel, liveAt, resolve}
+use Rattle.post_checks.specs.meaning.Post.{checkTarget, checkCell, checkCells, checkValue, checkValues, checkDef, checkDefs}
+use Rattle.post_checks.specs.meaning.Post.{checkReferences}
+use Rattle.resolving.specs.machine.Lowers.{Lowers}
+use Rattle.resolving.specs.machine.Leading.{resolution, Leads}
+use Rattle.making.specs.machine.PathPlaces.{placedIn}
+use Rattle.post_checks.specs.machine.Checks.{Reports, textPlace, said, targetPlace}
+use Rattle.resolving.specs.machine.Leading.{targetLabel}
+use Rattle.resolving.specs.declared.resolve.Resolved.{Resolved}
+use Rattle.resolving.specs.declared.resolve.Resolved.the-variants as R
+use Rattle.post_checks.proofs.Checks.{all-first, all-at, chain-kept, reports-none, reports-one, reports-as, reports-under}
+use Rattle.post_checks.proofs.Checks.{reports-then, reports-lower}
 use Rattle.post_checks.proofs.Headers.{no-text}
 use Rattle.post_checks.proofs.Duplicates.{binding-kept}
-use Rattle.post_checks.proofs.Leading.{none-in, never-at, below-text}
+use Rattle.resolving.proofs.Leading.{none-in, never-at, below-text}
 use Rattle.post_checks.proofs.PostChecks.{defs-alike}
 
 -- what is read of records that stay
@@ -49,7 +57,8 @@ all-alike : {A : Type 0} {P : ℕ → Type 0} (f g : ℕ → A) {l : List ℕ} �
 all-alike f g h all-none = refl
 all-alike f g h (all-more {r} {l} p a) = cc (h r p, all-alike f g h a)
 
-module _ {k : Context} {s : State} {c d : LowerCtx} {words bytes w b : List ℕ} (rep : Represents k c words bytes s) (z : c .short ≡ false) (kept : Kept c d words bytes w b) where
+module _ {k : Context} {s : State} {c d : LowerCtx} {words bytes w b : List ℕ} (rep : Represents k c words bytes s) (z : c .short ≡ false)
+    (kept : Kept c d words bytes w b) where
   target-kept : (r : ℕ) → Still words (c .records) r → targetAt w b r ≡ targetAt words bytes r
   unfolding targetAt
   target-kept r h =
@@ -119,11 +128,20 @@ module _ {k : Context} {s : State} {c d : LowerCtx} {words bytes w b : List ℕ}
   said-kept =
       let ds = defs-still rep z in
       let bs = binds-still rep z in
-      rw (kept .defs, kept .binds, from-kept (c .defs .first) ds, from-kept (c .binds .first) bs, all-alike (defAt w b) (defAt words bytes) def-kept ds, all-alike (bindingAt w b) (bindingAt words bytes) (λ r h. binding-kept kept h) bs) refl
+      rw (
+        kept .defs,
+        kept .binds,
+        from-kept (c .defs .first) ds,
+        from-kept (c .binds .first) bs,
+        all-alike (defAt w b) (defAt words bytes)
+            def-kept ds,
+        all-alike (bindingAt w b) (bindingAt words bytes) (λ r h. binding-kept kept h) bs,
+      ) refl
 
   -- one record on: the steps of check_cells and check_values, and of check_definitions
   pub cells-next : (span : Span) (r : ℕ) (later : List ℕ) → Still words (c .records) r
-      → checkCells (said c words bytes) span (map (cellAt words bytes) (r ∷ later)) ≡ checkCell (said d w b) span (cellAt w b r) ++ checkCells (said c words bytes) span (map (cellAt words bytes) later)
+      → checkCells (said c words bytes) span (map (cellAt words bytes) (r ∷ later)) ≡ checkCell (said d w b) span (cellAt w b r)
+      ++ checkCells (said c words bytes) span (map (cellAt words bytes) later)
   unfolding checkCells
   cells-next span r later h = rw (said-kept, cell-kept r h) refl
 
@@ -141,7 +159,8 @@ module _ {k : Context} {s : State} {c d : LowerCtx} {words bytes w b : List ℕ}
 defs-append : (s : State) (xs ys : List Def) → checkDefs s (xs ++ ys) ≡ checkDefs s xs ++ checkDefs s ys
 unfolding checkDefs
 defs-append s [] ys = refl
-defs-append s (d ∷ xs) ys = rw (defs-append s xs ys) (sym (append-assoc (checkDef s (d .nameSpan) (d .value)) (checkDefs s xs) (checkDefs s ys)))
+defs-append s (d ∷ xs) ys = rw (defs-append s xs ys) (sym (append-assoc (checkDef s (d .nameSpan) (d .value)) (checkDefs s xs)
+    (checkDefs s ys)))
 
 module _ {c d e : LowerCtx} {words bytes w b v u : List ℕ} (l : List ℕ) (i r : ℕ) (q : r ≡ getD l i 0) (h : i < length l) where
   pub definitions-next : Reports c d words bytes w b l (checkDefs (said c words bytes) (map (defAt words bytes) (take i l)))
@@ -179,44 +198,9 @@ module _ (words bytes : List ℕ) (r n : ℕ) (e : n ≡ nOf words r) where
       let q = ne-eqb (nOf words r) 2 (λ h. g (e ∙ h)) in
       rw (p, q) refl
 
-  module _ (binds defs : ℕ) (v : Resolved) where
-    abbrev bs : List Binding
-    bs = readBindings words bytes binds
-
-    abbrev ds : List Def
-    ds = readDefs words bytes defs
-
-    abbrev Answers : Type 0
-    Answers =
-        (resolution words bytes (targetLabel words bytes r) (secondText words bytes r) v ≡ resolve (targetAt words bytes r) bs ds)
-        × Leads words bytes binds defs (targetLabel words bytes r) (secondText words bytes r) v
-
-    pub answers-label : n ≡ 1 → resolution words bytes (firstText words bytes r) (secondText words bytes r) v ≡ byLabel (firstText words bytes r) (firstBinding (firstText words bytes r) bs)
-        → Leads words bytes binds defs (firstText words bytes r) (secondText words bytes r) v → Answers
-    unfolding targetLabel targetAt resolve
-    answers-label h x y = let q : nOf words r ≡ 1 = sym e ∙ h in rw q (x, y)
-
-    pub answers-both : n ≡ 2
-        → resolution words bytes (firstText words bytes r) (secondText words bytes r) v ≡ belowLabel (firstText words bytes r) (secondText words bytes r) (firstBinding (firstText words bytes r) bs) ds
-        → Leads words bytes binds defs (firstText words bytes r) (secondText words bytes r) v → Answers
-    unfolding targetLabel targetAt resolve
-    answers-both h x y = let q : nOf words r ≡ 2 = sym e ∙ h in rw q (x, y)
-
-    pub answers-path : n ≡ 3 → ((l : List ℕ) → resolution words bytes l (secondText words bytes r) v ≡ liveAt (secondText words bytes r) ds)
-        → ((l : List ℕ) (k : ℕ) → Leads words bytes k defs l (secondText words bytes r) v) → Answers
-    unfolding targetLabel targetAt resolve
-    answers-path h x y = let q : nOf words r ≡ 3 = sym e ∙ h in rw q (x [], y [] binds)
-
-  pub answers-none : (binds defs : ℕ) → (n ≡ 1 → ⊥) → (n ≡ 2 → ⊥) → (n ≡ 3 → ⊥) → Answers binds defs R.NoLabel
-  unfolding targetLabel targetAt resolve resolution
-  answers-none binds defs f g h =
-      let a = ne-eqb (nOf words r) 1 (λ q. f (e ∙ q)) in
-      let b = ne-eqb (nOf words r) 2 (λ q. g (e ∙ q)) in
-      let c = ne-eqb (nOf words r) 3 (λ q. h (e ∙ q)) in
-      rw (a, b, c) (refl, none-in R.NoLabel refl never-at)
-
 -- its label as it stands in the bytes
-label-read : {k : Context} {s : State} {c : LowerCtx} {words bytes : List ℕ} {r : ℕ} → Represents k c words bytes s → c .short ≡ false → Still words (c .records) r
+label-read : {k : Context} {s : State} {c : LowerCtx} {words bytes : List ℕ} {r : ℕ} → Represents k c words bytes s → c .short ≡ false
+    → Still words (c .records) r
     → pathIn (c .bytes) bytes (targetPlace words r) ≡ targetLabel words bytes r
 unfolding targetPlace targetLabel
 label-read {c = c} {words} {bytes} {r} rep z h =
@@ -229,21 +213,25 @@ abbrev onTarget : LowerCtx → List ℕ → List ℕ → declared.Span → ℕ �
 onTarget c words bytes span r = checkTarget (said c words bytes) (meant span) (targetAt words bytes r)
 
 module _ {c : LowerCtx} {words bytes : List ℕ} (r : ℕ) (span : declared.Span) (v : Resolved)
-    (e : resolution words bytes (targetLabel words bytes r) (secondText words bytes r) v ≡ resolve (targetAt words bytes r) (readBindings words bytes (c .binds .first)) (readDefs words bytes (c .defs .first))) where
+    (e : resolution words bytes (targetLabel words bytes r) (secondText words bytes r) v ≡ resolve (targetAt words bytes r)
+    (readBindings words bytes (c .binds .first)) (readDefs words bytes (c .defs .first))) where
   module _ {d : LowerCtx} {w b : List ℕ} (h : Keeps c d words bytes w b) where
-    pub target-label : (at : PathAt) → v ≡ R.NoLabel → at ≡ targetPlace words r → Steps c d words bytes w b (emit (diagMade 3 (pathIn (c .bytes) bytes at) span noSpan ∷ []))
+    pub target-label : (at : PathAt) → v ≡ R.NoLabel → at ≡ targetPlace words r
+        → Steps c d words bytes w b (emit (diagMade 3 (pathIn (c .bytes) bytes at) span noSpan ∷ []))
         → Reports c d words bytes w b (r ∷ []) (onTarget c words bytes span r)
     unfolding said resolution
     target-label at q p t = rw (← e, q) (reports-as (reports-one h t) (λ k s rep z a. rw (p, label-read rep z (all-first a)) refl))
 
-    pub target-node : (at : PathAt) → v ≡ R.NoNode → at ≡ placedIn words r 4 → Steps c d words bytes w b (emit (diagMade 4 (pathIn (c .bytes) bytes at) span noSpan ∷ []))
+    pub target-node : (at : PathAt) → v ≡ R.NoNode → at ≡ placedIn words r 4
+        → Steps c d words bytes w b (emit (diagMade 4 (pathIn (c .bytes) bytes at) span noSpan ∷ []))
         → Reports c d words bytes w b (r ∷ []) (onTarget c words bytes span r)
     unfolding said resolution
     target-node at q p t = rw (← e, q) (reports-as (reports-one h t) (λ k s rep z a. rw (p, second-place rep z (all-first a)) refl))
 
     pub target-below : (x : ℕ) (base at : PathAt) → v ≡ R.NoNodeBelow x → base ≡ placedIn words x 4 → at ≡ placedIn words r 4
         → Leads words bytes (c .binds .first) (c .defs .first) (targetLabel words bytes r) (secondText words bytes r) v
-        → Steps c d words bytes w b (emit (diagMade 4 (joined (pathIn (c .bytes) bytes base) (pathIn (c .bytes) bytes at) []) span noSpan ∷ []))
+        → Steps c d words bytes w b (emit (diagMade 4 (joined (pathIn (c .bytes) bytes base) (pathIn (c .bytes) bytes at) []) span noSpan
+        ∷ []))
         → Reports c d words bytes w b (r ∷ []) (onTarget c words bytes span r)
     unfolding said resolution
     target-below x base at q f p i t =
@@ -269,7 +257,8 @@ module _ (c : LowerCtx) (words bytes : List ℕ) (s : State) (span : Span) (r n 
   unfolding cellAt
   cell-other f = let q = ne-eqb (kindOf words r) referenceKind (λ h. f (e ∙ h)) in rw q (reports-none c words bytes (r ∷ []))
 
-  pub value-other : (n ≡ cellListKind → ⊥) → (n ≡ referenceKind → ⊥) → Reports c c words bytes words bytes (r ∷ []) (checkValue s span (valueAt words bytes r))
+  pub value-other : (n ≡ cellListKind → ⊥) → (n ≡ referenceKind → ⊥)
+      → Reports c c words bytes words bytes (r ∷ []) (checkValue s span (valueAt words bytes r))
   unfolding valueAt
   value-other f g =
       let p = ne-eqb (kindOf words r) cellListKind (λ h. f (e ∙ h)) in
@@ -305,15 +294,18 @@ module _ (c : LowerCtx) (words bytes : List ℕ) (s : State) (span : Span) (r n 
     value-target h x = let q : kindOf words r ≡ referenceKind = sym e ∙ h in rw q x
 
     -- what is below it stays with it
-    below-reports : {ds : List Diag} → Reports c d words bytes w b (chainOf words (childOf words r)) ds → Reports c d words bytes w b (r ∷ []) ds
+    below-reports : {ds : List Diag} → Reports c d words bytes w b (chainOf words (childOf words r)) ds
+        → Reports c d words bytes w b (r ∷ []) ds
     below-reports x = reports-under x (λ k t rep z a. parts-still rep z (all-first a))
 
-    pub value-cells : n ≡ cellListKind → (first : ℕ) → first ≡ childOf words r → Reports c d words bytes w b (chainOf words first) (checkCells s span (readCells words bytes first))
+    pub value-cells : n ≡ cellListKind → (first : ℕ) → first ≡ childOf words r
+        → Reports c d words bytes w b (chainOf words first) (checkCells s span (readCells words bytes first))
         → Reports c d words bytes w b (r ∷ []) (checkValue s span (valueAt words bytes r))
     unfolding valueAt
     value-cells h first f x = let q : kindOf words r ≡ cellListKind = sym e ∙ h in rw q (below-reports (rw f at x))
 
-    pub def-values : n ≡ propertyKind → (first : ℕ) → first ≡ childOf words r → Reports c d words bytes w b (chainOf words first) (checkValues s span (readValues words bytes first))
+    pub def-values : n ≡ propertyKind → (first : ℕ) → first ≡ childOf words r
+        → Reports c d words bytes w b (chainOf words first) (checkValues s span (readValues words bytes first))
         → Reports c d words bytes w b (r ∷ []) (checkDef s span (defValueAt words bytes r))
     unfolding defValueAt
     def-values h first f x = let q : kindOf words r ≡ propertyKind = sym e ∙ h in rw q (below-reports (rw f at x))
@@ -331,11 +323,13 @@ all-live def base (all-more {r} {l} p a) =
     (by-test (isLive base (def r) (map def l)) (λ t. rw t (all-more p all-none)) (λ t. rw t all-none))
 
 -- and so no more than there are records
-pub live-room : (words bytes base : List ℕ) (first n : ℕ) → n ≡ length (liveNumbers (defAt words bytes) base (chainOf words first)) → n ≤ logCount words
+pub live-room : (words bytes base : List ℕ) (first n : ℕ) → n ≡ length (liveNumbers (defAt words bytes) base (chainOf words first))
+    → n ≤ logCount words
 live-room words bytes base first n e = omega (arith, live-most (defAt words bytes) base (chainOf words first), chain-most words first)
 
 module _ {c d : LowerCtx} {words bytes w b : List ℕ} where
-  pub live-reports : (list after base : List ℕ) (n : ℕ) → base ≡ [] → logCount words ≤ length list → n ≡ length (liveNumbers (defAt words bytes) base (chainOf words (c .defs .first)))
+  pub live-reports : (list after base : List ℕ) (n : ℕ) → base ≡ [] → logCount words ≤ length list
+      → n ≡ length (liveNumbers (defAt words bytes) base (chainOf words (c .defs .first)))
       → after ≡ fitted list (liveNumbers (defAt words bytes) base (chainOf words (c .defs .first)))
       → Reports c d words bytes w b (take n after) (checkDefs (said c words bytes) (map (defAt words bytes) (take n after)))
       → Reports c d words bytes w b [] (checkDefs (said c words bytes) (live [] (readDefs words bytes (c .defs .first))))
@@ -347,7 +341,8 @@ module _ {c d : LowerCtx} {words bytes w b : List ℕ} where
       let e′ : after ≡ fitted list found = rw z at e in
       let fits : length found ≤ length list = omega (arith, live-room words bytes [] (c .defs .first) n f′) in
       let t : take n after ≡ found = ap (take n) (e′ ∙ sym (fitted-full list found fits)) ∙ written-start list found n f′ in
-      rw (← live-numbers (defAt words bytes) [] chain) (reports-under (rw t at h) (λ k s rep y a. all-live (defAt words bytes) [] (defs-still rep y)))
+      rw (← live-numbers (defAt words bytes) [] chain) (reports-under (rw t at h)
+      (λ k s rep y a. all-live (defAt words bytes) [] (defs-still rep y)))
 
   -- as what lowering does to the log, but for an overlay
   pub phandles-lower : setsOverlay (readDefs words bytes (c .defs .first)) ≡ false
@@ -358,8 +353,11 @@ module _ {c d : LowerCtx} {words bytes w b : List ℕ} where
       reports-lower (λ (s : State). checkReferences s) h
       (λ k s rep z.
       let q = represents-defs rep z in
-      let p : setsOverlay (s .defs) ≡ false = ap setsOverlay (sym q) ∙ o in
-      (all-none, rw p (defs-alike (said c words bytes) s (represents-bindings rep z) q (live [] (readDefs words bytes (c .defs .first))) ∙ ap (λ (ds : List Def). checkDefs s (live [] ds)) q)))
+      let p : setsOverlay (s .defs) ≡ false = ap setsOverlay (sym q) ∙ o in (
+        all-none,
+        rw p (defs-alike (said c words bytes) s (represents-bindings rep z) q (live [] (readDefs words bytes (c .defs .first)))
+            ∙ ap (λ (ds : List Def). checkDefs s (live [] ds)) q),
+      ))
 
 pub phandles-none : {c : LowerCtx} {words bytes : List ℕ} → setsOverlay (readDefs words bytes (c .defs .first)) ≡ true
     → Lowers c c words bytes words bytes (λ (s : State). emit (checkReferences s) s)

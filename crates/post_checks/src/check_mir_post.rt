@@ -2,15 +2,22 @@
 // is added behind it and keeps what they walk through.
 ghost use mathlib.Core.Path.{_≡_};
 ghost use mathlib.Core.List.{[], _∷_, map};
-ghost use Rattle.log.specs.Record.{kindOf, nextOf, textStart, textLength};
-ghost use Rattle.log.specs.ReadBack.{chainFrom, spanAt, nameSpanAt, bindingAt};
-ghost use Rattle.making.specs.Recs.{meant};
-ghost use Rattle.making.specs.State.{State, emit};
-ghost use Rattle.queries.specs.Kind.{any};
-ghost use Rattle.post_checks.specs.Post.{duplicatesOf, duplicateLabels, checkDirectives, postChecks};
-ghost use Rattle.post_checks.specs.Lowers.{Lowers};
-ghost use Rattle.post_checks.specs.Checks.{Reports, isPlain, headersOf, headerCode, codeReport, headersAfter, again, isReported, bindingReport, labelReports, textPlace};
+ghost use Rattle.log.specs.meaning.Record.{kindOf, nextOf, textStart, textLength};
+ghost use Rattle.log.specs.meaning.ReadBack.{chainFrom, spanAt, nameSpanAt, bindingAt};
+ghost use Rattle.log.specs.machine.Parts.{meant};
+ghost use Rattle.making.specs.meaning.State.{State, emit};
+ghost use Rattle.paths_numbers.specs.meaning.Lists.{any};
+ghost use Rattle.post_checks.specs.meaning.Post.{duplicatesOf, duplicateLabels, checkDirectives, postChecks};
+ghost use Rattle.resolving.specs.machine.Lowers.{Lowers};
+ghost use Rattle.post_checks.specs.machine.Checks.{Reports, isPlain, headersOf, headerCode, codeReport, headersAfter, again};
+ghost use Rattle.post_checks.specs.machine.Checks.{isReported, bindingReport, labelReports, textPlace};
 use crate::check_phandles::check_phandles;
+use log::kinds::DELETED_PROPERTY;
+use log::kinds::PLUGIN;
+use log::layout;
+use log::parts::Span;
+use log::parts::name_span_of;
+use log::parts::span_of;
 use log::record::first_text;
 use log::record::kind_of;
 use log::record::log_count;
@@ -19,10 +26,12 @@ use log::record::out_field;
 use log::record::second_text;
 use making::ctx::LowerCtx;
 use making::place::PathAt;
-use making::recs::Span;
+use making::place::first_place;
+use paths_numbers::codes::BEFORE_VERSION;
+use paths_numbers::codes::DUPLICATE_LABEL;
+use paths_numbers::codes::PLUGIN_MISPLACED;
+use paths_numbers::codes::VERSION_LATE;
 use paths_numbers::text::equals;
-use queries::definition::DELETED_PROPERTY;
-use queries::definition::PLUGIN;
 use queries::definition::goes_on;
 
 // Directive order: whether all definitions so far are headers, whether a plugin directive may follow,
@@ -35,7 +44,8 @@ pub struct Headers {
 
 // Runs the checks, in this order.
 pub fn check_mir_post(out: &mut [u32], bytes: &mut [u8], ctx: LowerCtx) -> LowerCtx
-    ensures { λ d. ⌜ Lowers ctx d (now (out .entry)) (now (bytes .entry)) (now (out .exit)) (now (bytes .exit)) (λ (s : State). emit (postChecks s) s) ⌝ }
+    ensures { λ d. ⌜ Lowers ctx d (now (out .entry)) (now (bytes .entry)) (now (out .exit)) (now (bytes .exit))
+        (λ (s : State). emit (postChecks s) s) ⌝ }
 {
     let labels = check_duplicate_labels(out, bytes, ctx);
     let phandles = check_phandles(out, bytes, labels);
@@ -44,7 +54,8 @@ pub fn check_mir_post(out: &mut [u32], bytes: &mut [u8], ctx: LowerCtx) -> Lower
 
 // Reports labels that are still bound at more than one path.
 pub fn check_duplicate_labels(out: &mut [u32], bytes: &mut [u8], ctx: LowerCtx) -> LowerCtx
-    ensures { λ d. ⌜ Lowers ctx d (now (out .entry)) (now (bytes .entry)) (now (out .exit)) (now (bytes .exit)) (λ (s : State). emit (duplicateLabels [] (s .binds)) s) ⌝ }
+    ensures { λ d. ⌜ Lowers ctx d (now (out .entry)) (now (bytes .entry)) (now (out .exit)) (now (bytes .exit))
+        (λ (s : State). emit (duplicateLabels [] (s .binds)) s) ⌝ }
 {
     let most = log_count(out);
     let first = ctx.binds.first;
@@ -70,7 +81,11 @@ fn check_label(
     r: u32,
     left: u32,
 ) -> LowerCtx
-    ensures { λ d. ⌜ Reports ctx d (now (out .entry)) (now (bytes .entry)) (now (out .exit)) (now (bytes .exit)) (r ∷ chainFrom left (now (out .entry)) (nextOf (now (out .entry)) r)) (labelReports (bindingAt (now (out .entry)) (now (bytes .entry)) r) (map (bindingAt (now (out .entry)) (now (bytes .entry))) (chainFrom passed (now (out .entry)) first)) (map (bindingAt (now (out .entry)) (now (bytes .entry))) (chainFrom left (now (out .entry)) (nextOf (now (out .entry)) r)))) ⌝ }
+    ensures { λ d. ⌜ Reports ctx d (now (out .entry)) (now (bytes .entry)) (now (out .exit)) (now (bytes .exit))
+        (r ∷ chainFrom left (now (out .entry)) (nextOf (now (out .entry)) r))
+        (labelReports (bindingAt (now (out .entry)) (now (bytes .entry)) r)
+        (map (bindingAt (now (out .entry)) (now (bytes .entry))) (chainFrom passed (now (out .entry)) first))
+        (map (bindingAt (now (out .entry)) (now (bytes .entry))) (chainFrom left (now (out .entry)) (nextOf (now (out .entry)) r)))) ⌝ }
 {
     if binds_again(out, bytes, first, passed, r, false) {
         return ctx;
@@ -86,7 +101,11 @@ fn check_bindings(
     first: u32,
     most: u32,
 ) -> LowerCtx
-    ensures { λ d. ⌜ Reports ctx d (now (out .entry)) (now (bytes .entry)) (now (out .exit)) (now (bytes .exit)) (first ∷ chainFrom most (now (out .entry)) (nextOf (now (out .entry)) first)) (duplicatesOf (bindingAt (now (out .entry)) (now (bytes .entry)) first) ((bindingAt (now (out .entry)) (now (bytes .entry)) first) .path ∷ []) (map (bindingAt (now (out .entry)) (now (bytes .entry))) (chainFrom most (now (out .entry)) (nextOf (now (out .entry)) first)))) ⌝ }
+    ensures { λ d. ⌜ Reports ctx d (now (out .entry)) (now (bytes .entry)) (now (out .exit)) (now (bytes .exit))
+        (first ∷ chainFrom most (now (out .entry)) (nextOf (now (out .entry)) first))
+        (duplicatesOf (bindingAt (now (out .entry)) (now (bytes .entry)) first)
+        ((bindingAt (now (out .entry)) (now (bytes .entry)) first) .path ∷ [])
+        (map (bindingAt (now (out .entry)) (now (bytes .entry))) (chainFrom most (now (out .entry)) (nextOf (now (out .entry)) first)))) ⌝ }
 {
     let after = next_of(out, first);
     let mut made = ctx;
@@ -111,20 +130,24 @@ fn check_binding(
     passed: u32,
     r: u32,
 ) -> LowerCtx
-    ensures { λ d. ⌜ Reports ctx d (now (out .entry)) (now (bytes .entry)) (now (out .exit)) (now (bytes .exit)) (r ∷ []) (bindingReport (bindingAt (now (out .entry)) (now (bytes .entry)) first) (bindingAt (now (out .entry)) (now (bytes .entry)) r) (map (bindingAt (now (out .entry)) (now (bytes .entry))) (chainFrom passed (now (out .entry)) after))) ⌝ }
+    ensures { λ d. ⌜ Reports ctx d (now (out .entry)) (now (bytes .entry)) (now (out .exit)) (now (bytes .exit)) (r ∷ [])
+        (bindingReport (bindingAt (now (out .entry)) (now (bytes .entry)) first) (bindingAt (now (out .entry)) (now (bytes .entry)) r)
+        (map (bindingAt (now (out .entry)) (now (bytes .entry))) (chainFrom passed (now (out .entry)) after))) ⌝ }
 {
     if is_reported(out, bytes, first, after, passed, r) {
         let span = span_of(out, r);
         let earlier = span_of(out, first);
-        let label = label_place(out, r);
-        return ctx.emit_copied(out, bytes, 20, span, earlier, label);
+        let label = first_place(out, r);
+        return ctx.emit_copied(out, bytes, DUPLICATE_LABEL, span, earlier, label);
     }
     ctx
 }
 
 // Whether there is a report on it.
 fn is_reported(out: &[u32], bytes: &[u8], first: u32, after: u32, passed: u32, r: u32) -> bool
-    ensures { λ t. ⌜ t ≡ isReported (bindingAt (now (out .entry)) (now (bytes .entry)) first) (bindingAt (now (out .entry)) (now (bytes .entry)) r) (map (bindingAt (now (out .entry)) (now (bytes .entry))) (chainFrom passed (now (out .entry)) after)) ⌝ }
+    ensures { λ t. ⌜ t ≡ isReported (bindingAt (now (out .entry)) (now (bytes .entry)) first)
+        (bindingAt (now (out .entry)) (now (bytes .entry)) r) (map (bindingAt (now (out .entry)) (now (bytes .entry)))
+        (chainFrom passed (now (out .entry)) after)) ⌝ }
 {
     if !equals(first_text(out, bytes, r), first_text(out, bytes, first)) {
         return false;
@@ -138,7 +161,8 @@ fn is_reported(out: &[u32], bytes: &[u8], first: u32, after: u32, passed: u32, r
 // Whether one of the bindings from `first` on, of which there are at most `most`, has the label of
 // binding `r`, and its path where that is asked.
 fn binds_again(out: &[u32], bytes: &[u8], first: u32, most: u32, r: u32, by_path: bool) -> bool
-    ensures { λ t. ⌜ t ≡ any (again (bindingAt (now (out .entry)) (now (bytes .entry)) r) «by_path») (map (bindingAt (now (out .entry)) (now (bytes .entry))) (chainFrom most (now (out .entry)) first)) ⌝ }
+    ensures { λ t. ⌜ t ≡ any (again (bindingAt (now (out .entry)) (now (bytes .entry)) r) «by_path»)
+        (map (bindingAt (now (out .entry)) (now (bytes .entry))) (chainFrom most (now (out .entry)) first)) ⌝ }
 {
     let mut x = first;
     let mut left = most;
@@ -154,7 +178,8 @@ fn binds_again(out: &[u32], bytes: &[u8], first: u32, most: u32, r: u32, by_path
 
 // Whether binding `x` has the label of binding `r`, and its path where that is asked.
 fn binds_as(out: &[u32], bytes: &[u8], x: u32, r: u32, by_path: bool) -> bool
-    ensures { λ t. ⌜ t ≡ again (bindingAt (now (out .entry)) (now (bytes .entry)) r) «by_path» (bindingAt (now (out .entry)) (now (bytes .entry)) x) ⌝ }
+    ensures { λ t. ⌜ t ≡ again (bindingAt (now (out .entry)) (now (bytes .entry)) r) «by_path»
+        (bindingAt (now (out .entry)) (now (bytes .entry)) x) ⌝ }
 {
     if !equals(first_text(out, bytes, r), first_text(out, bytes, x)) {
         return false;
@@ -167,7 +192,8 @@ fn binds_as(out: &[u32], bytes: &[u8], x: u32, r: u32, by_path: bool) -> bool
 
 // Reports version and plugin directives out of order, and a definition before the version.
 pub fn check_directives(out: &mut [u32], bytes: &mut [u8], ctx: LowerCtx) -> LowerCtx
-    ensures { λ d. ⌜ Lowers ctx d (now (out .entry)) (now (bytes .entry)) (now (out .exit)) (now (bytes .exit)) (λ (s : State). emit (checkDirectives (s .defs)) s) ⌝ }
+    ensures { λ d. ⌜ Lowers ctx d (now (out .entry)) (now (bytes .entry)) (now (out .exit)) (now (bytes .exit))
+        (λ (s : State). emit (checkDirectives (s .defs)) s) ⌝ }
 {
     let mut made = ctx;
     let mut headers = Headers {
@@ -195,7 +221,8 @@ fn check_directive(
     r: u32,
     headers: Headers,
 ) -> LowerCtx
-    ensures { λ d. ⌜ Reports ctx d (now (out .entry)) (now (bytes .entry)) (now (out .exit)) (now (bytes .exit)) (r ∷ []) (codeReport (headerCode (kindOf (now (out .entry)) r) (headersOf headers)) (nameSpanAt (now (out .entry)) r)) ⌝ }
+    ensures { λ d. ⌜ Reports ctx d (now (out .entry)) (now (bytes .entry)) (now (out .exit)) (now (bytes .exit)) (r ∷ [])
+        (codeReport (headerCode (kindOf (now (out .entry)) r) (headersOf headers)) (nameSpanAt (now (out .entry)) r)) ⌝ }
 {
     let code = header_code(kind_of(out, r), headers);
     if code == 0 {
@@ -219,18 +246,18 @@ fn header_code(kind: u32, headers: Headers) -> u32
         if headers.seen {
             return 0;
         }
-        return 23;
+        return BEFORE_VERSION;
     }
     if kind == PLUGIN {
         if headers.allowed {
             return 0;
         }
-        return 22;
+        return PLUGIN_MISPLACED;
     }
     if headers.only {
         return 0;
     }
-    21
+    VERSION_LATE
 }
 
 // What is known of the headers after a definition of a kind: a late version directive allows nothing.
@@ -269,35 +296,4 @@ fn is_plain(kind: u32) -> bool
         return false;
     }
     kind <= DELETED_PROPERTY
-}
-
-// The name span of a record.
-pub fn name_span_of(out: &[u32], r: u32) -> Span
-    ensures { λ s. ⌜ meant s ≡ nameSpanAt (now (out .entry)) r ⌝ }
-{
-    Span {
-        from: out_field(out, r, 11),
-        to: out_field(out, r, 12),
-    }
-}
-
-// The span of a record.
-fn span_of(out: &[u32], r: u32) -> Span
-    ensures { λ s. ⌜ meant s ≡ spanAt (now (out .entry)) r ⌝ }
-{
-    Span {
-        from: out_field(out, r, 9),
-        to: out_field(out, r, 10),
-    }
-}
-
-// The place of a record's first text.
-pub fn label_place(out: &[u32], r: u32) -> PathAt
-    ensures { λ p. ⌜ p ≡ textPlace (textStart (now (out .entry)) r) (textLength (now (out .entry)) r) ⌝ }
-{
-    PathAt {
-        root: false,
-        start: out_field(out, r, 2),
-        size: out_field(out, r, 3),
-    }
 }

@@ -4,24 +4,29 @@ ghost use mathlib.Core.Path.{_≡_};
 ghost use mathlib.Core.List.{[], _∷_, map};
 ghost use Prim.Native.Nat.{_≤_};
 ghost use lib.ListN.{length};
-ghost use Rattle.log.specs.Record.{logCount, secondText};
-ghost use Rattle.log.specs.ReadBack.{chainOf, targetAt, cellAt, readCells, valueAt, readValues, nameSpanAt, defValueAt, defAt, readDefs, readBindings};
-ghost use Rattle.making.specs.Recs.{meant};
-ghost use Rattle.making.specs.State.{State, emit};
-ghost use Rattle.queries.specs.Live.{live};
-ghost use Rattle.post_checks.specs.Resolve.{resolve};
-ghost use Rattle.post_checks.specs.Leading.{resolution, Leads};
-ghost use Rattle.post_checks.specs.Post.{checkTarget, checkCell, checkCells, checkValue, checkValues, checkDef, checkDefs, checkReferences};
-ghost use Rattle.post_checks.specs.Lowers.{Lowers};
-ghost use Rattle.post_checks.specs.Checks.{Reports, said, targetLabel, targetPlace};
-use crate::check_mir_post::label_place;
-use crate::check_mir_post::name_span_of;
-use crate::resolve::Resolved;
-use crate::resolve::binding_path;
-use crate::resolve::resolve_below;
-use crate::resolve::resolve_label;
-use crate::resolve::resolve_path;
+ghost use Rattle.log.specs.meaning.Record.{logCount, secondText};
+ghost use Rattle.log.specs.meaning.ReadBack.{chainOf, targetAt, cellAt, readCells, valueAt, readValues, nameSpanAt, defValueAt, defAt};
+ghost use Rattle.log.specs.meaning.ReadBack.{readDefs, readBindings};
+ghost use Rattle.log.specs.machine.Parts.{meant};
+ghost use Rattle.making.specs.meaning.State.{State, emit};
+ghost use Rattle.queries.specs.meaning.Live.{live};
+ghost use Rattle.resolving.specs.meaning.Resolve.{resolve};
+ghost use Rattle.resolving.specs.machine.Leading.{resolution, Leads};
+ghost use Rattle.post_checks.specs.meaning.Post.{checkTarget, checkCell, checkCells, checkValue, checkValues, checkDef, checkDefs};
+ghost use Rattle.post_checks.specs.meaning.Post.{checkReferences};
+ghost use Rattle.resolving.specs.machine.Lowers.{Lowers};
+ghost use Rattle.post_checks.specs.machine.Checks.{Reports, said, targetPlace};
+ghost use Rattle.resolving.specs.machine.Leading.{targetLabel};
 use input::record::no_text;
+use log::kinds::CELL_LIST;
+use log::kinds::PROPERTY;
+use log::kinds::REFERENCE;
+use log::layout;
+use log::limits::FEW_RECORDS;
+use log::limits::LEAST_RECORDS;
+use log::limits::MOST_RECORDS;
+use log::parts::Span;
+use log::parts::name_span_of;
 use log::record::child_of;
 use log::record::first_text;
 use log::record::kind_of;
@@ -31,63 +36,62 @@ use log::record::out_field;
 use log::record::second_text;
 use making::ctx::LowerCtx;
 use making::place::PathAt;
-use making::recs::Span;
-use queries::definition::PROPERTY;
+use making::place::first_place;
+use making::place::second_place;
+use paths_numbers::codes::LABEL_NOT_FOUND;
+use paths_numbers::codes::NODE_NOT_FOUND;
 use queries::definition::goes_on;
 use queries::live::live_list;
 use queries::mir::sets_overlay_in;
-
-// The kinds of output records that hold references, by 01's numbers.
-const CELL_LIST: u32 = 9;
-
-const REFERENCE: u32 = 12;
-
-// How many definitions a log can have, and smaller ones, for which a smaller list is set up sooner.
-const MOST: usize = 65536;
-
-const FEW: usize = 8192;
-
-const LEAST: usize = 1024;
+use resolving::resolve::Resolved;
+use resolving::resolve::resolve_target;
 
 // Reports references of live properties that lead nowhere, unless the log is an overlay.
 pub fn check_phandles(out: &mut [u32], bytes: &mut [u8], ctx: LowerCtx) -> LowerCtx
-    ensures { λ d. ⌜ Lowers ctx d (now (out .entry)) (now (bytes .entry)) (now (out .exit)) (now (bytes .exit)) (λ (s : State). emit (checkReferences s) s) ⌝ }
+    ensures { λ d. ⌜ Lowers ctx d (now (out .entry)) (now (bytes .entry)) (now (out .exit)) (now (bytes .exit))
+        (λ (s : State). emit (checkReferences s) s) ⌝ }
 {
     if sets_overlay_in(out, ctx.defs.first) {
         return ctx;
     }
-    if log_count(out) as usize <= LEAST {
+    if log_count(out) as usize <= LEAST_RECORDS {
         return check_least(out, bytes, ctx);
     }
-    if log_count(out) as usize <= FEW {
+    if log_count(out) as usize <= FEW_RECORDS {
         return check_few(out, bytes, ctx);
     }
-    let mut list = [0u32; MOST];
+    let mut list = [0u32; MOST_RECORDS];
     check_live(out, bytes, ctx, &mut list)
 }
 
 // The reports on all live definitions of a log of few records.
 fn check_few(out: &mut [u32], bytes: &mut [u8], ctx: LowerCtx) -> LowerCtx
     requires { ⌜ logCount (now out) ≤ 8192 ⌝ }
-    ensures { λ d. ⌜ Reports ctx d (now (out .entry)) (now (bytes .entry)) (now (out .exit)) (now (bytes .exit)) [] (checkDefs (said ctx (now (out .entry)) (now (bytes .entry))) (live [] (readDefs (now (out .entry)) (now (bytes .entry)) (ctx .defs .first)))) ⌝ }
+    ensures { λ d. ⌜ Reports ctx d (now (out .entry)) (now (bytes .entry)) (now (out .exit)) (now (bytes .exit)) []
+        (checkDefs (said ctx (now (out .entry)) (now (bytes .entry)))
+        (live [] (readDefs (now (out .entry)) (now (bytes .entry)) (ctx .defs .first)))) ⌝ }
 {
-    let mut list = [0u32; FEW];
+    let mut list = [0u32; FEW_RECORDS];
     check_live(out, bytes, ctx, &mut list)
 }
 
 // The reports on all live definitions of a log of the fewest records.
 fn check_least(out: &mut [u32], bytes: &mut [u8], ctx: LowerCtx) -> LowerCtx
     requires { ⌜ logCount (now out) ≤ 1024 ⌝ }
-    ensures { λ d. ⌜ Reports ctx d (now (out .entry)) (now (bytes .entry)) (now (out .exit)) (now (bytes .exit)) [] (checkDefs (said ctx (now (out .entry)) (now (bytes .entry))) (live [] (readDefs (now (out .entry)) (now (bytes .entry)) (ctx .defs .first)))) ⌝ }
+    ensures { λ d. ⌜ Reports ctx d (now (out .entry)) (now (bytes .entry)) (now (out .exit)) (now (bytes .exit)) []
+        (checkDefs (said ctx (now (out .entry)) (now (bytes .entry)))
+        (live [] (readDefs (now (out .entry)) (now (bytes .entry)) (ctx .defs .first)))) ⌝ }
 {
-    let mut list = [0u32; LEAST];
+    let mut list = [0u32; LEAST_RECORDS];
     check_live(out, bytes, ctx, &mut list)
 }
 
 // The reports on all live definitions, with room for their list.
 fn check_live(out: &mut [u32], bytes: &mut [u8], ctx: LowerCtx, list: &mut [u32]) -> LowerCtx
     requires { ⌜ logCount (now out) ≤ length (now list) ⌝ }
-    ensures { λ d. ⌜ Reports ctx d (now (out .entry)) (now (bytes .entry)) (now (out .exit)) (now (bytes .exit)) [] (checkDefs (said ctx (now (out .entry)) (now (bytes .entry))) (live [] (readDefs (now (out .entry)) (now (bytes .entry)) (ctx .defs .first)))) ⌝ }
+    ensures { λ d. ⌜ Reports ctx d (now (out .entry)) (now (bytes .entry)) (now (out .exit)) (now (bytes .exit)) []
+        (checkDefs (said ctx (now (out .entry)) (now (bytes .entry)))
+        (live [] (readDefs (now (out .entry)) (now (bytes .entry)) (ctx .defs .first)))) ⌝ }
 {
     let n = live_list(out, bytes, ctx.defs.first, no_text(bytes), list);
     check_definitions(out, bytes, ctx, &list[..n as usize])
@@ -95,7 +99,9 @@ fn check_live(out: &mut [u32], bytes: &mut [u8], ctx: LowerCtx, list: &mut [u32]
 
 // The reports on definitions.
 fn check_definitions(out: &mut [u32], bytes: &mut [u8], ctx: LowerCtx, list: &[u32]) -> LowerCtx
-    ensures { λ d. ⌜ Reports ctx d (now (out .entry)) (now (bytes .entry)) (now (out .exit)) (now (bytes .exit)) (now (list .entry)) (checkDefs (said ctx (now (out .entry)) (now (bytes .entry))) (map (defAt (now (out .entry)) (now (bytes .entry))) (now (list .entry)))) ⌝ }
+    ensures { λ d. ⌜ Reports ctx d (now (out .entry)) (now (bytes .entry)) (now (out .exit)) (now (bytes .exit)) (now (list .entry))
+        (checkDefs (said ctx (now (out .entry)) (now (bytes .entry)))
+        (map (defAt (now (out .entry)) (now (bytes .entry))) (now (list .entry)))) ⌝ }
 {
     let mut made = ctx;
     let mut i = 0;
@@ -108,7 +114,9 @@ fn check_definitions(out: &mut [u32], bytes: &mut [u8], ctx: LowerCtx, list: &[u
 
 // The reports on a definition: on the values of a property.
 fn check_definition(out: &mut [u32], bytes: &mut [u8], ctx: LowerCtx, r: u32) -> LowerCtx
-    ensures { λ d. ⌜ Reports ctx d (now (out .entry)) (now (bytes .entry)) (now (out .exit)) (now (bytes .exit)) (r ∷ []) (checkDef (said ctx (now (out .entry)) (now (bytes .entry))) (nameSpanAt (now (out .entry)) r) (defValueAt (now (out .entry)) (now (bytes .entry)) r)) ⌝ }
+    ensures { λ d. ⌜ Reports ctx d (now (out .entry)) (now (bytes .entry)) (now (out .exit)) (now (bytes .exit)) (r ∷ [])
+        (checkDef (said ctx (now (out .entry)) (now (bytes .entry))) (nameSpanAt (now (out .entry)) r)
+        (defValueAt (now (out .entry)) (now (bytes .entry)) r)) ⌝ }
 {
     if kind_of(out, r) != PROPERTY {
         return ctx;
@@ -126,7 +134,9 @@ fn check_values(
     span: Span,
     first: u32,
 ) -> LowerCtx
-    ensures { λ d. ⌜ Reports ctx d (now (out .entry)) (now (bytes .entry)) (now (out .exit)) (now (bytes .exit)) (chainOf (now (out .entry)) first) (checkValues (said ctx (now (out .entry)) (now (bytes .entry))) (meant span) (readValues (now (out .entry)) (now (bytes .entry)) first)) ⌝ }
+    ensures { λ d. ⌜ Reports ctx d (now (out .entry)) (now (bytes .entry)) (now (out .exit)) (now (bytes .exit))
+        (chainOf (now (out .entry)) first) (checkValues (said ctx (now (out .entry)) (now (bytes .entry))) (meant span)
+        (readValues (now (out .entry)) (now (bytes .entry)) first)) ⌝ }
 {
     let mut made = ctx;
     let mut r = first;
@@ -141,7 +151,8 @@ fn check_values(
 
 // The reports on a value: on a reference, or on the cells of a list.
 fn check_value(out: &mut [u32], bytes: &mut [u8], ctx: LowerCtx, span: Span, r: u32) -> LowerCtx
-    ensures { λ d. ⌜ Reports ctx d (now (out .entry)) (now (bytes .entry)) (now (out .exit)) (now (bytes .exit)) (r ∷ []) (checkValue (said ctx (now (out .entry)) (now (bytes .entry))) (meant span) (valueAt (now (out .entry)) (now (bytes .entry)) r)) ⌝ }
+    ensures { λ d. ⌜ Reports ctx d (now (out .entry)) (now (bytes .entry)) (now (out .exit)) (now (bytes .exit)) (r ∷ [])
+        (checkValue (said ctx (now (out .entry)) (now (bytes .entry))) (meant span) (valueAt (now (out .entry)) (now (bytes .entry)) r)) ⌝ }
 {
     let kind = kind_of(out, r);
     if kind == CELL_LIST {
@@ -156,7 +167,9 @@ fn check_value(out: &mut [u32], bytes: &mut [u8], ctx: LowerCtx, span: Span, r: 
 
 // The reports on a chain of cells.
 fn check_cells(out: &mut [u32], bytes: &mut [u8], ctx: LowerCtx, span: Span, first: u32) -> LowerCtx
-    ensures { λ d. ⌜ Reports ctx d (now (out .entry)) (now (bytes .entry)) (now (out .exit)) (now (bytes .exit)) (chainOf (now (out .entry)) first) (checkCells (said ctx (now (out .entry)) (now (bytes .entry))) (meant span) (readCells (now (out .entry)) (now (bytes .entry)) first)) ⌝ }
+    ensures { λ d. ⌜ Reports ctx d (now (out .entry)) (now (bytes .entry)) (now (out .exit)) (now (bytes .exit))
+        (chainOf (now (out .entry)) first) (checkCells (said ctx (now (out .entry)) (now (bytes .entry))) (meant span)
+        (readCells (now (out .entry)) (now (bytes .entry)) first)) ⌝ }
 {
     let mut made = ctx;
     let mut r = first;
@@ -171,7 +184,8 @@ fn check_cells(out: &mut [u32], bytes: &mut [u8], ctx: LowerCtx, span: Span, fir
 
 // The report on a cell, if it is a reference.
 fn check_cell(out: &mut [u32], bytes: &mut [u8], ctx: LowerCtx, span: Span, r: u32) -> LowerCtx
-    ensures { λ d. ⌜ Reports ctx d (now (out .entry)) (now (bytes .entry)) (now (out .exit)) (now (bytes .exit)) (r ∷ []) (checkCell (said ctx (now (out .entry)) (now (bytes .entry))) (meant span) (cellAt (now (out .entry)) (now (bytes .entry)) r)) ⌝ }
+    ensures { λ d. ⌜ Reports ctx d (now (out .entry)) (now (bytes .entry)) (now (out .exit)) (now (bytes .exit)) (r ∷ [])
+        (checkCell (said ctx (now (out .entry)) (now (bytes .entry))) (meant span) (cellAt (now (out .entry)) (now (bytes .entry)) r)) ⌝ }
 {
     if kind_of(out, r) != REFERENCE {
         return ctx;
@@ -181,16 +195,18 @@ fn check_cell(out: &mut [u32], bytes: &mut [u8], ctx: LowerCtx, span: Span, r: u
 
 // The report on a reference, where it leads nowhere.
 fn check_phandle(out: &mut [u32], bytes: &mut [u8], ctx: LowerCtx, span: Span, r: u32) -> LowerCtx
-    ensures { λ d. ⌜ Reports ctx d (now (out .entry)) (now (bytes .entry)) (now (out .exit)) (now (bytes .exit)) (r ∷ []) (checkTarget (said ctx (now (out .entry)) (now (bytes .entry))) (meant span) (targetAt (now (out .entry)) (now (bytes .entry)) r)) ⌝ }
+    ensures { λ d. ⌜ Reports ctx d (now (out .entry)) (now (bytes .entry)) (now (out .exit)) (now (bytes .exit)) (r ∷ [])
+        (checkTarget (said ctx (now (out .entry)) (now (bytes .entry))) (meant span)
+        (targetAt (now (out .entry)) (now (bytes .entry)) r)) ⌝ }
 {
     let none = Span { from: 0, to: 0 };
     let label = target_place(out, r);
-    let path = binding_path(out, r);
+    let path = second_place(out, r);
     match resolve_target(out, bytes, ctx.binds.first, ctx.defs.first, r) {
-        Resolved::NoLabel => ctx.emit_copied(out, bytes, 3, span, none, label),
-        Resolved::NoNode => ctx.emit_copied(out, bytes, 4, span, none, path),
+        Resolved::NoLabel => ctx.emit_copied(out, bytes, LABEL_NOT_FOUND, span, none, label),
+        Resolved::NoNode => ctx.emit_copied(out, bytes, NODE_NOT_FOUND, span, none, path),
         Resolved::NoNodeBelow(b) => {
-            ctx.emit_joined_at(out, bytes, 4, span, binding_path(out, b), path)
+            ctx.emit_joined_at(out, bytes, NODE_NOT_FOUND, span, second_place(out, b), path)
         }
         Resolved::Bound(_) => ctx,
         Resolved::BoundPath(_) => ctx,
@@ -198,36 +214,16 @@ fn check_phandle(out: &mut [u32], bytes: &mut [u8], ctx: LowerCtx, span: Span, r
     }
 }
 
-// Where a reference of the log leads.
-fn resolve_target(out: &[u32], bytes: &[u8], binds: u32, defs: u32, r: u32) -> Resolved
-    ensures { λ v. ⌜ resolution (now (out .entry)) (now (bytes .entry)) (targetLabel (now (out .entry)) (now (bytes .entry)) r) (secondText (now (out .entry)) (now (bytes .entry)) r) v ≡ resolve (targetAt (now (out .entry)) (now (bytes .entry)) r) (readBindings (now (out .entry)) (now (bytes .entry)) binds) (readDefs (now (out .entry)) (now (bytes .entry)) defs) ⌝ }
-    ensures { λ v. ⌜ Leads (now (out .entry)) (now (bytes .entry)) binds defs (targetLabel (now (out .entry)) (now (bytes .entry)) r) (secondText (now (out .entry)) (now (bytes .entry)) r) v ⌝ }
-{
-    let n = out_field(out, r, 7);
-    let label = first_text(out, bytes, r);
-    let path = second_text(out, bytes, r);
-    if n == 1 {
-        return resolve_label(out, bytes, binds, label);
-    }
-    if n == 2 {
-        return resolve_below(out, bytes, binds, defs, label, path);
-    }
-    if n == 3 {
-        return resolve_path(out, bytes, defs, path);
-    }
-    Resolved::NoLabel
-}
-
 // The place of a reference's label, an empty one where it has none.
 fn target_place(out: &[u32], r: u32) -> PathAt
     ensures { λ p. ⌜ p ≡ targetPlace (now (out .entry)) r ⌝ }
 {
-    let n = out_field(out, r, 7);
+    let n = out_field(out, r, layout::N);
     if n == 1 {
-        return label_place(out, r);
+        return first_place(out, r);
     }
     if n == 2 {
-        return label_place(out, r);
+        return first_place(out, r);
     }
     PathAt {
         root: false,

@@ -7,38 +7,40 @@ use native.Mathlib.Omega.{arith}
 use borrow.Author.Tests.{le-leb, lt-leb}
 use lib.Dec.{leb}
 use lib.ListN.{length}
-use Rattle.paths_numbers.specs.Text.{written}
-use Rattle.paths_numbers.specs.Path.{goodPath}
-use Rattle.log.specs.Record.{firstDef}
-use Rattle.log.specs.ReadBack.{chainOf, defAt, readDefs}
-use Rattle.log.specs.Sound.{Soundness, sound, broken, soundness}
-use Rattle.queries.specs.Live.{containsNode}
-use Rattle.queries.specs.Query.{liveNumbers, historyNumbers, Answered, soundAnswer, goodAnswer, countAnswer, listAnswer, soundOut, queryAnswer, queryOut, liveAnswers, historyAnswers, containsAnswer}
-use Rattle.queries.specs.Table.{fitted}
-use Rattle.queries.specs.Answer.{refusal}
+use Rattle.paths_numbers.specs.meaning.Text.{written}
+use Rattle.paths_numbers.specs.meaning.Path.{goodPath}
+use Rattle.log.specs.meaning.Record.{firstDef}
+use Rattle.log.specs.meaning.ReadBack.{chainOf, defAt, readDefs}
+use Rattle.log.specs.meaning.Sound.{Soundness, sound, broken, soundness}
+use Rattle.queries.specs.meaning.Live.{containsNode}
+use Rattle.queries.specs.meaning.Query.{liveNumbers, historyNumbers, goodAnswer, countAnswer, listAnswer, soundOut, queryAnswer}
+use Rattle.queries.specs.meaning.Query.{queryOut, liveAnswers, historyAnswers, containsAnswer, refusal}
+use Rattle.log.specs.meaning.Answer.{Answered, passed, soundAnswer}
+use Rattle.log.proofs.Answers.{log-refused, log-passed}
+use Rattle.queries.specs.machine.Table.{fitted}
 
 -- a number of a refusal is not 0
-pub refused-by : (s : Soundness) (g : Bool) (x r : Answered) → r ≡ soundAnswer s (goodAnswer g (record { number = 0; returned = 0 }))
+pub refused-by : (s : Soundness) (g : Bool) (x r : Answered) → r ≡ soundAnswer s (goodAnswer g passed)
     → (r .number ≡ 0 → ⊥) → r ≡ soundAnswer s (goodAnswer g x)
 refused-by sound true x r e n = absurd (n (ap (λ a. a .number) e))
 refused-by sound false x r e n = e
 refused-by (broken k) g x r e n = e
 
 -- and where it is 0, what comes after rows 8 and 9 is answered
-pub answered-by : (s : Soundness) (g : Bool) (x r : Answered) → r ≡ soundAnswer s (goodAnswer g (record { number = 0; returned = 0 }))
+pub answered-by : (s : Soundness) (g : Bool) (x r : Answered) → r ≡ soundAnswer s (goodAnswer g passed)
     → r .number ≡ 0 → x ≡ soundAnswer s (goodAnswer g x)
 answered-by sound true x r e n = refl
 answered-by sound false x r e n = absurd (omega (arith, n, ap (λ a. a .number) e))
 answered-by (broken k) g x r e n = absurd (omega (arith, n, ap (λ a. a .number) e))
 
 -- the same of the list: a refusal leaves it
-out-refused-by : (s : Soundness) (g : Bool) (r : Answered) (out list : List ℕ) → r ≡ soundAnswer s (goodAnswer g (record { number = 0; returned = 0 }))
+out-refused-by : (s : Soundness) (g : Bool) (r : Answered) (out list : List ℕ) → r ≡ soundAnswer s (goodAnswer g passed)
     → (r .number ≡ 0 → ⊥) → list ≡ soundOut s (cond g out list) list
 out-refused-by sound true r out list e n = absurd (n (ap (λ a. a .number) e))
 out-refused-by sound false r out list e n = refl
 out-refused-by (broken k) g r out list e n = refl
 
-out-answered-by : (s : Soundness) (g : Bool) (r : Answered) (out list : List ℕ) → r ≡ soundAnswer s (goodAnswer g (record { number = 0; returned = 0 }))
+out-answered-by : (s : Soundness) (g : Bool) (r : Answered) (out list : List ℕ) → r ≡ soundAnswer s (goodAnswer g passed)
     → r .number ≡ 0 → out ≡ soundOut s (cond g out list) list
 out-answered-by sound true r out list e n = refl
 out-answered-by sound false r out list e n = absurd (omega (arith, n, ap (λ a. a .number) e))
@@ -56,7 +58,8 @@ module _ (w b p list answers : List ℕ) (r : Answered) (e : r ≡ refusal w b p
   refused-out n = out-refused-by (soundness w b) (goodPath p) r _ list e n
 
   -- row 10, of a list that has as much room as the one that was lent
-  pub listed-answer : (a : Answered) (room count : ℕ) → r .number ≡ 0 → count ≡ length answers → room ≡ length list → a ≡ countAnswer room count
+  pub listed-answer : (a : Answered) (room count : ℕ) → r .number ≡ 0 → count ≡ length answers → room ≡ length list
+      → a ≡ countAnswer room count
       → a ≡ queryAnswer w b p (length list) answers
   unfolding refusal queryAnswer
   listed-answer a room count n c k h =
@@ -73,7 +76,8 @@ pub live-of : (w b base : List ℕ) (first : ℕ) → first ≡ firstDef w → l
 unfolding liveAnswers
 live-of w b base first e = rw e refl
 
-pub history-of : (w b path : List ℕ) (first : ℕ) → first ≡ firstDef w → historyNumbers (defAt w b) false path (chainOf w first) ≡ historyAnswers w b path
+pub history-of : (w b path : List ℕ) (first : ℕ) → first ≡ firstDef w
+    → historyNumbers (defAt w b) false path (chainOf w first) ≡ historyAnswers w b path
 unfolding historyAnswers
 history-of w b path first e = rw e refl
 
@@ -82,7 +86,8 @@ pub contains-refused : (w b p : List ℕ) (r : Answered) → r ≡ refusal w b p
 unfolding refusal containsAnswer
 contains-refused w b p r e n = refused-by (soundness w b) (goodPath p) _ r e n
 
-pub contains-answered : (w b p : List ℕ) (r : Answered) (first : ℕ) (t : Bool) (n : ℕ) → r ≡ refusal w b p → r .number ≡ 0 → first ≡ firstDef w
+pub contains-answered : (w b p : List ℕ) (r : Answered) (first : ℕ) (t : Bool) (n : ℕ) → r ≡ refusal w b p → r .number ≡ 0
+    → first ≡ firstDef w
     → t ≡ containsNode p (readDefs w b first) → n ≡ cond t 1 0 → record { number = 0; returned = n } ≡ containsAnswer w b p
 unfolding refusal containsAnswer
 contains-answered w b p r first t n e z f h k =
@@ -90,10 +95,11 @@ contains-answered w b p r first t n e z f h k =
     ∙ answered-by (soundness w b) (goodPath p) _ r e z
 
 -- rows 8 and 9 as they are tried
-pub refused-broken : (w b p : List ℕ) (k : ℕ) → soundness w b ≡ broken k → record { number = 8; returned = k } ≡ refusal w b p
-unfolding refusal
-refused-broken w b p k e = rw e refl
+module _ (w b p : List ℕ) (r : Answered) (e : r ≡ soundAnswer (soundness w b) passed) where
+  pub refused-log : (r .number ≡ 0 → ⊥) → r ≡ refusal w b p
+  unfolding refusal
+  refused-log n = log-refused (soundness w b) _ r e n
 
-pub refused-sound : (w b p : List ℕ) (r : Answered) → soundness w b ≡ sound → r ≡ goodAnswer (goodPath p) (record { number = 0; returned = 0 }) → r ≡ refusal w b p
-unfolding refusal
-refused-sound w b p r e h = rw e h
+  pub refused-path : (x : Answered) → r .number ≡ 0 → x ≡ goodAnswer (goodPath p) passed → x ≡ refusal w b p
+  unfolding refusal
+  refused-path x n h = h ∙ log-passed (soundness w b) _ r e n

@@ -8,10 +8,10 @@ use borrow.Author.Tests.{leb-true, eqb-false, ne-eqb}
 use lib.Dec.{eqb, leb}
 use lib.ListN.{length}
 use Rattle.paths_numbers.proofs.Texts.{by-test, not-both}
-use Rattle.log.specs.Record.{nextOf, leads, logCount, outCount, mostRecords}
-use Rattle.log.specs.ReadBack.{chainFrom, chainOf}
-use Rattle.queries.specs.Kind.{any}
-use Rattle.queries.specs.Pass.{goesOn}
+use Rattle.log.specs.meaning.Record.{nextOf, leads, logCount, outCount, mostRecords}
+use Rattle.log.specs.meaning.ReadBack.{chainFrom, chainOf}
+use Rattle.paths_numbers.specs.meaning.Lists.{any}
+use Rattle.queries.specs.machine.Pass.{goesOn}
 
 -- a chain goes on where a record is left and the link leads to one
 going : (words : List ℕ) (r left : ℕ) → goesOn words r left ≡ true → (left ≡ 0 → ⊥) × (leads words r ≡ true)
@@ -26,7 +26,8 @@ pub goes-left : (words : List ℕ) (r left : ℕ) → goesOn words r left ≡ tr
 goes-left words r left t = let n = going words r left t .0 in omega arith
 
 -- a chain that goes on has its record, and then what follows
-pub goes : (words : List ℕ) (r left : ℕ) → goesOn words r left ≡ true → chainFrom left words r ≡ r ∷ chainFrom (left - 1) words (nextOf words r)
+pub goes : (words : List ℕ) (r left : ℕ) → goesOn words r left ≡ true
+    → chainFrom left words r ≡ r ∷ chainFrom (left - 1) words (nextOf words r)
 unfolding chainFrom
 goes words r zero t = absurd (going words r 0 t .0 refl)
 goes words r (suc left) t =
@@ -64,7 +65,8 @@ unfolding chainOf
 chain-most words r = chain-length words (logCount words) r
 
 -- w is whether some record of the chain passes a test, and the invariant says that it is decided by what is left
-module _ {A : Type 0} (def : ℕ → A) (test : A → Bool) (words : List ℕ) (r left : ℕ) (w : Bool) (inv : w ≡ any test (map def (chainFrom left words r))) where
+module _ {A : Type 0} (def : ℕ → A) (test : A → Bool) (words : List ℕ) (r left : ℕ) (w : Bool)
+    (inv : w ≡ any test (map def (chainFrom left words r))) where
   -- the record passes
   pub any-hit : goesOn words r left ≡ true → test (def r) ≡ true → true ≡ w
   unfolding any

@@ -4,18 +4,19 @@ use Prim.Native.Nat.{ℕ, _-_}
 use mathlib.Core.Path.{_≡_, refl, sym, ap, _∙_}
 use mathlib.Core.Bool.{Bool, true, false, not, cond}
 use mathlib.Core.List.{List, [], _∷_, map}
-use Rattle.paths_numbers.specs.Text.{same}
-use Rattle.paths_numbers.specs.Path.{atOrUnder}
+use Rattle.paths_numbers.specs.meaning.Text.{same}
+use Rattle.paths_numbers.specs.meaning.Path.{atOrUnder}
 use Rattle.paths_numbers.proofs.Texts.{by-test, both, not-both, same-true}
 use Rattle.paths_numbers.proofs.Under.{under-refl}
-use Rattle.log.specs.Meaning.{DefValue, node, property, deletedNode, deletedProperty, version, plugin, Def}
-use Rattle.log.specs.Record.{nextOf}
-use Rattle.log.specs.ReadBack.{chainFrom}
-use Rattle.queries.specs.Kind.{isNode, isProperty, isDeletedNode, isDeletion, any}
-use Rattle.queries.specs.Live.{deletes, gone, isLive, live, nodeAt}
-use Rattle.queries.specs.Labels.{labelsIn, hasLabelAt}
-use Rattle.queries.specs.Pass.{goesOn, foundAfter}
-use Rattle.queries.proofs.Lists.{any-append}
+use Rattle.log.specs.meaning.Contents.{DefValue, node, property, deletedNode, deletedProperty, version, plugin, Def}
+use Rattle.log.specs.meaning.Record.{nextOf}
+use Rattle.log.specs.meaning.ReadBack.{chainFrom}
+use Rattle.queries.specs.meaning.Kind.{isNode, isProperty, isDeletedNode, isDeletion}
+use Rattle.paths_numbers.specs.meaning.Lists.{any}
+use Rattle.queries.specs.meaning.Live.{deletes, gone, isLive, live, nodeAt}
+use Rattle.queries.specs.meaning.Labels.{labelsIn, hasLabelAt}
+use Rattle.queries.specs.machine.Pass.{goesOn, foundAfter}
+use Rattle.paths_numbers.proofs.Lists.{any-append}
 use Rattle.queries.proofs.Chain.{goes, stops}
 
 -- what is found after a list, where so much was found before it
@@ -37,9 +38,11 @@ or-twice false true = refl
 or-twice false false = refl
 
 -- what was found before stays where nothing clears it: at one definition
-module _ {A : Type 0} (sets clears : A → Bool) (l : List A) (ih : foundFrom sets clears true l ≡ or (foundFrom sets clears false l) (not (any clears l))) where
+module _ {A : Type 0} (sets clears : A → Bool) (l : List A) (ih : foundFrom sets clears true l ≡ or (foundFrom sets clears false l)
+    (not (any clears l))) where
   kept : (s c found : Bool)
-      → foundFrom sets clears (foundAfter s c found) l ≡ or (foundFrom sets clears (foundAfter s c false) l) (cond found (not (cond c true (any clears l))) false)
+      → foundFrom sets clears (foundAfter s c found) l ≡ or (foundFrom sets clears (foundAfter s c false) l)
+      (cond found (not (cond c true (any clears l))) false)
   kept s c false = sym (or-false (foundFrom sets clears (foundAfter s c false) l))
   kept true true true = sym (or-false (foundFrom sets clears true l))
   kept true false true = rw ih (or-twice (foundFrom sets clears false l) (not (any clears l)))
@@ -100,11 +103,13 @@ pub record OfNodes (path : List ℕ) (test : Def → Bool) : Type 0 where
 module _ {path : List ℕ} {test : Def → Bool} (nodes : OfNodes path test) (base : List ℕ) where
   -- of one definition
   live-one : (d : Def) (later : List Def)
-      → any test (cond (isLive base d later) (d ∷ []) []) ≡ cond (atOrUnder path base) (cond (test d) (not (any (deletes path) later)) false) false
+      → any test (cond (isLive base d later) (d ∷ []) []) ≡ cond (atOrUnder path base)
+      (cond (test d) (not (any (deletes path) later)) false) false
   live-one d later =
       any-single test d (isLive base d later)
       ∙ by-test (test d)
-      (λ t. rw (t, node-live base d later (nodes .kind d t), nodes .place d t) (one-chosen (atOrUnder path base) (not (any (deletes path) later))))
+      (λ t. rw (t, node-live base d later (nodes .kind d t), nodes .place d t)
+      (one-chosen (atOrUnder path base) (not (any (deletes path) later))))
       (λ t. rw t (none-chosen (isLive base d later) (atOrUnder path base)))
 
   -- whether a live definition passes is found in one pass
@@ -117,7 +122,8 @@ module _ {path : List ℕ} {test : Def → Bool} (nodes : OfNodes path test) (ba
       (by-test (atOrUnder path base) (λ u. rw u refl) (λ u. rw u refl))
 
 -- at the base itself
-pub live-found-at : {path : List ℕ} {test : Def → Bool} → OfNodes path test → (l : List Def) → any test (live path l) ≡ foundFrom test (deletes path) false l
+pub live-found-at : {path : List ℕ} {test : Def → Bool} → OfNodes path test → (l : List Def)
+    → any test (live path l) ≡ foundFrom test (deletes path) false l
 live-found-at {path} nodes l = live-found nodes path l ∙ rw (under-refl path) refl
 
 -- and a base above it makes no difference
@@ -172,7 +178,8 @@ module _ {path : List ℕ} {test : Def → Bool} (nodes : OfNodes path test) (d 
 module _ {A : Type 0} (def : ℕ → A) (sets clears : A → Bool) (words : List ℕ) (r left : ℕ) (found w : Bool)
     (inv : w ≡ foundFrom sets clears found (map def (chainFrom left words r))) where
   -- one record
-  pub found-step : goesOn words r left ≡ true → (after : Bool) → after ≡ foundAfter (sets (def r)) (clears (def r)) found → (next : ℕ) → next ≡ nextOf words r
+  pub found-step : goesOn words r left ≡ true → (after : Bool) → after ≡ foundAfter (sets (def r)) (clears (def r)) found → (next : ℕ)
+      → next ≡ nextOf words r
       → w ≡ foundFrom sets clears after (map def (chainFrom (left - 1) words next))
   unfolding foundFrom
   found-step g after e next n = inv ∙ rw (goes words r left g, e, n) refl

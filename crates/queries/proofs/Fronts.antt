@@ -9,15 +9,16 @@ use borrow.Author.Tests.{eq-eqb, ne-eqb, eqb-true}
 use lib.Dec.{eqb}
 use lib.ListN.{length, getD, take, drop, drop-of-length-le}
 use lib.Seq.{take-suc, take-all, drop-cons}
-use Rattle.paths_numbers.specs.Byte.{slash}
-use Rattle.paths_numbers.specs.Text.{same, startsWith}
-use Rattle.paths_numbers.specs.Path.{root, atOrUnder}
+use Rattle.paths_numbers.specs.meaning.Byte.{slash}
+use Rattle.paths_numbers.specs.meaning.Text.{same, startsWith}
+use Rattle.paths_numbers.specs.meaning.Path.{root, atOrUnder}
 use Rattle.paths_numbers.proofs.Texts.{by-test, both, same-true, same-refl}
 use Rattle.paths_numbers.proofs.Under.{Under, whole, below-root, below, under-ways, under-by}
-use Rattle.log.specs.Meaning.{Def}
-use Rattle.queries.specs.Kind.{isDeletedNode, any}
-use Rattle.queries.specs.Live.{deletes}
-use Rattle.queries.specs.Table.{mixed, hashFrom, deletedAt}
+use Rattle.log.specs.meaning.Contents.{Def}
+use Rattle.queries.specs.meaning.Kind.{isDeletedNode}
+use Rattle.paths_numbers.specs.meaning.Lists.{any}
+use Rattle.queries.specs.meaning.Live.{deletes}
+use Rattle.queries.specs.machine.Table.{mixed, hashFrom, deletedAt}
 
 -- whether a look-up finds something at a text that stands before a "/" of a path, or at the path; so much of it is passed
 unfoldable pub aboveFrom : (List ℕ → Bool) → List ℕ → List ℕ → Bool
@@ -50,7 +51,8 @@ unfolding above
 above-none path = by-test (startsWith slash path) (λ t. rw t (none-from [] path)) (λ t. rw t (none-from [] path))
 
 -- two look-ups made as one: at one text
-or-both : (t a b x y : Bool) → cond (cond t (cond a true b) false) true (cond x true y) ≡ cond (cond (cond t a false) true x) true (cond (cond t b false) true y)
+or-both : (t a b x y : Bool) → cond (cond t (cond a true b) false) true (cond x true y) ≡ cond (cond (cond t a false) true x) true
+    (cond (cond t b false) true y)
 or-both true true b x y = refl
 or-both true false true true y = refl
 or-both true false true false y = refl
@@ -58,7 +60,8 @@ or-both true false false x y = refl
 or-both false a b x y = refl
 
 module _ (a b : List ℕ → Bool) where
-  both-from : (passed s : List ℕ) → aboveFrom (λ f. cond (a f) true (b f)) passed s ≡ cond (aboveFrom a passed s) true (aboveFrom b passed s)
+  both-from : (passed s : List ℕ) → aboveFrom (λ f. cond (a f) true (b f)) passed s ≡ cond (aboveFrom a passed s) true
+      (aboveFrom b passed s)
   unfolding aboveFrom
   both-from passed [] = refl
   both-from passed (c ∷ s) =
@@ -136,24 +139,25 @@ unfolding above
 above-start p l found e = deletes-above p l ∙ rw e refl
 
 -- w is whether the whole path is found, and the invariant says that what is left decides it
-module _ (look : List ℕ → Bool) (s : List ℕ) (i : ℕ) (found w : Bool) (inv : w ≡ cond found true (aboveFrom look (take i s) (drop i s))) where
-  -- at a "/"
-  pub above-slash : i < length s → getD s i 0 ≡ slash → (after : Bool) → after ≡ cond found true (look (take i s))
-      → w ≡ cond after true (aboveFrom look (take (i + 1) s) (drop (i + 1) s))
-  unfolding aboveFrom
-  above-slash n e after f =
-      inv ∙ rw (drop-cons s i 0 n, add-one, take-suc s i 0 n, f, eq-eqb _ _ e)
-      (by-test found (λ t. rw t refl) (λ t. rw t refl))
+module _ (look : List ℕ → Bool) (s : List ℕ) (i : ℕ) (found w : Bool) (inv : w ≡ cond found true (aboveFrom look (take i s) (drop i s)))
+  where
+    -- at a "/"
+    pub above-slash : i < length s → getD s i 0 ≡ slash → (after : Bool) → after ≡ cond found true (look (take i s))
+        → w ≡ cond after true (aboveFrom look (take (i + 1) s) (drop (i + 1) s))
+    unfolding aboveFrom
+    above-slash n e after f =
+        inv ∙ rw (drop-cons s i 0 n, add-one, take-suc s i 0 n, f, eq-eqb _ _ e)
+        (by-test found (λ t. rw t refl) (λ t. rw t refl))
 
-  -- at another byte
-  pub above-pass : i < length s → (getD s i 0 ≡ slash → ⊥) → w ≡ cond found true (aboveFrom look (take (i + 1) s) (drop (i + 1) s))
-  unfolding aboveFrom
-  above-pass n e = inv ∙ rw (drop-cons s i 0 n, add-one, take-suc s i 0 n, ne-eqb _ _ e) refl
+    -- at another byte
+    pub above-pass : i < length s → (getD s i 0 ≡ slash → ⊥) → w ≡ cond found true (aboveFrom look (take (i + 1) s) (drop (i + 1) s))
+    unfolding aboveFrom
+    above-pass n e = inv ∙ rw (drop-cons s i 0 n, add-one, take-suc s i 0 n, ne-eqb _ _ e) refl
 
-  -- behind the last
-  pub above-end : length s ≤ i → cond found true (look s) ≡ w
-  unfolding aboveFrom
-  above-end n = sym (inv ∙ rw (drop-of-length-le s n, take-all i s n) refl)
+    -- behind the last
+    pub above-end : length s ≤ i → cond found true (look s) ≡ w
+    unfolding aboveFrom
+    above-end n = sym (inv ∙ rw (drop-of-length-le s n, take-all i s n) refl)
 
 -- a path that starts with "/", by its first byte
 pub first-none : (p : List ℕ) → length p ≡ 0 → startsWith slash p ≡ false

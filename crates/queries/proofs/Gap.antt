@@ -1,19 +1,20 @@
--- Definitions made under a path at which nothing is live, the last of them the deletion of the node there, change nothing that is live, and no
--- history of another path. `l` is the log before them, `z` they, `r` what comes later.
+-- Definitions made under a path at which nothing is live, the last of them the deletion of the node there, change nothing that is live, and
+-- no history of another path. `l` is the log before them, `z` they, `r` what comes later.
 use Prim.Native.Nat.{ℕ}
 use mathlib.Core.Path.{_≡_, refl, sym, ap, _∙_}
 use mathlib.Core.Bool.{Bool, true, false, not, cond}
 use mathlib.Core.List.{List, [], _∷_, _++_, append-assoc, append-nil}
 use native.Mathlib.Omega.{arith}
-use Rattle.paths_numbers.specs.Text.{same}
-use Rattle.paths_numbers.specs.Path.{atOrUnder}
+use Rattle.paths_numbers.specs.meaning.Text.{same}
+use Rattle.paths_numbers.specs.meaning.Path.{atOrUnder}
 use Rattle.paths_numbers.proofs.Texts.{by-test, not-both, is-false, same-true, same-ne}
 use Rattle.paths_numbers.proofs.Under.{under-trans, under-refl}
-use Rattle.log.specs.Meaning.{DefValue, node, property, deletedNode, deletedProperty, version, plugin, Def}
-use Rattle.queries.specs.Kind.{isNode, isProperty, isDeletedNode, isDeletion, isOfProperty, isPlugin, any, setsOverlay}
-use Rattle.queries.specs.Live.{deletes, overwrites, gone, isLive, live, nodeAt, containsNode}
-use Rattle.queries.specs.History.{definedBy, historyFrom, history}
-use Rattle.queries.proofs.Lists.{any-append, any-head, any-front, any-back, any-middle}
+use Rattle.log.specs.meaning.Contents.{DefValue, node, property, deletedNode, deletedProperty, version, plugin, Def}
+use Rattle.queries.specs.meaning.Kind.{isNode, isProperty, isDeletedNode, isDeletion, isOfProperty, isPlugin, setsOverlay}
+use Rattle.paths_numbers.specs.meaning.Lists.{any}
+use Rattle.queries.specs.meaning.Live.{deletes, overwrites, gone, isLive, live, nodeAt, containsNode}
+use Rattle.queries.specs.meaning.History.{definedBy, historyFrom, history}
+use Rattle.paths_numbers.proofs.Lists.{any-append, any-head, any-front, any-back, any-middle}
 
 -- a version or plugin directive
 abbrev pub isDirective : DefValue → Bool
@@ -63,7 +64,11 @@ gone-same : (new : List ℕ) (d : Def) {z : List Def} → Within new z → atOrU
     → gone d (l ++ (z ++ r)) ≡ gone d (l ++ r)
 unfolding gone
 gone-same new d {z} w out l r =
-    rw (any-middle (deletes (d .path)) l z r (none-delete new (d .path) out w), any-middle (overwrites (d .path)) l z r (none-overwrite new (d .path) out w))
+    rw (
+      any-middle (deletes (d .path)) l z r (none-delete new (d .path) out w),
+      any-middle (overwrites (d .path)) l z r
+          (none-overwrite new (d .path) out w),
+    )
     refl
 
 -- what is gone stays gone
@@ -74,7 +79,8 @@ gone-more d l x g =
     (λ e. rw (any-front (deletes (d .path)) l x e) refl)
     (λ e.
     by-test (isProperty (d .value))
-    (λ k. let h = rw (e, k) at g in rw (k, any-front (overwrites (d .path)) l x h) (by-test (any (deletes (d .path)) (l ++ x)) (λ t. rw t refl) (λ t. rw t refl)))
+    (λ k. let h = rw (e, k) at g in rw (k, any-front (overwrites (d .path)) l x h)
+    (by-test (any (deletes (d .path)) (l ++ x)) (λ t. rw t refl) (λ t. rw t refl)))
     (λ k. absurd (not-both (rw (e, k) at g) refl)))
 
 -- whether a definition of the log before is live is the same
@@ -124,12 +130,14 @@ unfolding isLive
 dead-deletion new base e r k = rw (k .value) refl
 
 -- and none of them is: the last deletes them all
-not-live : (new base : List ℕ) (d e : Def) (y r : List Def) → Deletes new e → atOrUnder (d .path) new ≡ true → isLive base d (y ++ e ∷ r) ≡ false
+not-live : (new base : List ℕ) (d e : Def) (y r : List Def) → Deletes new e → atOrUnder (d .path) new ≡ true
+    → isLive base d (y ++ e ∷ r) ≡ false
 unfolding isLive gone
 not-live new base d e y r k u =
     let f : deletes (d .path) e ≡ true = rw (k .value, k .path) u in
     let g : any (deletes (d .path)) (y ++ e ∷ r) ≡ true = any-back (deletes (d .path)) y (e ∷ r) (any-head (deletes (d .path)) e r f) in
-    rw g (by-test (isDeletion (d .value)) (λ t. rw t refl) (λ t. rw t (by-test (atOrUnder (d .path) base) (λ v. rw v refl) (λ v. rw v refl))))
+    rw g (by-test (isDeletion (d .value)) (λ t. rw t refl) (λ t. rw t
+    (by-test (atOrUnder (d .path) base) (λ v. rw v refl) (λ v. rw v refl))))
 
 pub live-hidden : (new base : List ℕ) {y : List Def} → Within new y → (e : Def) → Deletes new e → (r : List Def)
     → live base (y ++ e ∷ r) ≡ live base r
@@ -153,7 +161,12 @@ history-same : (new path : List ℕ) → atOrUnder path new ≡ false → {z : L
 unfolding historyFrom
 history-same new path out w [] r defined = history-over new path out w defined r
 history-same new path out w (d ∷ l) r defined =
-    rw (history-same new path out w l r (definedBy d defined), history-same new path out w l r false, history-same new path out w l r defined)
+    rw (
+      history-same new path out w l r (definedBy d defined),
+      history-same new path out w l r false,
+      history-same new path out w l r
+          defined,
+    )
     refl
 
 -- none of them is a plugin directive
@@ -201,7 +214,8 @@ module _ {new : List ℕ} {a b : List Def} (g : Gap new a b) where
   -- in whether they are overlays
   pub gap-overlay : setsOverlay a ≡ setsOverlay b
   unfolding setsOverlay
-  gap-overlay = rw (g .first, g .second) (sym (any-middle (λ (d : Def). isPlugin (d .value)) (g .before) _ (g .after) (within-plugin gap-within)))
+  gap-overlay = rw (g .first, g .second) (sym (any-middle (λ (d : Def). isPlugin (d .value)) (g .before) _ (g .after)
+      (within-plugin gap-within)))
 
   -- in which nodes are live
   pub gap-contains : (path : List ℕ) → containsNode path a ≡ containsNode path b

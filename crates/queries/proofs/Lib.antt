@@ -1,6 +1,5 @@
 -- Laws by subject: searches in lists, gaps in a log, chains, records, one pass over a log, the table of later definitions, look-ups above a
 -- path, what a definition does in the pass of a live list, answers by record numbers.
-pub mod Lists
 pub mod Gap
 pub mod Chain
 pub mod Records

@@ -8,17 +8,17 @@ use native.Mathlib.Numerals.{add-one}
 use borrow.Author.Tests.{le-leb, lt-leb}
 use lib.ListN.{length, getD, take, drop, set, replicate, length-append, length-drop, length-replicate}
 use lib.Seq.{drop-cons, drop-length, take-all, take-append-seam, set-append-seam}
-use Rattle.paths_numbers.specs.Text.{same, written}
+use Rattle.paths_numbers.specs.meaning.Text.{same, written}
 use Rattle.paths_numbers.proofs.Texts.{by-test}
 use Rattle.paths_numbers.proofs.Written.{written-cons}
-use Rattle.log.specs.Meaning.{Def}
-use Rattle.log.specs.Record.{nextOf, firstDef}
-use Rattle.log.specs.ReadBack.{chainFrom, chainOf, defAt, readDefs}
-use Rattle.queries.specs.Live.{deletes, isLive, live}
-use Rattle.queries.specs.History.{definedBy, historyFrom, history}
-use Rattle.queries.specs.Query.{liveNumbers, historyNumbers, liveAnswers, historyAnswers}
-use Rattle.queries.specs.Table.{fitted}
-use Rattle.queries.specs.Pass.{goesOn, isListed, definedAfter}
+use Rattle.log.specs.meaning.Contents.{Def}
+use Rattle.log.specs.meaning.Record.{nextOf, firstDef}
+use Rattle.log.specs.meaning.ReadBack.{chainFrom, chainOf, defAt, readDefs}
+use Rattle.queries.specs.meaning.Live.{deletes, isLive, live}
+use Rattle.queries.specs.meaning.History.{definedBy, historyFrom, history}
+use Rattle.queries.specs.meaning.Query.{liveNumbers, historyNumbers, liveAnswers, historyAnswers}
+use Rattle.queries.specs.machine.Table.{fitted}
+use Rattle.queries.specs.machine.Pass.{goesOn, isListed, definedAfter}
 use Rattle.queries.proofs.Chain.{goes, stops}
 
 -- what two lists become
@@ -35,7 +35,8 @@ live-numbers def base (r ∷ later) =
     ∙ rw (live-numbers def base later) (by-test (isLive base (def r) (map def later)) (λ t. rw t refl) (λ t. rw t refl))
 
 -- a history's numbers are those of its definitions
-pub history-numbers : (def : ℕ → Def) (defined : Bool) (path l : List ℕ) → map def (historyNumbers def defined path l) ≡ historyFrom defined path (map def l)
+pub history-numbers : (def : ℕ → Def) (defined : Bool) (path l : List ℕ)
+    → map def (historyNumbers def defined path l) ≡ historyFrom defined path (map def l)
 unfolding historyNumbers historyFrom
 history-numbers def defined path [] = refl
 history-numbers def defined path (r ∷ later) =
@@ -47,18 +48,21 @@ history-numbers def defined path (r ∷ later) =
     (λ t. rw (s, t) (history-numbers def defined path later)))
 
 -- so the answers of the queries are what is live, and a history
-pub live-answers : (words bytes base : List ℕ) → map (defAt words bytes) (liveAnswers words bytes base) ≡ live base (readDefs words bytes (firstDef words))
+pub live-answers : (words bytes base : List ℕ) → map (defAt words bytes) (liveAnswers words bytes base) ≡ live base
+    (readDefs words bytes (firstDef words))
 unfolding liveAnswers readDefs
 live-answers words bytes base = live-numbers (defAt words bytes) base (chainOf words (firstDef words))
 
-pub history-answers : (words bytes path : List ℕ) → map (defAt words bytes) (historyAnswers words bytes path) ≡ history path (readDefs words bytes (firstDef words))
+pub history-answers : (words bytes path : List ℕ) → map (defAt words bytes) (historyAnswers words bytes path) ≡ history path
+    (readDefs words bytes (firstDef words))
 unfolding historyAnswers readDefs history
 history-answers words bytes path = history-numbers (defAt words bytes) false path (chainOf words (firstDef words))
 
 -- a history at one record
 history-turn : (def : ℕ → Def) (defined : Bool) (path : List ℕ) (r : ℕ) (later : List ℕ)
     → historyNumbers def defined path (r ∷ later)
-    ≡ cond (isListed path (def r) defined) (r ∷ historyNumbers def (definedAfter path (def r) defined) path later) (historyNumbers def (definedAfter path (def r) defined) path later)
+    ≡ cond (isListed path (def r) defined) (r ∷ historyNumbers def (definedAfter path (def r) defined) path later)
+    (historyNumbers def (definedAfter path (def r) defined) path later)
 unfolding historyNumbers isListed definedAfter
 history-turn def defined path r later =
     by-test (same (def r .path) path)
@@ -67,15 +71,31 @@ history-turn def defined path r later =
 
 -- and along a chain
 module _ (def : ℕ → Def) (defined : Bool) (path words : List ℕ) (r left : ℕ) where
-  pub history-listed : goesOn words r left ≡ true → (after : Bool) → after ≡ definedAfter path (def r) defined → (next : ℕ) → next ≡ nextOf words r
+  pub history-listed : goesOn words r left ≡ true → (after : Bool) → after ≡ definedAfter path (def r) defined → (next : ℕ)
+      → next ≡ nextOf words r
       → isListed path (def r) defined ≡ true
       → historyNumbers def defined path (chainFrom left words r) ≡ r ∷ historyNumbers def after path (chainFrom (left - 1) words next)
-  history-listed g after e next n t = rw (goes words r left g, history-turn def defined path r (chainFrom (left - 1) words (nextOf words r)), t, e, n) refl
+  history-listed g after e next n t = rw (
+    goes words r left g,
+    history-turn def defined path r
+        (chainFrom (left - 1) words (nextOf words r)),
+    t,
+    e,
+    n,
+  ) refl
 
-  pub history-passed : goesOn words r left ≡ true → (after : Bool) → after ≡ definedAfter path (def r) defined → (next : ℕ) → next ≡ nextOf words r
+  pub history-passed : goesOn words r left ≡ true → (after : Bool) → after ≡ definedAfter path (def r) defined → (next : ℕ)
+      → next ≡ nextOf words r
       → isListed path (def r) defined ≡ false
       → historyNumbers def defined path (chainFrom left words r) ≡ historyNumbers def after path (chainFrom (left - 1) words next)
-  history-passed g after e next n t = rw (goes words r left g, history-turn def defined path r (chainFrom (left - 1) words (nextOf words r)), t, e, n) refl
+  history-passed g after e next n t = rw (
+    goes words r left g,
+    history-turn def defined path r
+        (chainFrom (left - 1) words (nextOf words r)),
+    t,
+    e,
+    n,
+  ) refl
 
   pub history-end : goesOn words r left ≡ false → historyNumbers def defined path (chainFrom left words r) ≡ []
   unfolding historyNumbers
@@ -126,7 +146,8 @@ pub part-on : (s : List ℕ) (i : ℕ) → take (length s - i) (drop i s) ≡ dr
 part-on s i = take-all (length s - i) (drop i s) (omega (arith, length-drop i s))
 
 -- one number more of a list that is written number by number: w is the whole written, and the invariant says that the rest written gives it
-pub written-next : (d s w : List ℕ) (i : ℕ) → w ≡ written d i (drop i s) → i < length d → i < length s → w ≡ written (set d i (getD s i 0)) (i + 1) (drop (i + 1) s)
+pub written-next : (d s w : List ℕ) (i : ℕ) → w ≡ written d i (drop i s) → i < length d → i < length s
+    → w ≡ written (set d i (getD s i 0)) (i + 1) (drop (i + 1) s)
 written-next d s w i inv h k = inv ∙ rw (drop-cons s i 0 k, written-cons d i (getD s i 0) (drop (suc i) s) h, add-one i) refl
 
 -- a number written behind those that are written
@@ -135,7 +156,8 @@ unfolding written
 written-more d s b h =
     let n : 0 + length (s ++ b ∷ []) ≡ suc (length s) = omega (arith, length-append s (b ∷ [])) in
     let z : 0 + length s ≡ length s = omega arith in
-    rw (n, z, drop-cons d (length s) 0 h, set-append-seam s (getD d (length s) 0) (drop (suc (length s)) d) b) (sym (append-assoc s (b ∷ []) (drop (suc (length s)) d)))
+    rw (n, z, drop-cons d (length s) 0 h, set-append-seam s (getD d (length s) 0) (drop (suc (length s)) d) b)
+    (sym (append-assoc s (b ∷ []) (drop (suc (length s)) d)))
 
 -- as answers are collected: w is what is written of them, and one more is written
 pub collected : (d s t w : List ℕ) (count b : ℕ) → w ≡ written d 0 s → count ≡ length s → t ≡ s ++ b ∷ [] → count < length d

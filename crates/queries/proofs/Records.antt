@@ -6,21 +6,23 @@ use mathlib.Core.List.{List, []}
 use native.Mathlib.Omega.{arith}
 use borrow.Author.Tests.{eqb-true, eqb-false, eq-eqb, ne-eqb}
 use lib.Dec.{eqb}
-use Rattle.paths_numbers.specs.Text.{same}
-use Rattle.paths_numbers.specs.Path.{atOrUnder}
+use Rattle.paths_numbers.specs.meaning.Text.{same}
+use Rattle.paths_numbers.specs.meaning.Path.{atOrUnder}
 use Rattle.paths_numbers.proofs.Texts.{by-test}
-use Rattle.log.specs.Meaning.{Value, DefValue, node, property, deletedNode, deletedProperty, version, plugin}
-use Rattle.log.specs.Record.{kindOf, childOf, firstText, nodeKind, propertyKind, deletedNodeKind, deletedPropertyKind, pluginKind}
-use Rattle.log.specs.ReadBack.{defAt, defValueAt, readLabels}
-use Rattle.queries.specs.Kind.{isNode, isProperty, isDeletedNode, isDeletedProperty, isPlugin, any}
-use Rattle.queries.specs.Live.{deletes, overwrites, nodeAt}
-use Rattle.queries.specs.Table.{deletedAt}
-use Rattle.queries.specs.History.{definedBy}
-use Rattle.queries.specs.Labels.{labelsIn, hasLabelAt}
+use Rattle.log.specs.meaning.Contents.{Value, DefValue, node, property, deletedNode, deletedProperty, version, plugin}
+use Rattle.log.specs.meaning.Record.{kindOf, childOf, firstText, nodeKind, propertyKind, deletedNodeKind, deletedPropertyKind, pluginKind}
+use Rattle.log.specs.meaning.ReadBack.{defAt, defValueAt, readLabels}
+use Rattle.queries.specs.meaning.Kind.{isNode, isProperty, isDeletedNode, isDeletedProperty, isPlugin}
+use Rattle.paths_numbers.specs.meaning.Lists.{any}
+use Rattle.queries.specs.meaning.Live.{deletes, overwrites, nodeAt}
+use Rattle.queries.specs.machine.Table.{deletedAt}
+use Rattle.queries.specs.meaning.History.{definedBy}
+use Rattle.queries.specs.meaning.Labels.{labelsIn, hasLabelAt}
 
 -- by which of the kinds a number is
 pub by-kind : (P : ℕ → Type 0) (k : ℕ) → P nodeKind → P propertyKind → P deletedNodeKind → P deletedPropertyKind → P pluginKind
-    → (eqb k nodeKind ≡ false → eqb k propertyKind ≡ false → eqb k deletedNodeKind ≡ false → eqb k deletedPropertyKind ≡ false → eqb k pluginKind ≡ false → P k)
+    → (eqb k nodeKind ≡ false → eqb k propertyKind ≡ false → eqb k deletedNodeKind ≡ false → eqb k deletedPropertyKind ≡ false
+    → eqb k pluginKind ≡ false → P k)
     → P k
 by-kind P k n p dn dp pl other =
     by-test (eqb k nodeKind) (λ t. rw (eqb-true k _ t) n)
@@ -99,26 +101,32 @@ module _ (words bytes : List ℕ) (r : ℕ) where
   plugin-kind = is-plugin _ _ _ (kindOf words r)
 
   -- only a node has labels, and they are its children
-  pub labels-kind : labelsIn ((defAt words bytes r) .value) ≡ cond (eqb (kindOf words r) nodeKind) (readLabels words bytes (childOf words r)) []
+  pub labels-kind : labelsIn ((defAt words bytes r) .value) ≡ cond (eqb (kindOf words r) nodeKind)
+      (readLabels words bytes (childOf words r)) []
   unfolding defAt defValueAt
   labels-kind = labels-in _ _ _ (kindOf words r)
 
   -- so that these tests are tests of its words
-  pub node-at : (path : List ℕ) → nodeAt path (defAt words bytes r) ≡ cond (eqb (kindOf words r) nodeKind) (same (firstText words bytes r) path) false
+  pub node-at : (path : List ℕ) → nodeAt path (defAt words bytes r) ≡ cond (eqb (kindOf words r) nodeKind)
+      (same (firstText words bytes r) path) false
   node-at path = rw (node-kind, path-at) refl
 
-  pub deletes-at : (path : List ℕ) → deletes path (defAt words bytes r) ≡ cond (eqb (kindOf words r) deletedNodeKind) (atOrUnder path (firstText words bytes r)) false
+  pub deletes-at : (path : List ℕ) → deletes path (defAt words bytes r) ≡ cond (eqb (kindOf words r) deletedNodeKind)
+      (atOrUnder path (firstText words bytes r)) false
   deletes-at path = rw (deleted-node-kind, path-at) refl
 
-  pub deleted-at : (path : List ℕ) → deletedAt path (defAt words bytes r) ≡ cond (eqb (kindOf words r) deletedNodeKind) (same (firstText words bytes r) path) false
+  pub deleted-at : (path : List ℕ) → deletedAt path (defAt words bytes r) ≡ cond (eqb (kindOf words r) deletedNodeKind)
+      (same (firstText words bytes r) path) false
   deleted-at path = rw (deleted-node-kind, path-at) refl
 
-  pub overwrites-at : (path : List ℕ) → overwrites path (defAt words bytes r) ≡ cond (cond (eqb (kindOf words r) propertyKind) true (eqb (kindOf words r) deletedPropertyKind)) (same (firstText words bytes r) path) false
+  pub overwrites-at : (path : List ℕ) → overwrites path (defAt words bytes r) ≡ cond
+      (cond (eqb (kindOf words r) propertyKind) true (eqb (kindOf words r) deletedPropertyKind)) (same (firstText words bytes r) path) false
   overwrites-at path = rw (property-kind, deleted-property-kind, path-at) refl
 
   -- a definition with a label at a path is a node there
   pub label-at : (label path : List ℕ)
-      → hasLabelAt label path (defAt words bytes r) ≡ cond (nodeAt path (defAt words bytes r)) (any (same label) (readLabels words bytes (childOf words r))) false
+      → hasLabelAt label path (defAt words bytes r) ≡ cond (nodeAt path (defAt words bytes r))
+      (any (same label) (readLabels words bytes (childOf words r))) false
   unfolding any
   label-at label path =
       rw (node-kind, labels-kind, path-at)
@@ -129,9 +137,11 @@ module _ (words bytes : List ℕ) (r : ℕ) where
 -- whether a path is defined after a definition at it, by the definition's kind
 abbrev definedAt : ℕ → Bool → Bool
 definedAt k defined =
-    cond (eqb k nodeKind) true (cond (eqb k propertyKind) true (cond (cond (eqb k deletedNodeKind) true (eqb k deletedPropertyKind)) false defined))
+    cond (eqb k nodeKind) true (cond (eqb k propertyKind) true (cond (cond (eqb k deletedNodeKind) true (eqb k deletedPropertyKind)) false
+    defined))
 
-defined-kind : (words bytes : List ℕ) (r : ℕ) (defined : Bool) → definedBy (defAt words bytes r) defined ≡ definedAt (kindOf words r) defined
+defined-kind : (words bytes : List ℕ) (r : ℕ) (defined : Bool) → definedBy (defAt words bytes r) defined ≡ definedAt (kindOf words r)
+    defined
 defined-kind words bytes r defined =
     rw (node-kind words bytes r, property-kind words bytes r, deleted-node-kind words bytes r, deleted-property-kind words bytes r) refl
 
@@ -159,5 +169,12 @@ module _ (words bytes : List ℕ) (r : ℕ) (defined : Bool) (k : ℕ) (e : k �
   leaves-it h =
       sym
       (defined-kind words bytes r defined
-      ∙ rw (← e, ne-eqb k nodeKind (λ z. h (omega arith) (omega arith)), ne-eqb k propertyKind (λ z. h (omega arith) (omega arith)), ne-eqb k deletedNodeKind (λ z. h (omega arith) (omega arith)), ne-eqb k deletedPropertyKind (λ z. h (omega arith) (omega arith)))
+      ∙ rw (
+        ← e,
+        ne-eqb k nodeKind (λ z. h (omega arith) (omega arith)),
+        ne-eqb k propertyKind (λ z. h (omega arith) (omega arith)),
+        ne-eqb
+            k deletedNodeKind (λ z. h (omega arith) (omega arith)),
+        ne-eqb k deletedPropertyKind (λ z. h (omega arith) (omega arith)),
+      )
       refl)

@@ -10,12 +10,14 @@ use borrow.Author.Tests.{eq-eqb, eqb-true, eqb-false, ltb-false}
 use lib.Dec.{eqb, ltb}
 use lib.ListN.{length, getD, set, drop, replicate, length-replicate, getD-replicate, length-set, length-drop, drop-of-length-le}
 use lib.Seq.{getD-set-same, getD-set-other, drop-cons, drop-drop}
-use Rattle.paths_numbers.specs.Path.{atOrUnder}
+use Rattle.paths_numbers.specs.meaning.Path.{atOrUnder}
 use Rattle.paths_numbers.proofs.Texts.{by-test, both, not-both, is-false, same-true}
-use Rattle.log.specs.Meaning.{DefValue, node, property, deletedNode, deletedProperty, version, plugin, Def}
-use Rattle.queries.specs.Kind.{isDeletedNode, isOfProperty, any}
-use Rattle.queries.specs.Live.{overwrites}
-use Rattle.queries.specs.Table.{hashFrom, leastHeads, fewHeads, manyHeads, placeOf, slotOf, canTake, slotAt, inList, firstOf, Linked, ended, more, Holds, Table, deletedAt, Deleted, Room}
+use Rattle.log.specs.meaning.Contents.{DefValue, node, property, deletedNode, deletedProperty, version, plugin, Def}
+use Rattle.queries.specs.meaning.Kind.{isDeletedNode, isOfProperty}
+use Rattle.paths_numbers.specs.meaning.Lists.{any}
+use Rattle.queries.specs.meaning.Live.{overwrites}
+use Rattle.queries.specs.machine.Table.{hashFrom, leastHeads, fewHeads, manyHeads, placeOf, slotOf, canTake, slotAt, inList, firstOf}
+use Rattle.queries.specs.machine.Table.{Linked, ended, more, Holds, Table, deletedAt, Deleted, Room}
 
 -- the first is among them
 first-most : (def : ℕ → Def) (test : Def → Bool) (l : List ℕ) → firstOf def test l ≤ length l
@@ -27,7 +29,8 @@ first-most def test (r ∷ l) =
 -- what is looked for is all behind the head of its list
 module _ (def : ℕ → Def) (wanted test : Def → Bool) (all : (d : Def) → wanted d ≡ true → test d ≡ true) (links : List ℕ) where
   settle : (l : List ℕ) (e : ℕ) → e ≡ firstOf def test l → Linked def test links l
-      → (e ≤ length l) × (any wanted (map def l) ≡ any wanted (map def (drop (length l - e) l))) × Holds def wanted links (drop (length l - e) l) e
+      → (e ≤ length l) × (any wanted (map def l) ≡ any wanted (map def (drop (length l - e) l)))
+      × Holds def wanted links (drop (length l - e) l) e
   unfolding firstOf any
   settle [] e h k =
       let z : 0 - e ≡ 0 = omega arith in
@@ -48,7 +51,8 @@ module _ (def : ℕ → Def) (wanted test : Def → Bool) (all : (d : Def) → w
 -- a search along a list: it starts at the list's head
 module _ (def : ℕ → Def) (wanted : Def → Bool) (links later : List ℕ) where
   pub search-start : (e : ℕ) → Holds def wanted links later e
-      → (e ≤ length later) × (any wanted (map def later) ≡ any wanted (map def (drop (length later - e) later))) × Holds def wanted links (drop (length later - e) later) e
+      → (e ≤ length later) × (any wanted (map def later) ≡ any wanted (map def (drop (length later - e) later)))
+      × Holds def wanted links (drop (length later - e) later) e
   search-start e h = settle def wanted (h .test) (h .all) links later e (h .head) (h .linked)
 
   -- the definition in hand is in the list, and its link leads to the next one
@@ -76,7 +80,8 @@ module _ (def : ℕ → Def) (wanted : Def → Bool) (links later : List ℕ) wh
         let o = linked-on behind (h .head ∙ ap (firstOf def (h .test)) here) (rw here at (h .linked)) in
         let s = settle def wanted (h .test) (h .all) links l next (f ∙ o .0) (o .1) in
         let z : suc (length later - e) + (length l - next) ≡ length later - next = omega (arith, behind, s .0) in
-        let d : drop (length l - next) l ≡ drop (length later - next) later = drop-drop (length l - next) (suc (length later - e)) later ∙ ap (λ (k : ℕ). drop k later) z in
+        let d : drop (length l - next) l ≡ drop (length later - next) later = drop-drop (length l - next) (suc (length later - e)) later
+        ∙ ap (λ (k : ℕ). drop k later) z in
         (omega (arith, behind, s .0), rw (here, w) (s .1 ∙ ap (λ (t : List ℕ). any wanted (map def t)) d), rw d at (s .2))
 
     -- or it is what is looked for
@@ -142,7 +147,8 @@ unfolding slotOf
 slot-most room true h m = place-most room h m
 slot-most room false h m = omega (arith, place-most room h m)
 
-module _ (def : ℕ → Def) (base : List ℕ) (heads links later : List ℕ) (m : leastHeads ≤ length heads) (t : Table def base (length heads) heads links later) where
+module _ (def : ℕ → Def) (base : List ℕ) (heads links later : List ℕ) (m : leastHeads ≤ length heads)
+    (t : Table def base (length heads) heads links later) where
   -- so a table finds every deleted node
   pub deleted-held : Deleted def heads links later
   deleted-held =
@@ -172,7 +178,8 @@ pub deleted-by : (def : ℕ → Def) (heads links later path : List ℕ) (hash :
 deleted-by def heads links later path hash d h = rw h (d .at path)
 
 -- a link that is set behind all others leaves them
-linked-kept : (def : ℕ → Def) (test : Def → Bool) (links : List ℕ) (k v : ℕ) (l : List ℕ) → length l ≤ k → Linked def test links l → Linked def test (set links k v) l
+linked-kept : (def : ℕ → Def) (test : Def → Bool) (links : List ℕ) (k v : ℕ) (l : List ℕ) → length l ≤ k → Linked def test links l
+    → Linked def test (set links k v) l
 linked-kept def test links k v [] n ended = ended
 linked-kept def test links k v (r ∷ l) n (more x h) =
     more (λ t. getD-set-other links k (length l) v 0 (λ e. omega arith) ∙ x t) (linked-kept def test links k v l (omega arith) h)
@@ -188,7 +195,8 @@ table-passed def base room heads links later r n t =
     }
 
 -- one that can is the first of its list
-module _ (def : ℕ → Def) (base heads links later : List ℕ) (r s : ℕ) (c : canTake base (def r) ≡ true) (e : s ≡ slotAt (length heads) (def r)) where
+module _ (def : ℕ → Def) (base heads links later : List ℕ) (r s : ℕ) (c : canTake base (def r) ≡ true)
+    (e : s ≡ slotAt (length heads) (def r)) where
   listed : (slot : ℕ) → inList base (length heads) slot (def r) ≡ eqb s slot
   unfolding inList
   listed slot = rw (c, e) refl
@@ -229,7 +237,8 @@ unfolding firstOf
 table-start def base heads links z = record { headed = z; linked = λ slot. ended }
 
 -- arrays of zeros have room
-pub room-zeros : (m n : ℕ) (order heads links live : List ℕ) → order ≡ replicate m 0 → heads ≡ replicate m 0 → links ≡ replicate m 0 → live ≡ replicate m 0
+pub room-zeros : (m n : ℕ) (order heads links live : List ℕ) → order ≡ replicate m 0 → heads ≡ replicate m 0 → links ≡ replicate m 0
+    → live ≡ replicate m 0
     → leastHeads ≤ m → m ≤ 65536 → n ≤ m → Room n order heads links live
 room-zeros m n order heads links live o h l v few most fits =
     let k : length (replicate {A = ℕ} m 0) ≡ m = length-replicate m 0 in
@@ -243,7 +252,8 @@ room-zeros m n order heads links live o h l v few most fits =
     }
 
 -- and so they have for a part
-pub room-part : (n : ℕ) (order heads links live part : List ℕ) → Room n order heads links live → length part ≤ n → Room (length part) part heads links live
+pub room-part : (n : ℕ) (order heads links live part : List ℕ) → Room n order heads links live → length part ≤ n
+    → Room (length part) part heads links live
 room-part n order heads links live part r h =
     record {
       forOrder = omega arith;

@@ -1,8 +1,2 @@
-pub mod Kind
-pub mod Live
-pub mod Labels
-pub mod History
-pub mod Query
-pub mod Pass
-pub mod Table
-pub mod Answer
+pub mod meaning
+pub mod machine

@@ -1,15 +1,19 @@
 // One definition of a chain: what it is, and what it does to a path.
 ghost use mathlib.Core.Path.{_≡_};
 ghost use mathlib.Core.Bool.{true, false};
-ghost use Rattle.paths_numbers.specs.Text.{same};
-ghost use Rattle.paths_numbers.specs.Path.{joined};
-ghost use Rattle.log.specs.ReadBack.{defAt, readLabels};
-ghost use Rattle.queries.specs.Kind.{any};
-ghost use Rattle.queries.specs.Live.{deletes, overwrites, nodeAt};
-ghost use Rattle.queries.specs.History.{definedBy};
-ghost use Rattle.queries.specs.Labels.{hasLabelAt};
-ghost use Rattle.queries.specs.Table.{deletedAt};
-ghost use Rattle.queries.specs.Pass.{goesOn};
+ghost use Rattle.paths_numbers.specs.meaning.Text.{same};
+ghost use Rattle.paths_numbers.specs.meaning.Path.{joined};
+ghost use Rattle.log.specs.meaning.ReadBack.{defAt, readLabels};
+ghost use Rattle.paths_numbers.specs.meaning.Lists.{any};
+ghost use Rattle.queries.specs.meaning.Live.{deletes, overwrites, nodeAt};
+ghost use Rattle.queries.specs.meaning.History.{definedBy};
+ghost use Rattle.queries.specs.meaning.Labels.{hasLabelAt};
+ghost use Rattle.queries.specs.machine.Table.{deletedAt};
+ghost use Rattle.queries.specs.machine.Pass.{goesOn};
+use log::kinds::DELETED_NODE;
+use log::kinds::DELETED_PROPERTY;
+use log::kinds::NODE;
+use log::kinds::PROPERTY;
 use log::record::child_of;
 use log::record::first_text;
 use log::record::kind_of;
@@ -20,17 +24,6 @@ use paths_numbers::dt_node::is_path;
 use paths_numbers::dt_node::path_lies_under;
 use paths_numbers::mir::lies_under;
 use paths_numbers::text::equals;
-
-// The kinds of definitions, by 01's numbers.
-pub const NODE: u32 = 1;
-
-pub const PROPERTY: u32 = 2;
-
-pub const DELETED_NODE: u32 = 3;
-
-pub const DELETED_PROPERTY: u32 = 4;
-
-pub const PLUGIN: u32 = 6;
 
 // Whether a definition is a node at a path.
 pub fn is_node_at(words: &[u32], bytes: &[u8], r: u32, path: &[u8]) -> bool
@@ -51,7 +44,8 @@ pub fn is_node_at_path(
     name: &[u8],
     unit: &[u8],
 ) -> bool
-    ensures { λ t. ⌜ t ≡ nodeAt (joined (now (parent .entry)) (now (name .entry)) (now (unit .entry))) (defAt (now (words .entry)) (now (bytes .entry)) r) ⌝ }
+    ensures { λ t. ⌜ t ≡ nodeAt (joined (now (parent .entry)) (now (name .entry)) (now (unit .entry)))
+        (defAt (now (words .entry)) (now (bytes .entry)) r) ⌝ }
 {
     if kind_of(words, r) != NODE {
         return false;
@@ -78,7 +72,8 @@ pub fn deletes_above_path(
     name: &[u8],
     unit: &[u8],
 ) -> bool
-    ensures { λ t. ⌜ t ≡ deletes (joined (now (parent .entry)) (now (name .entry)) (now (unit .entry))) (defAt (now (words .entry)) (now (bytes .entry)) r) ⌝ }
+    ensures { λ t. ⌜ t ≡ deletes (joined (now (parent .entry)) (now (name .entry)) (now (unit .entry)))
+        (defAt (now (words .entry)) (now (bytes .entry)) r) ⌝ }
 {
     if kind_of(words, r) != DELETED_NODE {
         return false;

@@ -3,18 +3,18 @@ ghost use Prim.Native.Nat.{_≤_};
 ghost use mathlib.Core.Path.{_≡_};
 ghost use mathlib.Core.Bool.{false};
 ghost use lib.ListN.{length};
-ghost use Rattle.paths_numbers.specs.Text.{written};
-ghost use Rattle.log.specs.Record.{logCount};
-ghost use Rattle.log.specs.ReadBack.{chainOf, defAt};
-ghost use Rattle.queries.specs.Query.{historyNumbers};
-ghost use Rattle.queries.specs.Pass.{isListed, definedAfter};
-ghost use Rattle.queries.specs.Table.{fewHeads, fitted};
+ghost use Rattle.paths_numbers.specs.meaning.Text.{written};
+ghost use Rattle.log.specs.meaning.Record.{logCount};
+ghost use Rattle.log.specs.meaning.ReadBack.{chainOf, defAt};
+ghost use Rattle.queries.specs.meaning.Query.{historyNumbers};
+ghost use Rattle.queries.specs.machine.Pass.{isListed, definedAfter};
+ghost use Rattle.queries.specs.machine.Table.{fewHeads, fitted};
 use crate::definition::defined_by;
 use crate::definition::deletes_above;
 use crate::definition::goes_on;
-use crate::later::FEW;
-use crate::later::MANY;
 use crate::list::fit;
+use log::limits::FEW_RECORDS;
+use log::limits::MOST_RECORDS;
 use log::record::first_text;
 use log::record::log_count;
 use log::record::next_of;
@@ -24,23 +24,29 @@ use paths_numbers::text::equals;
 // start of a list, earliest first, if it has room for them. Each call sets up an array: 256 KB, or
 // 32 KB for a log of at most 8,192 records.
 pub fn history_list(words: &[u32], bytes: &[u8], first: u32, path: &[u8], list: &mut [u32]) -> u32
-    ensures { λ n. ⌜ n ≡ length (historyNumbers (defAt (now (words .entry)) (now (bytes .entry))) false (now (path .entry)) (chainOf (now (words .entry)) first)) ⌝ }
-    ensures { λ _. ⌜ now (list .exit) ≡ fitted (now (list .entry)) (historyNumbers (defAt (now (words .entry)) (now (bytes .entry))) false (now (path .entry)) (chainOf (now (words .entry)) first)) ⌝ }
+    ensures { λ n. ⌜ n ≡ length (historyNumbers (defAt (now (words .entry)) (now (bytes .entry))) false (now (path .entry))
+        (chainOf (now (words .entry)) first)) ⌝ }
+    ensures { λ _. ⌜ now (list .exit) ≡ fitted (now (list .entry))
+        (historyNumbers (defAt (now (words .entry)) (now (bytes .entry))) false (now (path .entry))
+        (chainOf (now (words .entry)) first)) ⌝ }
 {
-    if log_count(words) as usize <= FEW {
+    if log_count(words) as usize <= FEW_RECORDS {
         return history_list_few(words, bytes, first, path, list);
     }
-    let mut found = [0u32; MANY];
+    let mut found = [0u32; MOST_RECORDS];
     history_list_by(words, bytes, first, path, list, &mut found)
 }
 
 // The same of a log of few records.
 fn history_list_few(words: &[u32], bytes: &[u8], first: u32, path: &[u8], list: &mut [u32]) -> u32
     requires { ⌜ logCount (now words) ≤ fewHeads ⌝ }
-    ensures { λ n. ⌜ n ≡ length (historyNumbers (defAt (now (words .entry)) (now (bytes .entry))) false (now (path .entry)) (chainOf (now (words .entry)) first)) ⌝ }
-    ensures { λ _. ⌜ now (list .exit) ≡ fitted (now (list .entry)) (historyNumbers (defAt (now (words .entry)) (now (bytes .entry))) false (now (path .entry)) (chainOf (now (words .entry)) first)) ⌝ }
+    ensures { λ n. ⌜ n ≡ length (historyNumbers (defAt (now (words .entry)) (now (bytes .entry))) false (now (path .entry))
+        (chainOf (now (words .entry)) first)) ⌝ }
+    ensures { λ _. ⌜ now (list .exit) ≡ fitted (now (list .entry))
+        (historyNumbers (defAt (now (words .entry)) (now (bytes .entry))) false (now (path .entry))
+        (chainOf (now (words .entry)) first)) ⌝ }
 {
-    let mut found = [0u32; FEW];
+    let mut found = [0u32; FEW_RECORDS];
     history_list_by(words, bytes, first, path, list, &mut found)
 }
 
@@ -54,8 +60,11 @@ fn history_list_by(
     found: &mut [u32],
 ) -> u32
     requires { ⌜ logCount (now words) ≤ length (now found) ⌝ }
-    ensures { λ n. ⌜ n ≡ length (historyNumbers (defAt (now (words .entry)) (now (bytes .entry))) false (now (path .entry)) (chainOf (now (words .entry)) first)) ⌝ }
-    ensures { λ _. ⌜ now (list .exit) ≡ fitted (now (list .entry)) (historyNumbers (defAt (now (words .entry)) (now (bytes .entry))) false (now (path .entry)) (chainOf (now (words .entry)) first)) ⌝ }
+    ensures { λ n. ⌜ n ≡ length (historyNumbers (defAt (now (words .entry)) (now (bytes .entry))) false (now (path .entry))
+        (chainOf (now (words .entry)) first)) ⌝ }
+    ensures { λ _. ⌜ now (list .exit) ≡ fitted (now (list .entry))
+        (historyNumbers (defAt (now (words .entry)) (now (bytes .entry))) false (now (path .entry))
+        (chainOf (now (words .entry)) first)) ⌝ }
 {
     let count = history_of(words, bytes, first, path, found);
     fit(list, &found[..count])
@@ -64,9 +73,13 @@ fn history_list_by(
 // Writes the record numbers of a path's history to the start of a list, earliest first, and returns
 // how many there are.
 fn history_of(words: &[u32], bytes: &[u8], first: u32, path: &[u8], found: &mut [u32]) -> usize
-    requires { ⌜ length (historyNumbers (defAt (now words) (now bytes)) false (now path) (chainOf (now words) first)) ≤ length (now found) ⌝ }
-    ensures { λ n. ⌜ n ≡ length (historyNumbers (defAt (now (words .entry)) (now (bytes .entry))) false (now (path .entry)) (chainOf (now (words .entry)) first)) ⌝ }
-    ensures { λ _. ⌜ now (found .exit) ≡ written (now (found .entry)) 0 (historyNumbers (defAt (now (words .entry)) (now (bytes .entry))) false (now (path .entry)) (chainOf (now (words .entry)) first)) ⌝ }
+    requires { ⌜ length (historyNumbers (defAt (now words) (now bytes)) false (now path) (chainOf (now words) first)) ≤ length
+        (now found) ⌝ }
+    ensures { λ n. ⌜ n ≡ length (historyNumbers (defAt (now (words .entry)) (now (bytes .entry))) false (now (path .entry))
+        (chainOf (now (words .entry)) first)) ⌝ }
+    ensures { λ _. ⌜ now (found .exit) ≡ written (now (found .entry)) 0
+        (historyNumbers (defAt (now (words .entry)) (now (bytes .entry))) false (now (path .entry))
+        (chainOf (now (words .entry)) first)) ⌝ }
 {
     let mut count = 0;
     let mut defined = false;
@@ -93,7 +106,10 @@ struct Passed {
 
 // Whether a definition is in a path's history, and whether the path is defined after it.
 fn history_at(words: &[u32], bytes: &[u8], r: u32, path: &[u8], defined: bool) -> Passed
-    ensures { λ p. ⌜ p ≡ record { listed = isListed (now (path .entry)) (defAt (now (words .entry)) (now (bytes .entry)) r) defined; defined = definedAfter (now (path .entry)) (defAt (now (words .entry)) (now (bytes .entry)) r) defined } ⌝ }
+    ensures { λ p. ⌜ p ≡ record {
+      listed = isListed (now (path .entry)) (defAt (now (words .entry)) (now (bytes .entry)) r) defined;
+      defined = definedAfter (now (path .entry)) (defAt (now (words .entry)) (now (bytes .entry)) r) defined;
+    } ⌝ }
 {
     if equals(first_text(words, bytes, r), path) {
         return Passed {

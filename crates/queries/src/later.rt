@@ -7,22 +7,17 @@ ghost use mathlib.Core.Path.{_≡_};
 ghost use mathlib.Core.Bool.{true, false, cond};
 ghost use mathlib.Core.List.{map};
 ghost use lib.ListN.{length, getD, set};
-ghost use Rattle.paths_numbers.specs.Byte.{slash};
-ghost use Rattle.paths_numbers.specs.Text.{startsWith};
-ghost use Rattle.paths_numbers.specs.Path.{root};
-ghost use Rattle.log.specs.ReadBack.{defAt};
-ghost use Rattle.queries.specs.Kind.{any};
-ghost use Rattle.queries.specs.Live.{deletes};
-ghost use Rattle.queries.specs.Table.{mixed, hashFrom, leastHeads, placeOf, slotOf, Holds, deletedAt, takesAt, Deleted};
+ghost use Rattle.paths_numbers.specs.meaning.Byte.{slash};
+ghost use Rattle.paths_numbers.specs.meaning.Text.{startsWith};
+ghost use Rattle.paths_numbers.specs.meaning.Path.{root};
+ghost use Rattle.log.specs.meaning.ReadBack.{defAt};
+ghost use Rattle.paths_numbers.specs.meaning.Lists.{any};
+ghost use Rattle.queries.specs.meaning.Live.{deletes};
+ghost use Rattle.queries.specs.machine.Table.{mixed, hashFrom, leastHeads, placeOf, slotOf, Holds, deletedAt, takesAt, Deleted};
 use crate::definition::is_deleted_at;
 use crate::definition::overwrites_at;
-
-// How many heads the three tables have.
-pub const LEAST: usize = 1024;
-
-pub const FEW: usize = 8192;
-
-pub const MANY: usize = 65536;
+use log::limits::FEW_RECORDS;
+use log::limits::MOST_RECORDS;
 
 // The hash of "/".
 const ROOT_HASH: u32 = 47;
@@ -30,8 +25,10 @@ const ROOT_HASH: u32 = 47;
 // Enters a definition with a path, behind which so many are later, into its list.
 pub fn enter_at(heads: &mut [u32], links: &mut [u32], deleted: bool, path: &[u8], later: usize)
     requires { ⌜ (leastHeads ≤ length (now heads)) × (later < length (now links)) × (length (now links) ≤ 65536) ⌝ }
-    ensures { λ _. ⌜ now (heads .exit) ≡ set (now (heads .entry)) (slotOf (length (now (heads .entry))) deleted (hashFrom 0 (now (path .entry)))) (later + 1) ⌝ }
-    ensures { λ _. ⌜ now (links .exit) ≡ set (now (links .entry)) later (getD (now (heads .entry)) (slotOf (length (now (heads .entry))) deleted (hashFrom 0 (now (path .entry)))) 0) ⌝ }
+    ensures { λ _. ⌜ now (heads .exit) ≡ set (now (heads .entry))
+        (slotOf (length (now (heads .entry))) deleted (hashFrom 0 (now (path .entry)))) (later + 1) ⌝ }
+    ensures { λ _. ⌜ now (links .exit) ≡ set (now (links .entry)) later
+        (getD (now (heads .entry)) (slotOf (length (now (heads .entry))) deleted (hashFrom 0 (now (path .entry)))) 0) ⌝ }
 {
     enter(heads, links, deleted, hash_of(path), later);
 }
@@ -40,7 +37,8 @@ pub fn enter_at(heads: &mut [u32], links: &mut [u32], deleted: bool, path: &[u8]
 pub fn enter(heads: &mut [u32], links: &mut [u32], deleted: bool, hash: u32, later: usize)
     requires { ⌜ (leastHeads ≤ length (now heads)) × (later < length (now links)) × (length (now links) ≤ 65536) ⌝ }
     ensures { λ _. ⌜ now (heads .exit) ≡ set (now (heads .entry)) (slotOf (length (now (heads .entry))) deleted hash) (later + 1) ⌝ }
-    ensures { λ _. ⌜ now (links .exit) ≡ set (now (links .entry)) later (getD (now (heads .entry)) (slotOf (length (now (heads .entry))) deleted hash) 0) ⌝ }
+    ensures { λ _. ⌜ now (links .exit) ≡ set (now (links .entry)) later
+        (getD (now (heads .entry)) (slotOf (length (now (heads .entry))) deleted hash) 0) ⌝ }
 {
     let slot = slot_of(heads.len(), deleted, hash);
     links[later] = heads[slot];
@@ -62,10 +60,10 @@ fn slot_of(heads: usize, deleted: bool, hash: u32) -> usize
 fn place_of(heads: usize, hash: u32) -> usize
     ensures { λ p. ⌜ p ≡ placeOf heads hash ⌝ }
 {
-    if heads < FEW {
+    if heads < FEW_RECORDS {
         return (hash % 512) as usize;
     }
-    if heads < MANY {
+    if heads < MOST_RECORDS {
         return (hash % 4096) as usize;
     }
     (hash % 32768) as usize
@@ -83,9 +81,11 @@ pub fn holds(
     path: &[u8],
     hash: u32,
 ) -> bool
-    requires { ⌜ Holds (defAt (now words) (now bytes)) (takesAt deleted (now path)) (now links) (now later) (getD (now heads) (slotOf (length (now heads)) deleted hash) 0) ⌝ }
+    requires { ⌜ Holds (defAt (now words) (now bytes)) (takesAt deleted (now path)) (now links) (now later)
+        (getD (now heads) (slotOf (length (now heads)) deleted hash) 0) ⌝ }
     requires { ⌜ (leastHeads ≤ length (now heads)) × (length (now later) ≤ length (now links)) ⌝ }
-    ensures { λ t. ⌜ t ≡ any (takesAt deleted (now (path .entry))) (map (defAt (now (words .entry)) (now (bytes .entry))) (now (later .entry))) ⌝ }
+    ensures { λ t. ⌜ t ≡ any (takesAt deleted (now (path .entry)))
+        (map (defAt (now (words .entry)) (now (bytes .entry))) (now (later .entry))) ⌝ }
 {
     let slot = slot_of(heads.len(), deleted, hash);
     finds(words, bytes, later, links, heads[slot], deleted, path)
@@ -103,7 +103,8 @@ fn finds(
 ) -> bool
     requires { ⌜ Holds (defAt (now words) (now bytes)) (takesAt deleted (now path)) (now links) (now later) first ⌝ }
     requires { ⌜ length (now later) ≤ length (now links) ⌝ }
-    ensures { λ t. ⌜ t ≡ any (takesAt deleted (now (path .entry))) (map (defAt (now (words .entry)) (now (bytes .entry))) (now (later .entry))) ⌝ }
+    ensures { λ t. ⌜ t ≡ any (takesAt deleted (now (path .entry)))
+        (map (defAt (now (words .entry)) (now (bytes .entry))) (now (later .entry))) ⌝ }
 {
     let mut e = first as usize;
     while 0 < e {
@@ -141,7 +142,11 @@ pub fn look_above(
 ) -> Above
     requires { ⌜ Deleted (defAt (now words) (now bytes)) (now heads) (now links) (now later) ⌝ }
     requires { ⌜ (leastHeads ≤ length (now heads)) × (length (now later) ≤ length (now links)) ⌝ }
-    ensures { λ a. ⌜ a ≡ record { deleted = any (deletes (now (path .entry))) (map (defAt (now (words .entry)) (now (bytes .entry))) (now (later .entry))); hash = hashFrom 0 (now (path .entry)) } ⌝ }
+    ensures { λ a. ⌜ a ≡ record {
+      deleted = any (deletes (now (path .entry)))
+          (map (defAt (now (words .entry)) (now (bytes .entry))) (now (later .entry)));
+      hash = hashFrom 0 (now (path .entry));
+    } ⌝ }
 {
     let mut deleted = root_deleted(words, bytes, later, heads, links, path);
     let mut hash: u32 = 0;
@@ -170,7 +175,8 @@ fn root_deleted(
 ) -> bool
     requires { ⌜ Deleted (defAt (now words) (now bytes)) (now heads) (now links) (now later) ⌝ }
     requires { ⌜ (leastHeads ≤ length (now heads)) × (length (now later) ≤ length (now links)) ⌝ }
-    ensures { λ t. ⌜ t ≡ cond (startsWith slash (now (path .entry))) (any (deletedAt root) (map (defAt (now (words .entry)) (now (bytes .entry))) (now (later .entry)))) false ⌝ }
+    ensures { λ t. ⌜ t ≡ cond (startsWith slash (now (path .entry)))
+        (any (deletedAt root) (map (defAt (now (words .entry)) (now (bytes .entry))) (now (later .entry)))) false ⌝ }
 {
     if path.len() == 0 {
         return false;
@@ -204,7 +210,8 @@ fn or_deleted(
     requires { ⌜ Deleted (defAt (now words) (now bytes)) (now heads) (now links) (now later) ⌝ }
     requires { ⌜ (leastHeads ≤ length (now heads)) × (length (now later) ≤ length (now links)) ⌝ }
     requires { ⌜ hash ≡ hashFrom 0 (now path) ⌝ }
-    ensures { λ t. ⌜ t ≡ cond found true (any (deletedAt (now (path .entry))) (map (defAt (now (words .entry)) (now (bytes .entry))) (now (later .entry)))) ⌝ }
+    ensures { λ t. ⌜ t ≡ cond found true (any (deletedAt (now (path .entry)))
+        (map (defAt (now (words .entry)) (now (bytes .entry))) (now (later .entry)))) ⌝ }
 {
     if found {
         return true;

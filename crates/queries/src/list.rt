@@ -2,8 +2,8 @@
 ghost use Prim.Native.Nat.{_≤_};
 ghost use mathlib.Core.Path.{_≡_};
 ghost use lib.ListN.{length};
-ghost use Rattle.paths_numbers.specs.Text.{written};
-ghost use Rattle.queries.specs.Table.{fitted};
+ghost use Rattle.paths_numbers.specs.meaning.Text.{written};
+ghost use Rattle.queries.specs.machine.Table.{fitted};
 
 // Writes numbers to the start of a list if it has room for them, and returns how many there are.
 pub fn fit(list: &mut [u32], numbers: &[u32]) -> u32

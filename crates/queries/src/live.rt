@@ -4,24 +4,24 @@ ghost use Prim.Native.Nat.{_≤_, _<_};
 ghost use mathlib.Core.Path.{_≡_};
 ghost use mathlib.Core.List.{_∷_, map};
 ghost use lib.ListN.{length};
-ghost use Rattle.paths_numbers.specs.Text.{written};
-ghost use Rattle.log.specs.Record.{logCount};
-ghost use Rattle.log.specs.ReadBack.{chainOf, defAt};
-ghost use Rattle.queries.specs.Live.{isLive};
-ghost use Rattle.queries.specs.Query.{liveNumbers};
-ghost use Rattle.queries.specs.Table.{leastHeads, fewHeads, Table, Room, fitted};
-use crate::definition::DELETED_NODE;
-use crate::definition::DELETED_PROPERTY;
-use crate::definition::PROPERTY;
+ghost use Rattle.paths_numbers.specs.meaning.Text.{written};
+ghost use Rattle.log.specs.meaning.Record.{logCount};
+ghost use Rattle.log.specs.meaning.ReadBack.{chainOf, defAt};
+ghost use Rattle.queries.specs.meaning.Live.{isLive};
+ghost use Rattle.queries.specs.meaning.Query.{liveNumbers};
+ghost use Rattle.queries.specs.machine.Table.{leastHeads, fewHeads, Table, Room, fitted};
 use crate::definition::goes_on;
-use crate::later::FEW;
-use crate::later::LEAST;
-use crate::later::MANY;
 use crate::later::enter;
 use crate::later::enter_at;
 use crate::later::holds;
 use crate::later::look_above;
 use crate::list::fit;
+use log::kinds::DELETED_NODE;
+use log::kinds::DELETED_PROPERTY;
+use log::kinds::PROPERTY;
+use log::limits::FEW_RECORDS;
+use log::limits::LEAST_RECORDS;
+use log::limits::MOST_RECORDS;
 use log::record::first_text;
 use log::record::kind_of;
 use log::record::log_count;
@@ -32,19 +32,21 @@ use paths_numbers::mir::lies_under;
 // start of a list, latest first, if it has room for them. Each call sets up four arrays: 1 MB, 128 KB
 // for a log of at most 8,192 records, or 16 KB for one of at most 1,024.
 pub fn live_list(words: &[u32], bytes: &[u8], first: u32, base: &[u8], list: &mut [u32]) -> u32
-    ensures { λ n. ⌜ n ≡ length (liveNumbers (defAt (now (words .entry)) (now (bytes .entry))) (now (base .entry)) (chainOf (now (words .entry)) first)) ⌝ }
-    ensures { λ _. ⌜ now (list .exit) ≡ fitted (now (list .entry)) (liveNumbers (defAt (now (words .entry)) (now (bytes .entry))) (now (base .entry)) (chainOf (now (words .entry)) first)) ⌝ }
+    ensures { λ n. ⌜ n ≡ length (liveNumbers (defAt (now (words .entry)) (now (bytes .entry))) (now (base .entry))
+        (chainOf (now (words .entry)) first)) ⌝ }
+    ensures { λ _. ⌜ now (list .exit) ≡ fitted (now (list .entry))
+        (liveNumbers (defAt (now (words .entry)) (now (bytes .entry))) (now (base .entry)) (chainOf (now (words .entry)) first)) ⌝ }
 {
-    if log_count(words) as usize <= LEAST {
+    if log_count(words) as usize <= LEAST_RECORDS {
         return live_list_least(words, bytes, first, base, list);
     }
-    if log_count(words) as usize <= FEW {
+    if log_count(words) as usize <= FEW_RECORDS {
         return live_list_few(words, bytes, first, base, list);
     }
-    let mut order = [0u32; MANY];
-    let mut heads = [0u32; MANY];
-    let mut links = [0u32; MANY];
-    let mut live = [0u32; MANY];
+    let mut order = [0u32; MOST_RECORDS];
+    let mut heads = [0u32; MOST_RECORDS];
+    let mut links = [0u32; MOST_RECORDS];
+    let mut live = [0u32; MOST_RECORDS];
     live_list_by(
         words,
         bytes,
@@ -61,13 +63,15 @@ pub fn live_list(words: &[u32], bytes: &[u8], first: u32, base: &[u8], list: &mu
 // The same of a log of few records.
 fn live_list_few(words: &[u32], bytes: &[u8], first: u32, base: &[u8], list: &mut [u32]) -> u32
     requires { ⌜ logCount (now words) ≤ fewHeads ⌝ }
-    ensures { λ n. ⌜ n ≡ length (liveNumbers (defAt (now (words .entry)) (now (bytes .entry))) (now (base .entry)) (chainOf (now (words .entry)) first)) ⌝ }
-    ensures { λ _. ⌜ now (list .exit) ≡ fitted (now (list .entry)) (liveNumbers (defAt (now (words .entry)) (now (bytes .entry))) (now (base .entry)) (chainOf (now (words .entry)) first)) ⌝ }
+    ensures { λ n. ⌜ n ≡ length (liveNumbers (defAt (now (words .entry)) (now (bytes .entry))) (now (base .entry))
+        (chainOf (now (words .entry)) first)) ⌝ }
+    ensures { λ _. ⌜ now (list .exit) ≡ fitted (now (list .entry))
+        (liveNumbers (defAt (now (words .entry)) (now (bytes .entry))) (now (base .entry)) (chainOf (now (words .entry)) first)) ⌝ }
 {
-    let mut order = [0u32; FEW];
-    let mut heads = [0u32; FEW];
-    let mut links = [0u32; FEW];
-    let mut live = [0u32; FEW];
+    let mut order = [0u32; FEW_RECORDS];
+    let mut heads = [0u32; FEW_RECORDS];
+    let mut links = [0u32; FEW_RECORDS];
+    let mut live = [0u32; FEW_RECORDS];
     live_list_by(
         words,
         bytes,
@@ -84,13 +88,15 @@ fn live_list_few(words: &[u32], bytes: &[u8], first: u32, base: &[u8], list: &mu
 // The same of a log of the fewest records.
 fn live_list_least(words: &[u32], bytes: &[u8], first: u32, base: &[u8], list: &mut [u32]) -> u32
     requires { ⌜ logCount (now words) ≤ leastHeads ⌝ }
-    ensures { λ n. ⌜ n ≡ length (liveNumbers (defAt (now (words .entry)) (now (bytes .entry))) (now (base .entry)) (chainOf (now (words .entry)) first)) ⌝ }
-    ensures { λ _. ⌜ now (list .exit) ≡ fitted (now (list .entry)) (liveNumbers (defAt (now (words .entry)) (now (bytes .entry))) (now (base .entry)) (chainOf (now (words .entry)) first)) ⌝ }
+    ensures { λ n. ⌜ n ≡ length (liveNumbers (defAt (now (words .entry)) (now (bytes .entry))) (now (base .entry))
+        (chainOf (now (words .entry)) first)) ⌝ }
+    ensures { λ _. ⌜ now (list .exit) ≡ fitted (now (list .entry))
+        (liveNumbers (defAt (now (words .entry)) (now (bytes .entry))) (now (base .entry)) (chainOf (now (words .entry)) first)) ⌝ }
 {
-    let mut order = [0u32; LEAST];
-    let mut heads = [0u32; LEAST];
-    let mut links = [0u32; LEAST];
-    let mut live = [0u32; LEAST];
+    let mut order = [0u32; LEAST_RECORDS];
+    let mut heads = [0u32; LEAST_RECORDS];
+    let mut links = [0u32; LEAST_RECORDS];
+    let mut live = [0u32; LEAST_RECORDS];
     live_list_by(
         words,
         bytes,
@@ -117,8 +123,10 @@ fn live_list_by(
     live: &mut [u32],
 ) -> u32
     requires { ⌜ Room (logCount (now words)) (now order) (now heads) (now links) (now live) ⌝ }
-    ensures { λ n. ⌜ n ≡ length (liveNumbers (defAt (now (words .entry)) (now (bytes .entry))) (now (base .entry)) (chainOf (now (words .entry)) first)) ⌝ }
-    ensures { λ _. ⌜ now (list .exit) ≡ fitted (now (list .entry)) (liveNumbers (defAt (now (words .entry)) (now (bytes .entry))) (now (base .entry)) (chainOf (now (words .entry)) first)) ⌝ }
+    ensures { λ n. ⌜ n ≡ length (liveNumbers (defAt (now (words .entry)) (now (bytes .entry))) (now (base .entry))
+        (chainOf (now (words .entry)) first)) ⌝ }
+    ensures { λ _. ⌜ now (list .exit) ≡ fitted (now (list .entry))
+        (liveNumbers (defAt (now (words .entry)) (now (bytes .entry))) (now (base .entry)) (chainOf (now (words .entry)) first)) ⌝ }
 {
     let n = chain_order(words, first, order);
     let count = live_of(words, bytes, base, &order[..n], heads, links, live);
@@ -156,7 +164,8 @@ fn live_of(
 ) -> usize
     requires { ⌜ Room (length (now order)) (now order) (now heads) (now links) (now live) ⌝ }
     ensures { λ n. ⌜ n ≡ length (liveNumbers (defAt (now (words .entry)) (now (bytes .entry))) (now (base .entry)) (now (order .entry))) ⌝ }
-    ensures { λ _. ⌜ now (live .exit) ≡ written (now (live .entry)) 0 (liveNumbers (defAt (now (words .entry)) (now (bytes .entry))) (now (base .entry)) (now (order .entry))) ⌝ }
+    ensures { λ _. ⌜ now (live .exit) ≡ written (now (live .entry)) 0
+        (liveNumbers (defAt (now (words .entry)) (now (bytes .entry))) (now (base .entry)) (now (order .entry))) ⌝ }
 {
     let mut count = 0;
     let mut i = order.len();
@@ -184,8 +193,10 @@ fn pass(
 ) -> bool
     requires { ⌜ Table (defAt (now words) (now bytes)) (now base) (length (now heads)) (now heads) (now links) (now later) ⌝ }
     requires { ⌜ (leastHeads ≤ length (now heads)) × (length (now later) < length (now links)) × (length (now links) ≤ 65536) ⌝ }
-    ensures { λ t. ⌜ t ≡ isLive (now (base .entry)) (defAt (now (words .entry)) (now (bytes .entry)) r) (map (defAt (now (words .entry)) (now (bytes .entry))) (now (later .entry))) ⌝ }
-    ensures { λ _. ⌜ Table (defAt (now (words .entry)) (now (bytes .entry))) (now (base .entry)) (length (now (heads .exit))) (now (heads .exit)) (now (links .exit)) (r ∷ now (later .entry)) ⌝ }
+    ensures { λ t. ⌜ t ≡ isLive (now (base .entry)) (defAt (now (words .entry)) (now (bytes .entry)) r)
+        (map (defAt (now (words .entry)) (now (bytes .entry))) (now (later .entry))) ⌝ }
+    ensures { λ _. ⌜ Table (defAt (now (words .entry)) (now (bytes .entry))) (now (base .entry)) (length (now (heads .exit)))
+        (now (heads .exit)) (now (links .exit)) (r ∷ now (later .entry)) ⌝ }
 {
     let kind = kind_of(words, r);
     let path = first_text(words, bytes, r);

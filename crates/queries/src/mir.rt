@@ -4,19 +4,20 @@ ghost use mathlib.Core.Path.{_≡_};
 ghost use mathlib.Core.Bool.{true, false};
 ghost use mathlib.Core.List.{List};
 ghost use Prim.Native.Nat.{ℕ};
-ghost use Rattle.paths_numbers.specs.Path.{joined};
-ghost use Rattle.log.specs.ReadBack.{defAt, readDefs};
-ghost use Rattle.queries.specs.Kind.{any, setsOverlay};
-ghost use Rattle.queries.specs.Live.{deletes, live, nodeAt, containsNode};
-ghost use Rattle.queries.specs.Labels.{hasLabelAt};
-ghost use Rattle.queries.specs.Pass.{foundAfter};
-use crate::definition::PLUGIN;
+ghost use Rattle.paths_numbers.specs.meaning.Path.{joined};
+ghost use Rattle.log.specs.meaning.ReadBack.{defAt, readDefs};
+ghost use Rattle.queries.specs.meaning.Kind.{setsOverlay};
+ghost use Rattle.paths_numbers.specs.meaning.Lists.{any};
+ghost use Rattle.queries.specs.meaning.Live.{deletes, live, nodeAt, containsNode};
+ghost use Rattle.queries.specs.meaning.Labels.{hasLabelAt};
+ghost use Rattle.queries.specs.machine.Pass.{foundAfter};
 use crate::definition::deletes_above;
 use crate::definition::deletes_above_path;
 use crate::definition::goes_on;
 use crate::definition::has_label_at;
 use crate::definition::is_node_at;
 use crate::definition::is_node_at_path;
+use log::kinds::PLUGIN;
 use log::record::kind_of;
 use log::record::log_count;
 use log::record::next_of;
@@ -47,7 +48,8 @@ pub fn contains_node_path(
     name: &[u8],
     unit: &[u8],
 ) -> bool
-    ensures { λ t. ⌜ t ≡ containsNode (joined (now (parent .entry)) (now (name .entry)) (now (unit .entry))) (readDefs (now (words .entry)) (now (bytes .entry)) first) ⌝ }
+    ensures { λ t. ⌜ t ≡ containsNode (joined (now (parent .entry)) (now (name .entry)) (now (unit .entry)))
+        (readDefs (now (words .entry)) (now (bytes .entry)) first) ⌝ }
 {
     let mut found = false;
     let mut r = first;
@@ -85,7 +87,8 @@ pub fn unbinds(
     label: &[u8],
     path: &[u8],
 ) -> bool
-    ensures { λ t. ⌜ t ≡ any (hasLabelAt (now (label .entry)) (now (path .entry))) (live (now (base .entry)) (readDefs (now (words .entry)) (now (bytes .entry)) first)) ⌝ }
+    ensures { λ t. ⌜ t ≡ any (hasLabelAt (now (label .entry)) (now (path .entry)))
+        (live (now (base .entry)) (readDefs (now (words .entry)) (now (bytes .entry)) first)) ⌝ }
 {
     if !lies_under(path, base) {
         return false;
@@ -104,7 +107,9 @@ pub fn unbinds_path(
     label: &[u8],
     path: &[u8],
 ) -> bool
-    ensures { λ t. ⌜ t ≡ any (hasLabelAt (now (label .entry)) (now (path .entry))) (live (joined (now (parent .entry)) (now (name .entry)) (now (unit .entry))) (readDefs (now (words .entry)) (now (bytes .entry)) first)) ⌝ }
+    ensures { λ t. ⌜ t ≡ any (hasLabelAt (now (label .entry)) (now (path .entry)))
+        (live (joined (now (parent .entry)) (now (name .entry)) (now (unit .entry)))
+        (readDefs (now (words .entry)) (now (bytes .entry)) first)) ⌝ }
 {
     if !lies_under_path(path, parent, name, unit) {
         return false;
@@ -114,7 +119,8 @@ pub fn unbinds_path(
 
 // Whether a chain has a node with a label at a path, live under that path.
 fn unbinds_in(words: &[u32], bytes: &[u8], first: u32, label: &[u8], path: &[u8]) -> bool
-    ensures { λ t. ⌜ t ≡ any (hasLabelAt (now (label .entry)) (now (path .entry))) (live (now (path .entry)) (readDefs (now (words .entry)) (now (bytes .entry)) first)) ⌝ }
+    ensures { λ t. ⌜ t ≡ any (hasLabelAt (now (label .entry)) (now (path .entry)))
+        (live (now (path .entry)) (readDefs (now (words .entry)) (now (bytes .entry)) first)) ⌝ }
 {
     let mut found = false;
     let mut r = first;
@@ -129,7 +135,8 @@ fn unbinds_in(words: &[u32], bytes: &[u8], first: u32, label: &[u8], path: &[u8]
 
 // Whether a live node at a path is found after a definition.
 fn contains_node_after(words: &[u32], bytes: &[u8], r: u32, path: &[u8], found: bool) -> bool
-    ensures { λ t. ⌜ t ≡ foundAfter (nodeAt (now (path .entry)) (defAt (now (words .entry)) (now (bytes .entry)) r)) (deletes (now (path .entry)) (defAt (now (words .entry)) (now (bytes .entry)) r)) found ⌝ }
+    ensures { λ t. ⌜ t ≡ foundAfter (nodeAt (now (path .entry)) (defAt (now (words .entry)) (now (bytes .entry)) r))
+        (deletes (now (path .entry)) (defAt (now (words .entry)) (now (bytes .entry)) r)) found ⌝ }
 {
     if found {
         return !deletes_above(words, bytes, r, path);
@@ -147,7 +154,9 @@ fn contains_node_path_after(
     unit: &[u8],
     found: bool,
 ) -> bool
-    ensures { λ t. ⌜ t ≡ foundAfter (nodeAt (joined (now (parent .entry)) (now (name .entry)) (now (unit .entry))) (defAt (now (words .entry)) (now (bytes .entry)) r)) (deletes (joined (now (parent .entry)) (now (name .entry)) (now (unit .entry))) (defAt (now (words .entry)) (now (bytes .entry)) r)) found ⌝ }
+    ensures { λ t. ⌜ t ≡ foundAfter (nodeAt (joined (now (parent .entry)) (now (name .entry)) (now (unit .entry)))
+        (defAt (now (words .entry)) (now (bytes .entry)) r)) (deletes (joined (now (parent .entry)) (now (name .entry)) (now (unit .entry)))
+        (defAt (now (words .entry)) (now (bytes .entry)) r)) found ⌝ }
 {
     if found {
         return !deletes_above_path(words, bytes, r, parent, name, unit);
@@ -164,7 +173,9 @@ fn unbinds_after(
     path: &[u8],
     found: bool,
 ) -> bool
-    ensures { λ t. ⌜ t ≡ foundAfter (hasLabelAt (now (label .entry)) (now (path .entry)) (defAt (now (words .entry)) (now (bytes .entry)) r)) (deletes (now (path .entry)) (defAt (now (words .entry)) (now (bytes .entry)) r)) found ⌝ }
+    ensures { λ t. ⌜ t ≡ foundAfter (hasLabelAt (now (label .entry)) (now (path .entry))
+        (defAt (now (words .entry)) (now (bytes .entry)) r)) (deletes (now (path .entry))
+        (defAt (now (words .entry)) (now (bytes .entry)) r)) found ⌝ }
 {
     if found {
         return !deletes_above(words, bytes, r, path);

@@ -1,47 +1,50 @@
 // The queries of any log that a caller lends, by rows 8 to 10 of 01's table.
 ghost use mathlib.Core.Path.{_≡_};
 ghost use lib.ListN.{length};
-ghost use Rattle.paths_numbers.specs.Path.{goodPath};
-ghost use Rattle.queries.specs.Query.{goodAnswer, countAnswer, queryAnswer, queryOut, liveAnswers, historyAnswers, containsAnswer};
-ghost use Rattle.queries.specs.Answer.{told, refusal};
+ghost use Rattle.paths_numbers.specs.meaning.Path.{goodPath};
+ghost use Rattle.queries.specs.meaning.Query.{goodAnswer, countAnswer, queryAnswer, queryOut, liveAnswers, historyAnswers};
+ghost use Rattle.queries.specs.meaning.Query.{containsAnswer, refusal};
+ghost use Rattle.log.specs.meaning.Answer.{told};
 use crate::history::history_list;
 use crate::live::live_list;
 use crate::mir::contains_node_in;
+use log::answer::Answer;
+use log::answer::REFUSED_LIST;
+use log::answer::REFUSED_PATH;
+use log::answer::SUCCESS;
+use log::layout;
 use log::record::out_field;
-use log::sound::Soundness;
-use log::sound::check_log;
+use log::sound::log_refused;
 use paths_numbers::mir::good_path;
-
-// 01's number and what is returned with it.
-pub struct Answer {
-    pub number: u32,
-    pub returned: u32,
-}
 
 // The live definitions under a base, latest first, by their record numbers.
 pub fn iter_live_defs_under(words: &[u32], bytes: &[u8], base: &[u8], list: &mut [u32]) -> Answer
-    ensures { λ r. ⌜ told r ≡ queryAnswer (now (words .entry)) (now (bytes .entry)) (now (base .entry)) (length (now (list .entry))) (liveAnswers (now (words .entry)) (now (bytes .entry)) (now (base .entry))) ⌝ }
-    ensures { λ _. ⌜ now (list .exit) ≡ queryOut (now (words .entry)) (now (bytes .entry)) (now (base .entry)) (now (list .entry)) (liveAnswers (now (words .entry)) (now (bytes .entry)) (now (base .entry))) ⌝ }
+    ensures { λ r. ⌜ told r ≡ queryAnswer (now (words .entry)) (now (bytes .entry)) (now (base .entry)) (length (now (list .entry)))
+        (liveAnswers (now (words .entry)) (now (bytes .entry)) (now (base .entry))) ⌝ }
+    ensures { λ _. ⌜ now (list .exit) ≡ queryOut (now (words .entry)) (now (bytes .entry)) (now (base .entry)) (now (list .entry))
+        (liveAnswers (now (words .entry)) (now (bytes .entry)) (now (base .entry))) ⌝ }
 {
     let refusal = refused(words, bytes, base);
-    if refusal.number != 0 {
+    if refusal.number != SUCCESS {
         return refusal;
     }
-    let first = out_field(words, 0, 1);
+    let first = out_field(words, 0, layout::FIRST_DEFINITION);
     let count = live_list(words, bytes, first, base, list);
     list_answer(list.len(), count)
 }
 
 // The history of a path, earliest first, by record numbers.
 pub fn history(words: &[u32], bytes: &[u8], path: &[u8], list: &mut [u32]) -> Answer
-    ensures { λ r. ⌜ told r ≡ queryAnswer (now (words .entry)) (now (bytes .entry)) (now (path .entry)) (length (now (list .entry))) (historyAnswers (now (words .entry)) (now (bytes .entry)) (now (path .entry))) ⌝ }
-    ensures { λ _. ⌜ now (list .exit) ≡ queryOut (now (words .entry)) (now (bytes .entry)) (now (path .entry)) (now (list .entry)) (historyAnswers (now (words .entry)) (now (bytes .entry)) (now (path .entry))) ⌝ }
+    ensures { λ r. ⌜ told r ≡ queryAnswer (now (words .entry)) (now (bytes .entry)) (now (path .entry)) (length (now (list .entry)))
+        (historyAnswers (now (words .entry)) (now (bytes .entry)) (now (path .entry))) ⌝ }
+    ensures { λ _. ⌜ now (list .exit) ≡ queryOut (now (words .entry)) (now (bytes .entry)) (now (path .entry)) (now (list .entry))
+        (historyAnswers (now (words .entry)) (now (bytes .entry)) (now (path .entry))) ⌝ }
 {
     let refusal = refused(words, bytes, path);
-    if refusal.number != 0 {
+    if refusal.number != SUCCESS {
         return refusal;
     }
-    let first = out_field(words, 0, 1);
+    let first = out_field(words, 0, layout::FIRST_DEFINITION);
     let count = history_list(words, bytes, first, path, list);
     list_answer(list.len(), count)
 }
@@ -52,12 +55,12 @@ fn list_answer(room: usize, count: u32) -> Answer
 {
     if room < count as usize {
         return Answer {
-            number: 10,
+            number: REFUSED_LIST,
             returned: count,
         };
     }
     Answer {
-        number: 0,
+        number: SUCCESS,
         returned: count,
     }
 }
@@ -67,17 +70,22 @@ pub fn contains_node(words: &[u32], bytes: &[u8], path: &[u8]) -> Answer
     ensures { λ r. ⌜ told r ≡ containsAnswer (now (words .entry)) (now (bytes .entry)) (now (path .entry)) ⌝ }
 {
     let refusal = refused(words, bytes, path);
-    if refusal.number != 0 {
+    if refusal.number != SUCCESS {
         return refusal;
     }
-    if contains_node_in(words, bytes, out_field(words, 0, 1), path) {
+    if contains_node_in(
+        words,
+        bytes,
+        out_field(words, 0, layout::FIRST_DEFINITION),
+        path,
+    ) {
         return Answer {
-            number: 0,
+            number: SUCCESS,
             returned: 1,
         };
     }
     Answer {
-        number: 0,
+        number: SUCCESS,
         returned: 0,
     }
 }
@@ -86,13 +94,11 @@ pub fn contains_node(words: &[u32], bytes: &[u8], path: &[u8]) -> Answer
 fn refused(words: &[u32], bytes: &[u8], path: &[u8]) -> Answer
     ensures { λ r. ⌜ told r ≡ refusal (now (words .entry)) (now (bytes .entry)) (now (path .entry)) ⌝ }
 {
-    match check_log(words, bytes) {
-        Soundness::Broken(r) => Answer {
-            number: 8,
-            returned: r,
-        },
-        Soundness::Sound => path_refused(path),
+    let broken = log_refused(words, bytes);
+    if broken.number != SUCCESS {
+        return broken;
     }
+    path_refused(path)
 }
 
 // Row 9.
@@ -101,12 +107,12 @@ fn path_refused(path: &[u8]) -> Answer
 {
     if good_path(path) {
         return Answer {
-            number: 0,
+            number: SUCCESS,
             returned: 0,
         };
     }
     Answer {
-        number: 9,
+        number: REFUSED_PATH,
         returned: 0,
     }
 }

@@ -1,6 +1,15 @@
 // Recorded definitions, with their labels and values, against a chain of the log. A chain that ends
 // early is found by its length; what is read behind its end differs or not.
 use crate::tally::Tally;
+use log::kinds::BYTESTRING;
+use log::kinds::CELL_LIST;
+use log::kinds::LABEL;
+use log::kinds::NODE;
+use log::kinds::NUMBER;
+use log::kinds::PROPERTY;
+use log::kinds::REFERENCE;
+use log::kinds::STRING;
+use log::layout;
 use log::record::child_of;
 use log::record::first_text;
 use log::record::kind_of;
@@ -9,21 +18,6 @@ use log::record::log_count;
 use log::record::next_of;
 use log::record::out_field;
 use log::record::second_text;
-use queries::definition::NODE;
-use queries::definition::PROPERTY;
-
-// The kinds of labels, values and cells.
-const LABEL: u32 = 7;
-
-const STRING: u32 = 8;
-
-const CELL_LIST: u32 = 9;
-
-const BYTESTRING: u32 = 10;
-
-const NUMBER: u32 = 11;
-
-const REFERENCE: u32 = 12;
 
 // Compares a chain's length with the number that is recorded; it has no first record if that is 0.
 pub fn chain(sample: &[u8], out: &[u32], first: u32, t: Tally, what: &[u8]) -> Tally {
@@ -66,7 +60,7 @@ fn definition(sample: &[u8], out: &[u32], bytes: &[u8], r: u32, t: Tally) -> Tal
     let kinded = t.number(sample, kind, b"kind of a definition");
     let placed = kinded.text(sample, first_text(out, bytes, r), b"path of a definition");
     let spanned = spans(sample, out, r, placed);
-    let marked = spanned.number(sample, out_field(out, r, 7), b"omit mark");
+    let marked = spanned.number(sample, out_field(out, r, layout::N), b"omit mark");
     let labelled = labels(sample, out, bytes, child_if(out, r, kind == NODE), marked);
     values(
         sample,
@@ -88,14 +82,30 @@ fn child_if(out: &[u32], r: u32, has: bool) -> u32 {
 // The span and the name span of a record.
 pub fn spans(sample: &[u8], out: &[u32], r: u32, t: Tally) -> Tally {
     let spanned = span(sample, out, r, t);
-    let started = spanned.number(sample, out_field(out, r, 11), b"start of a name span");
-    started.number(sample, out_field(out, r, 12), b"end of a name span")
+    let started = spanned.number(
+        sample,
+        out_field(out, r, layout::NAME_START),
+        b"start of a name span",
+    );
+    started.number(
+        sample,
+        out_field(out, r, layout::NAME_END),
+        b"end of a name span",
+    )
 }
 
 // The span of a record.
 pub fn span(sample: &[u8], out: &[u32], r: u32, t: Tally) -> Tally {
-    let started = t.number(sample, out_field(out, r, 9), b"start of a span");
-    started.number(sample, out_field(out, r, 10), b"end of a span")
+    let started = t.number(
+        sample,
+        out_field(out, r, layout::SPAN_START),
+        b"start of a span",
+    );
+    started.number(
+        sample,
+        out_field(out, r, layout::SPAN_END),
+        b"end of a span",
+    )
 }
 
 // A node's labels.
@@ -138,7 +148,11 @@ fn value(sample: &[u8], out: &[u32], bytes: &[u8], r: u32, t: Tally) -> Tally {
         STRING => kinded.text(sample, first_text(out, bytes, r), b"string"),
         BYTESTRING => kinded.text(sample, first_text(out, bytes, r), b"bytestring"),
         CELL_LIST => {
-            let sized = kinded.number(sample, out_field(out, r, 7), b"width of a cell list");
+            let sized = kinded.number(
+                sample,
+                out_field(out, r, layout::N),
+                b"width of a cell list",
+            );
             cells(sample, out, bytes, child_of(out, r), sized)
         }
         _ => reference(sample, out, bytes, r, kinded),
@@ -163,8 +177,8 @@ fn cell(sample: &[u8], out: &[u32], bytes: &[u8], r: u32, t: Tally) -> Tally {
     let kind = t.recorded(sample);
     let kinded = t.number(sample, kind_of(out, r), b"kind of a cell");
     if kind == NUMBER {
-        let low = kinded.number(sample, out_field(out, r, 7), b"low word of a cell");
-        return low.number(sample, out_field(out, r, 8), b"high word of a cell");
+        let low = kinded.number(sample, out_field(out, r, layout::N), b"low word of a cell");
+        return low.number(sample, out_field(out, r, layout::M), b"high word of a cell");
     }
     reference(sample, out, bytes, r, kinded)
 }
@@ -172,7 +186,7 @@ fn cell(sample: &[u8], out: &[u32], bytes: &[u8], r: u32, t: Tally) -> Tally {
 // What a reference names.
 pub fn reference(sample: &[u8], out: &[u32], bytes: &[u8], r: u32, t: Tally) -> Tally {
     let kinded = t.noted(kind_of(out, r) == REFERENCE, b"kind of a reference");
-    let formed = kinded.number(sample, out_field(out, r, 7), b"form of a reference");
+    let formed = kinded.number(sample, out_field(out, r, layout::N), b"form of a reference");
     let labelled = formed.text(sample, first_text(out, bytes, r), b"label of a reference");
     labelled.text(sample, second_text(out, bytes, r), b"path of a reference")
 }

@@ -5,6 +5,10 @@ use crate::definitions::reference;
 use crate::definitions::span;
 use crate::definitions::spans;
 use crate::tally::Tally;
+use log::kinds::BINDING;
+use log::kinds::DIAGNOSTIC;
+use log::kinds::EXTENSION;
+use log::layout;
 use log::record::child_of;
 use log::record::first_text;
 use log::record::kind_of;
@@ -12,22 +16,49 @@ use log::record::next_of;
 use log::record::out_field;
 use log::record::second_text;
 
-// The kinds of the records outside definitions.
-const EXTENSION: u32 = 13;
-
-const BINDING: u32 = 14;
-
-const DIAGNOSTIC: u32 = 15;
-
 // The whole log: record 0's counts and what its chains have.
 pub fn whole_log(sample: &[u8], out: &[u32], bytes: &[u8], t: Tally) -> Tally {
-    let counted = t.number(sample, out_field(out, 0, 0), b"records used");
-    let sized = counted.number(sample, out_field(out, 0, 5), b"bytes used");
-    let defined = definitions(sample, out, bytes, out_field(out, 0, 1), sized);
-    let extended = extensions(sample, out, bytes, out_field(out, 0, 2), defined);
-    let bound = bindings(sample, out, bytes, out_field(out, 0, 3), extended);
-    let reported = diagnostics(sample, out, bytes, out_field(out, 0, 4), bound);
-    diagnostics(sample, out, bytes, out_field(out, 0, 6), reported)
+    let counted = t.number(
+        sample,
+        out_field(out, 0, layout::RECORDS_USED),
+        b"records used",
+    );
+    let sized = counted.number(sample, out_field(out, 0, layout::BYTES_USED), b"bytes used");
+    let defined = definitions(
+        sample,
+        out,
+        bytes,
+        out_field(out, 0, layout::FIRST_DEFINITION),
+        sized,
+    );
+    let extended = extensions(
+        sample,
+        out,
+        bytes,
+        out_field(out, 0, layout::FIRST_EXTENSION),
+        defined,
+    );
+    let bound = bindings(
+        sample,
+        out,
+        bytes,
+        out_field(out, 0, layout::FIRST_BINDING),
+        extended,
+    );
+    let reported = diagnostics(
+        sample,
+        out,
+        bytes,
+        out_field(out, 0, layout::FIRST_DIAGNOSTIC),
+        bound,
+    );
+    diagnostics(
+        sample,
+        out,
+        bytes,
+        out_field(out, 0, layout::FIRST_POST),
+        reported,
+    )
 }
 
 // The extensions.
@@ -48,7 +79,7 @@ fn extension(sample: &[u8], out: &[u32], bytes: &[u8], r: u32, t: Tally) -> Tall
     let kinded = t.noted(kind_of(out, r) == EXTENSION, b"kind of an extension");
     let spanned = spans(sample, out, r, kinded);
     let named = reference(sample, out, bytes, child_of(out, r), spanned);
-    definitions(sample, out, bytes, out_field(out, r, 8), named)
+    definitions(sample, out, bytes, out_field(out, r, layout::M), named)
 }
 
 // The bindings.
@@ -88,7 +119,11 @@ fn diagnostics(sample: &[u8], out: &[u32], bytes: &[u8], first: u32, t: Tally) -
 // A diagnostic.
 fn diagnostic(sample: &[u8], out: &[u32], bytes: &[u8], r: u32, t: Tally) -> Tally {
     let kinded = t.noted(kind_of(out, r) == DIAGNOSTIC, b"kind of a diagnostic");
-    let coded = kinded.number(sample, out_field(out, r, 7), b"code of a diagnostic");
+    let coded = kinded.number(
+        sample,
+        out_field(out, r, layout::N),
+        b"code of a diagnostic",
+    );
     let told = coded.text(sample, first_text(out, bytes, r), b"text of a diagnostic");
     spans(sample, out, r, told)
 }

@@ -3,10 +3,11 @@
 use crate::recorded::after_text;
 use crate::recorded::text_at;
 use crate::tally::Tally;
+use log::answer::Answer;
+use log::layout;
 use log::record::log_count;
 use log::record::next_of;
 use log::record::out_field;
-use queries::query::Answer;
 use queries::query::contains_node;
 use queries::query::history;
 use queries::query::iter_live_defs_under;
@@ -83,7 +84,7 @@ fn later(i: usize, list: &[u32]) -> usize {
 // A definition's place in the main log, or a number behind the last place.
 fn place_of(out: &[u32], number: u32) -> u32 {
     let most = log_count(out);
-    let mut r = out_field(out, 0, 1);
+    let mut r = out_field(out, 0, layout::FIRST_DEFINITION);
     let mut left = most;
     while 0 < left {
         if r == number {

@@ -6,11 +6,9 @@ use crate::recorded::after_text;
 use crate::recorded::read_numbers;
 use crate::recorded::text_at;
 use crate::tally::Tally;
+use log::answer::Answer;
+use log::layout::RECORD_WORDS;
 use lowering::lower::lower;
-use queries::query::Answer;
-
-// The words of a record.
-const RECORD: usize = 16;
 
 // Replays a case: its words, its text, and what comes of them.
 pub fn replay_case(
@@ -118,13 +116,13 @@ fn replay_short(
     bytes: &mut [u8],
     t: Tally,
 ) -> Tally {
-    if out.len() / RECORD < records {
+    if out.len() / RECORD_WORDS < records {
         return t.noted(false, b"room for records");
     }
     if bytes.len() < size {
         return t.noted(false, b"room for bytes");
     }
-    let n = records * RECORD;
+    let n = records * RECORD_WORDS;
     replay_refused(words, text, &mut out[..n], &mut bytes[..size], t)
 }
 
@@ -160,13 +158,13 @@ fn replay_exact(
     list: &mut [u32],
     t: Tally,
 ) -> Tally {
-    if out.len() / RECORD < records {
+    if out.len() / RECORD_WORDS < records {
         return t.noted(false, b"room for records");
     }
     if bytes.len() < size {
         return t.noted(false, b"room for bytes");
     }
-    let n = records * RECORD;
+    let n = records * RECORD_WORDS;
     replay_whole(
         sample,
         words,

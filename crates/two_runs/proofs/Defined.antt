@@ -5,24 +5,29 @@ use mathlib.Core.Bool.{Bool, true, false, not, cond}
 use mathlib.Core.List.{List, [], _∷_, _++_}
 use mathlib.Core.Option.{Option, some, none}
 use lib.Dec.{eqb}
-use Rattle.paths_numbers.specs.Text.{isEmpty}
-use Rattle.paths_numbers.specs.Path.{root, join}
-use Rattle.paths_numbers.specs.Reference.{Target}
+use Rattle.paths_numbers.specs.meaning.Text.{isEmpty}
+use Rattle.paths_numbers.specs.meaning.Path.{root, join}
+use Rattle.paths_numbers.specs.meaning.Reference.{Target}
 use Rattle.paths_numbers.proofs.Texts.{by-test, not-both, cond-in}
-use Rattle.log.specs.Meaning.{Span, DefValue, node, property, deletedNode, deletedProperty, version, plugin, Def, Diag}
-use Rattle.queries.specs.Kind.{any, setsOverlay}
-use Rattle.queries.proofs.Lists.{any-front, any-back, any-head}
+use Rattle.log.specs.meaning.Contents.{Span, DefValue, node, property, deletedNode, deletedProperty, version, plugin, Def, Diag}
+use Rattle.queries.specs.meaning.Kind.{setsOverlay}
+use Rattle.paths_numbers.specs.meaning.Lists.{any}
+use Rattle.paths_numbers.proofs.Lists.{any-front, any-back, any-head}
 use Rattle.queries.proofs.Gap.{isDirective, Within, none as no-defs, next as one-def}
-use Rattle.input.specs.Tree.{Tree, Trees, tree, empty, more, firstOf, nodeKind, propertyKind, directiveKind, preprocessorKind, nameKind, referenceKind}
-use Rattle.input.specs.Report.{Got, Made, report}
-use Rattle.input.specs.Name.{fullName, labelsOf}
-use Rattle.input.specs.Phandle.{lowerPhandle}
-use Rattle.post_checks.specs.Resolve.{Resolution, reaches, missing, resolve}
-use Rattle.input.specs.Property.{lowerValues}
-use Rattle.making.specs.State.{State, define, bind, emit, apart, dropped, extended}
-use Rattle.items.specs.Unbind.{unbind}
-use Rattle.items.specs.Lower.{Place, at, aside, discarded, nowhere, Placed, placeOf, nodeDef, opened, settled, lowerPlaced, lowerNode, namedProperty, lowerProperty, bare, deleteNode, deleteResolved, deleteTarget, deleteReferenced, deleteNamed, lowerDeleteNode, deletePropertyNamed, lowerDirective, lowerAs, lowerItem, lowerItems}
-use Rattle.post_checks.specs.Post.{Headers, atFirst, defined, nextHeaders, headerReport, directivesFrom, checkDirectives}
+use Rattle.input.specs.meaning.Tree.{Tree, Trees, tree, empty, more, firstOf, nodeKind, propertyKind, directiveKind, preprocessorKind}
+use Rattle.input.specs.meaning.Tree.{nameKind, referenceKind}
+use Rattle.input.specs.meaning.Report.{Got, Made, report}
+use Rattle.input.specs.meaning.Name.{fullName, labelsOf}
+use Rattle.input.specs.meaning.Phandle.{lowerPhandle}
+use Rattle.resolving.specs.meaning.Resolve.{Resolution, reaches, missing, resolve}
+use Rattle.input.specs.meaning.Property.{lowerValues}
+use Rattle.making.specs.meaning.State.{State, define, bind, emit, apart, dropped, extended}
+use Rattle.items.specs.meaning.Unbind.{unbind}
+use Rattle.items.specs.meaning.Lower.{Place, at, aside, discarded, nowhere, Placed, placeOf, nodeDef, opened, settled, lowerPlaced}
+use Rattle.items.specs.meaning.Lower.{lowerNode, namedProperty, lowerProperty, bare, deleteNode, deleteResolved, deleteTarget}
+use Rattle.items.specs.meaning.Lower.{deleteReferenced, deleteNamed, lowerDeleteNode, deletePropertyNamed, lowerDirective, lowerAs}
+use Rattle.items.specs.meaning.Lower.{lowerItem, lowerItems}
+use Rattle.post_checks.specs.meaning.Post.{Headers, atFirst, defined, nextHeaders, headerReport, directivesFrom, checkDirectives}
 
 -- a definition that is no directive is in the log in hand
 abbrev pub Defined : State → Type 0
@@ -53,14 +58,16 @@ module _ (s : State) (h : Defined s) where
   unfolding dropped extended
   still-settled x refSpan span t = by-test (setsOverlay (s .defs)) (λ e. rw e h) (λ e. rw e h)
 
-  still-placed : (place : Place) (parts : Trees) (span : Span) (body : List ℕ → State → State) → ((p : List ℕ) (t : State) → Defined t → Defined (body p t))
+  still-placed : (place : Place) (parts : Trees) (span : Span) (body : List ℕ → State → State)
+      → ((p : List ℕ) (t : State) → Defined t → Defined (body p t))
       → Defined (lowerPlaced place parts span body s)
   still-placed (at p) parts span body k = k p _ (still-opened p parts span)
   still-placed (aside x refSpan) parts span body k = still-settled x refSpan span (body root (apart s))
   still-placed discarded parts span body k = still-dropped (body root (apart s))
   still-placed nowhere parts span body k = h
 
-  still-named : (parent : List ℕ) (parts values : Trees) (span : Span) (o : Option (List ℕ)) → Defined (namedProperty parent parts values span o s)
+  still-named : (parent : List ℕ) (parts values : Trees) (span : Span) (o : Option (List ℕ))
+      → Defined (namedProperty parent parts values span o s)
   still-named parent parts values span (some name) = still-define _
   still-named parent parts values span none = h
 
@@ -98,12 +105,15 @@ module _ (s : State) (h : Defined s) where
       (cond-in Is (eqb w 5) (still-deleted-property s h parent span (firstOf nameKind parts))
       h))))
 
-  still-as : (k w : ℕ) (span : Span) (parts second : Trees) (body : List ℕ → State → State) → ((p : List ℕ) (t : State) → Defined t → Defined (body p t)) → (parent : List ℕ)
+  still-as : (k w : ℕ) (span : Span) (parts second : Trees) (body : List ℕ → State → State)
+      → ((p : List ℕ) (t : State) → Defined t → Defined (body p t)) → (parent : List ℕ)
       → Defined (lowerAs k w span parts second body parent s)
   unfolding lowerNode lowerProperty
   still-as k w span parts second body b parent =
-      cond-in Is (eqb k nodeKind) (still-placed _ (still-emit s h (placeOf parent parts span s .reports)) (placeOf parent parts span s .place) parts span body b)
-      (cond-in Is (eqb k propertyKind) (cond-in Is (isEmpty parent) (still-emit s h _) (still-named _ (still-emit s h _) parent parts second span (fullName parts .result)))
+      cond-in Is (eqb k nodeKind) (still-placed _ (still-emit s h (placeOf parent parts span s .reports))
+      (placeOf parent parts span s .place) parts span body b)
+      (cond-in Is (eqb k propertyKind) (cond-in Is (isEmpty parent) (still-emit s h _)
+      (still-named _ (still-emit s h _) parent parts second span (fullName parts .result)))
       (cond-in Is (eqb k directiveKind) (still-directive w parent parts span)
       (cond-in Is (eqb k preprocessorKind) (still-emit s h _)
       h)))
@@ -157,13 +167,15 @@ settles version h e = absurd (not-both {t = false} e refl)
 settles plugin h e = absurd (not-both {t = false} e refl)
 
 -- from the settled state on
-settled-same : {new : List ℕ} {z : List Def} → Within new z → (l r : List Def) → directivesFrom defined (l ++ (z ++ r)) ≡ directivesFrom defined (l ++ r)
+settled-same : {new : List ℕ} {z : List Def} → Within new z → (l r : List Def)
+    → directivesFrom defined (l ++ (z ++ r)) ≡ directivesFrom defined (l ++ r)
 unfolding directivesFrom
 settled-same w [] r = silent-within w r
 settled-same w (d ∷ l) r = rw (after-defined (d .value), settled-same w l r) refl
 
 -- the order's reports are the same with definitions more behind one that is no directive
-pub directives-same : {new : List ℕ} {z : List Def} → Within new z → (l r : List Def) (h : Headers) → any (λ (d : Def). not (isDirective (d .value))) l ≡ true
+pub directives-same : {new : List ℕ} {z : List Def} → Within new z → (l r : List Def) (h : Headers)
+    → any (λ (d : Def). not (isDirective (d .value))) l ≡ true
     → directivesFrom h (l ++ (z ++ r)) ≡ directivesFrom h (l ++ r)
 unfolding directivesFrom any
 directives-same w [] r h e = absurd (not-both {t = false} e refl)

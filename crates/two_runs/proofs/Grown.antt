@@ -1,30 +1,33 @@
--- What the new subnode adds to the state: definitions at or under its path, and bindings that its live nodes stand for, which its deletion takes away.
+-- What the new subnode adds to the state: definitions at or under its path, and bindings that its live nodes stand for, which its deletion
+-- takes away.
 use Prim.Native.Nat.{ℕ}
 use mathlib.Core.Path.{_≡_, refl, sym, ap, _∙_}
 use mathlib.Core.Bool.{Bool, true, false, not, cond}
 use mathlib.Core.List.{List, [], _∷_, _++_, append-assoc, append-nil}
 use mathlib.Core.Option.{Option, some, none}
 use lib.Dec.{eqb}
-use Rattle.paths_numbers.specs.Text.{same}
-use Rattle.paths_numbers.specs.Path.{atOrUnder}
+use Rattle.paths_numbers.specs.meaning.Text.{same}
+use Rattle.paths_numbers.specs.meaning.Path.{atOrUnder}
 use Rattle.paths_numbers.proofs.Texts.{by-test, not-both, is-false, same-refl}
 use Rattle.paths_numbers.proofs.Under.{under-trans, under-refl}
-use Rattle.log.specs.Meaning.{Span, DefValue, node, deletedNode, Def, Ext, Binding, Diag}
-use Rattle.queries.specs.Kind.{isDeletedNode, any}
-use Rattle.queries.specs.Live.{deletes, live}
+use Rattle.log.specs.meaning.Contents.{Span, DefValue, node, deletedNode, Def, Ext, Binding, Diag}
+use Rattle.queries.specs.meaning.Kind.{isDeletedNode}
+use Rattle.paths_numbers.specs.meaning.Lists.{any}
+use Rattle.queries.specs.meaning.Live.{deletes, live}
 use Rattle.queries.proofs.Gap.{isDirective, Within, none as no-defs, next as one-def, within-append}
-use Rattle.input.specs.Tree.{Tree, Trees, empty, more, kindOf, spanOf, childrenOf, labelKind}
-use Rattle.input.specs.Report.{Got, Made, andThen}
-use Rattle.input.specs.Name.{nameOrMacro, labelled, labelsOf}
-use Rattle.making.specs.State.{State, define, bind, emit}
-use Rattle.items.specs.Unbind.{bindsLabelOf, without, unbind}
-use Rattle.items.specs.Lower.{labelTexts, nodeDef, opened, bare, deleteNode}
+use Rattle.input.specs.meaning.Tree.{Tree, Trees, empty, more, kindOf, spanOf, childrenOf, labelKind}
+use Rattle.input.specs.meaning.Report.{Got, Made, andThen}
+use Rattle.input.specs.meaning.Name.{nameOrMacro, labelled, labelsOf}
+use Rattle.making.specs.meaning.State.{State, define, bind, emit}
+use Rattle.items.specs.meaning.Unbind.{bindsLabelOf, without, unbind}
+use Rattle.items.specs.meaning.Lower.{labelTexts, nodeDef, opened, bare, deleteNode}
 use Rattle.two_runs.proofs.Held.{held, live-held, live-other, held-more, held-new}
 
 -- bindings at or under a path, each held
 pub data Held (new : List ℕ) (ds : List Def) : List Binding → Type 0 where
   no-binding : Held new ds []
-  one-binding : {b : Binding} {bs : List Binding} → atOrUnder (b .path) new ≡ true → held b ds ≡ true → Held new ds bs → Held new ds (b ∷ bs)
+  one-binding : {b : Binding} {bs : List Binding} → atOrUnder (b .path) new ≡ true → held b ds ≡ true → Held new ds bs
+      → Held new ds (b ∷ bs)
 
 both-held : {new : List ℕ} {ds : List Def} {x y : List Binding} → Held new ds x → Held new ds y → Held new ds (x ++ y)
 both-held no-binding h = h
@@ -34,7 +37,8 @@ both-held (one-binding u e k) h = one-binding u e (both-held k h)
 no-deletion : (p : List ℕ) (d : Def) → isDeletedNode (d .value) ≡ false → deletes p d ≡ false
 no-deletion p d e = rw e refl
 
-still-held : {new : List ℕ} {ds : List Def} {bs : List Binding} (d : Def) → isDeletedNode (d .value) ≡ false → Held new ds bs → Held new (ds ++ d ∷ []) bs
+still-held : {new : List ℕ} {ds : List Def} {bs : List Binding} (d : Def) → isDeletedNode (d .value) ≡ false → Held new ds bs
+    → Held new (ds ++ d ∷ []) bs
 still-held d n no-binding = no-binding
 still-held {ds = ds} d n (one-binding {b} u e k) = one-binding u (held-more b ds d e (no-deletion (b .path) d n)) (still-held d n k)
 
@@ -46,7 +50,8 @@ data Labels (p : List ℕ) (ls : List (List ℕ)) : List Binding → Type 0 wher
 more-labels : {p : List ℕ} {ls : List (List ℕ)} {bs : List Binding} (l : List ℕ) → Labels p ls bs → Labels p (l ∷ ls) bs
 unfolding any
 more-labels l no-label = no-label
-more-labels {ls = ls} l (one-label {b} e a k) = one-label {b = b} e (by-test (same (b .label) l) (λ t. rw t refl) (λ t. rw t a)) (more-labels l k)
+more-labels {ls = ls} l (one-label {b} e a k) = one-label {b = b} e (by-test (same (b .label) l) (λ t. rw t refl) (λ t. rw t a))
+    (more-labels l k)
 
 -- bindings that are all to one path
 data AllAt (p : List ℕ) : List Binding → Type 0 where
@@ -77,10 +82,12 @@ all-labels : (p : List ℕ) (parts : Trees) → AllAt p (labelsOf p parts .made)
 unfolding labelsOf
 all-labels p empty = none-at
 all-labels p (more t ts) =
-    all-cond (eqb (kindOf t) labelKind) (andThen (labelled p t (nameOrMacro (childrenOf t))) (labelsOf p ts)) (labelsOf p ts) (all-both (all-labelled p t (nameOrMacro (childrenOf t))) (all-labels p ts)) (all-labels p ts)
+    all-cond (eqb (kindOf t) labelKind) (andThen (labelled p t (nameOrMacro (childrenOf t))) (labelsOf p ts)) (labelsOf p ts)
+    (all-both (all-labelled p t (nameOrMacro (childrenOf t))) (all-labels p ts)) (all-labels p ts)
 
 -- a node made now holds the bindings of its labels
-made-held : {new p : List ℕ} → atOrUnder p new ≡ true → (ds : List Def) (ls : List (List ℕ)) (o : Bool) (span nameSpan : Span) {bs : List Binding} → Labels p ls bs
+made-held : {new p : List ℕ} → atOrUnder p new ≡ true → (ds : List Def) (ls : List (List ℕ)) (o : Bool) (span nameSpan : Span)
+    {bs : List Binding} → Labels p ls bs
     → Held new (ds ++ record { path = p; value = node ls o; span = span; nameSpan = nameSpan } ∷ []) bs
 made-held u ds ls o span nameSpan no-label = no-binding
 made-held {new} {p} u ds ls o span nameSpan (one-label {b} e a k) =
@@ -98,7 +105,15 @@ pub record Grown (new : List ℕ) (s t : State) : Type 0 where
 
 pub grown-none : (new : List ℕ) (s : State) → Grown new s s
 grown-none new s =
-    record { made = []; defs = sym (append-nil (s .defs)); within = no-defs; exts = refl; bound = []; binds = sym (append-nil (s .binds)); holds = no-binding }
+    record {
+      made = [];
+      defs = sym (append-nil (s .defs));
+      within = no-defs;
+      exts = refl;
+      bound = [];
+      binds = sym (append-nil (s .binds));
+      holds = no-binding;
+    }
 
 module _ {new : List ℕ} {s t : State} (g : Grown new s t) where
   pub grown-emit : (ds : List Diag) → Grown new s (emit ds t)
@@ -109,7 +124,8 @@ module _ {new : List ℕ} {s t : State} (g : Grown new s t) where
   longer : (d : Def) → t .defs ++ d ∷ [] ≡ s .defs ++ (g .made ++ d ∷ [])
   longer d = rw (g .defs) (append-assoc (s .defs) (g .made) (d ∷ []))
 
-  pub grown-define : (d : Def) → atOrUnder (d .path) new ≡ true → isDirective (d .value) ≡ false → isDeletedNode (d .value) ≡ false → Grown new s (define d t)
+  pub grown-define : (d : Def) → atOrUnder (d .path) new ≡ true → isDirective (d .value) ≡ false → isDeletedNode (d .value) ≡ false
+      → Grown new s (define d t)
   unfolding define
   grown-define d u n k =
       record {
@@ -175,7 +191,8 @@ without-all new ds (one-binding {b} u e k) = rw (live-held b new u ds ∙ e) (wi
 
 module _ {new : List ℕ} {s t : State} (g : Grown new s t) (free : any (λ (b : Binding). atOrUnder (b .path) new) (s .binds) ≡ false) where
   left : (p : List ℕ) → atOrUnder p new ≡ true → without (live p (t .defs)) (t .binds) ≡ s .binds ++ without (live p (t .defs)) (g .bound)
-  left p u = rw (g .binds) (without-append (live p (t .defs)) (s .binds) (g .bound) ∙ rw (without-before new p u (t .defs) (s .binds) free) refl)
+  left p u = rw (g .binds) (without-append (live p (t .defs)) (s .binds) (g .bound)
+      ∙ rw (without-before new p u (t .defs) (s .binds) free) refl)
 
   pub grown-delete : (p : List ℕ) → atOrUnder p new ≡ true → (span : Span) → Grown new s (deleteNode p span t)
   unfolding deleteNode define unbind

@@ -3,16 +3,17 @@ use Prim.Native.Nat.{ℕ}
 use mathlib.Core.Path.{_≡_, refl, sym, ap, _∙_}
 use mathlib.Core.Bool.{Bool, true, false, not, cond}
 use mathlib.Core.List.{List, [], _∷_, _++_}
-use Rattle.paths_numbers.specs.Text.{same}
-use Rattle.paths_numbers.specs.Path.{atOrUnder}
+use Rattle.paths_numbers.specs.meaning.Text.{same}
+use Rattle.paths_numbers.specs.meaning.Path.{atOrUnder}
 use Rattle.paths_numbers.proofs.Texts.{by-test, not-both, is-false, both, same-true, same-refl}
 use Rattle.paths_numbers.proofs.Under.{under-trans}
-use Rattle.log.specs.Meaning.{DefValue, node, property, deletedNode, deletedProperty, version, plugin, Def, Binding}
-use Rattle.queries.specs.Kind.{isProperty, isDeletedNode, isDeletion, any}
-use Rattle.queries.specs.Live.{deletes, overwrites, gone, isLive, live}
-use Rattle.queries.proofs.Lists.{any-append}
-use Rattle.queries.specs.Labels.{labelsIn}
-use Rattle.items.specs.Unbind.{bindsLabelOf, without}
+use Rattle.log.specs.meaning.Contents.{DefValue, node, property, deletedNode, deletedProperty, version, plugin, Def, Binding}
+use Rattle.queries.specs.meaning.Kind.{isProperty, isDeletedNode, isDeletion}
+use Rattle.paths_numbers.specs.meaning.Lists.{any}
+use Rattle.queries.specs.meaning.Live.{deletes, overwrites, gone, isLive, live}
+use Rattle.paths_numbers.proofs.Lists.{any-append}
+use Rattle.queries.specs.meaning.Labels.{labelsIn}
+use Rattle.items.specs.meaning.Unbind.{bindsLabelOf, without}
 
 -- whether the list holds such a node
 unfoldable pub held : Binding → List Def → Bool
@@ -73,7 +74,8 @@ held-more b (x ∷ ds) d h n =
     (λ e. rw (held-more b ds d e n) refl)
     (λ e.
     let k = both (bindsLabelOf b x) (not (any (deletes (b .path)) ds)) (rw e at h) in
-    let q : any (deletes (b .path)) (ds ++ d ∷ []) ≡ any (deletes (b .path)) ds = any-append (deletes (b .path)) ds (d ∷ []) ∙ rw n (by-test (any (deletes (b .path)) ds) (λ t. rw t refl) (λ t. rw t refl)) in
+    let q : any (deletes (b .path)) (ds ++ d ∷ []) ≡ any (deletes (b .path)) ds = any-append (deletes (b .path)) ds (d ∷ [])
+    ∙ rw n (by-test (any (deletes (b .path)) ds) (λ t. rw t refl) (λ t. rw t refl)) in
     rw (k .0, q, k .1) (by-test (held b (ds ++ d ∷ [])) (λ t. rw t refl) (λ t. rw t refl)))
 
 -- a node made now holds its labels' bindings

@@ -6,37 +6,43 @@ use mathlib.Core.List.{List, [], _∷_, _++_, append-assoc, append-nil}
 use mathlib.Core.Option.{Option, some, none}
 use borrow.Author.Tests.{eq-eqb, not-true}
 use lib.Dec.{eqb}
-use Rattle.paths_numbers.specs.Text.{same, isEmpty}
-use Rattle.paths_numbers.specs.Path.{root, join, atOrUnder}
+use Rattle.paths_numbers.specs.meaning.Text.{same, isEmpty}
+use Rattle.paths_numbers.specs.meaning.Path.{root, join, atOrUnder}
 use Rattle.paths_numbers.proofs.Texts.{by-test, not-both, both, cond-in}
 use Rattle.paths_numbers.proofs.Under.{under-refl}
-use Rattle.log.specs.Meaning.{Span, Def, DefValue, deletedNode, deletedProperty, property, Binding, Diag}
-use Rattle.queries.specs.Kind.{any}
-use Rattle.queries.specs.Live.{live}
+use Rattle.log.specs.meaning.Contents.{Span, Def, DefValue, deletedNode, deletedProperty, property, Binding, Diag}
+use Rattle.paths_numbers.specs.meaning.Lists.{any}
+use Rattle.queries.specs.meaning.Live.{live}
 use Rattle.queries.proofs.Gap.{isDirective, Gap}
-use Rattle.input.specs.Tree.{Tree, Trees, tree, empty, more, kindOf, textOf, wOf, spanOf, childrenOf, firstOf, has, nodeKind, propertyKind, directiveKind, preprocessorKind, nameKind, referenceKind}
-use Rattle.input.specs.Report.{Got, Made, report}
-use Rattle.input.specs.Name.{fullName, nodeNameSpan}
-use Rattle.input.specs.Property.{lowerValues}
-use Rattle.making.specs.State.{State, define, emit}
-use Rattle.items.specs.Unbind.{unbind}
-use Rattle.items.specs.Lower.{Place, at, Placed, placedAs, byName, byParts, placeOf, opened, lowerPlaced, lowerNode, namedProperty, lowerProperty, bare, deleteNode, deleteReferenced, deleteNamed, lowerDeleteNode, deletePropertyNamed, lowerDirective, lowerAs, lowerItem, lowerItems}
-use Rattle.two_runs.specs.TwoRuns.{plainName, quietDirective, quiet, quietIn, Names, Pair}
-use Rattle.input.specs.GoodName.{goodNames, goodNamesIn}
+use Rattle.input.specs.meaning.Tree.{Tree, Trees, tree, empty, more, kindOf, textOf, wOf, spanOf, childrenOf, firstOf, has, nodeKind}
+use Rattle.input.specs.meaning.Tree.{propertyKind, directiveKind, preprocessorKind, nameKind, referenceKind}
+use Rattle.input.specs.meaning.Report.{Got, Made, report}
+use Rattle.input.specs.meaning.Name.{fullName, nodeNameSpan}
+use Rattle.input.specs.meaning.Property.{lowerValues}
+use Rattle.making.specs.meaning.State.{State, define, emit}
+use Rattle.items.specs.meaning.Unbind.{unbind}
+use Rattle.items.specs.meaning.Lower.{Place, at, Placed, placedAs, byName, byParts, placeOf, opened, lowerPlaced, lowerNode, namedProperty}
+use Rattle.items.specs.meaning.Lower.{lowerProperty, bare, deleteNode, deleteReferenced, deleteNamed, lowerDeleteNode, deletePropertyNamed}
+use Rattle.items.specs.meaning.Lower.{lowerDirective, lowerAs, lowerItem, lowerItems}
+use Rattle.two_runs.specs.meaning.TwoRuns.{plainName, quietDirective, quiet, quietIn, Names, Pair}
+use Rattle.input.specs.meaning.GoodName.{goodNames, goodNamesIn}
 use Rattle.two_runs.proofs.Grown.{Grown, grown-none, grown-emit, grown-define, grown-opened, grown-delete, all-unbound}
 use Rattle.two_runs.proofs.Sim.{Sim, gap}
 use Rattle.input.proofs.GoodNames.{first-none, full-good, full-under, first-under, join-filled, good-parts, good-second}
 use Rattle.two_runs.proofs.PlainName.{plain-named, plain-unreferenced}
 
 -- a node with a plain name goes to its path under a parent that is a node's
-module _ (parent : List ℕ) (parts : Trees) (span : Span) (s : State) (inBody : isEmpty parent ≡ false) (good : goodNamesIn parts ≡ true) (plain : plainName parts ≡ true) where
-  placed : (name : List ℕ) → fullName parts .result ≡ some name → placeOf parent parts span s ≡ record { place = at (join parent name); reports = fullName parts .reports }
+module _ (parent : List ℕ) (parts : Trees) (span : Span) (s : State) (inBody : isEmpty parent ≡ false) (good : goodNamesIn parts ≡ true)
+    (plain : plainName parts ≡ true) where
+  placed : (name : List ℕ) → fullName parts .result ≡ some name
+      → placeOf parent parts span s ≡ record { place = at (join parent name); reports = fullName parts .reports }
   unfolding placeOf
   placed name e = rw (plain-unreferenced parts plain, e, full-good parts name good e, inBody) refl
 
   -- and there its definition is made and its body lowered
   pub node-is : (body : List ℕ → State → State) (name : List ℕ) → fullName parts .result ≡ some name
-      → lowerNode parent parts span body s ≡ body (join parent name) (opened (join parent name) parts span (emit (fullName parts .reports) s))
+      → lowerNode parent parts span body s ≡ body (join parent name)
+      (opened (join parent name) parts span (emit (fullName parts .reports) s))
   unfolding lowerNode
   node-is body name e = rw (placed name e) refl
 
@@ -46,38 +52,45 @@ Grows new s body = (p : List ℕ) → isEmpty p ≡ false → atOrUnder p new �
 
 module _ (new : List ℕ) (s : State) (free : any (λ (b : Binding). atOrUnder (b .path) new) (s .binds) ≡ false)
     (parent : List ℕ) (inBody : isEmpty parent ≡ false) (under : atOrUnder parent new ≡ true) (t : State) (g : Grown new s t) where
-  grow-node : (body : List ℕ → State → State) → Grows new s body → (parts : Trees) (span : Span) → goodNamesIn parts ≡ true → plainName parts ≡ true
+  grow-node : (body : List ℕ → State → State) → Grows new s body → (parts : Trees) (span : Span) → goodNamesIn parts ≡ true
+      → plainName parts ≡ true
       → Grown new s (lowerNode parent parts span body t)
   grow-node body h parts span good plain =
       let n = plain-named parts plain in
       let u = full-under new parent parts (n .0) good (n .1) under in
       rw (node-is parent parts span t inBody good plain body (n .0) (n .1))
-      (h (join parent (n .0)) (join-filled parent (n .0)) u _ (grown-opened (grown-emit g (fullName parts .reports)) (join parent (n .0)) u parts span))
+      (h (join parent (n .0)) (join-filled parent (n .0)) u _ (grown-opened (grown-emit g (fullName parts .reports)) (join parent (n .0)) u
+      parts span))
 
   grow-property : (parts values : Trees) (span : Span) → goodNamesIn parts ≡ true → Grown new s (lowerProperty parent parts values span t)
   unfolding lowerProperty
   grow-property parts values span good = rw inBody (go (fullName parts .result) refl)
     where
-      go : (o : Option (List ℕ)) → fullName parts .result ≡ o → Grown new s (namedProperty parent parts values span o (emit (lowerValues values .reports ++ fullName parts .reports) t))
+      go : (o : Option (List ℕ)) → fullName parts .result ≡ o → Grown new s
+          (namedProperty parent parts values span o (emit (lowerValues values .reports ++ fullName parts .reports) t))
       go (some name) e = grown-define (grown-emit g _) _ (full-under new parent parts name good e under) refl refl
       go none e = grown-emit g _
 
-  grow-delete : (parts : Trees) (span : Span) → goodNamesIn parts ≡ true → firstOf referenceKind parts ≡ none → Grown new s (lowerDeleteNode parent parts span t)
+  grow-delete : (parts : Trees) (span : Span) → goodNamesIn parts ≡ true → firstOf referenceKind parts ≡ none
+      → Grown new s (lowerDeleteNode parent parts span t)
   unfolding lowerDeleteNode
   grow-delete parts span good unreferenced = go (fullName parts .result) refl
     where
-      go : (o : Option (List ℕ)) → fullName parts .result ≡ o → Grown new s (deleteNamed parent parts span o (emit (fullName parts .reports) t))
+      go : (o : Option (List ℕ)) → fullName parts .result ≡ o → Grown new s
+          (deleteNamed parent parts span o (emit (fullName parts .reports) t))
       go (some name) e = grown-delete (grown-emit g _) free (join parent name) (full-under new parent parts name good e under) span
       go none e = rw unreferenced (grown-emit g _)
 
-  grow-delete-property : (parts : Trees) (span : Span) → goodNamesIn parts ≡ true → Grown new s (deletePropertyNamed parent span (firstOf nameKind parts) t)
+  grow-delete-property : (parts : Trees) (span : Span) → goodNamesIn parts ≡ true
+      → Grown new s (deletePropertyNamed parent span (firstOf nameKind parts) t)
   grow-delete-property parts span good = go (firstOf nameKind parts) refl
     where
       go : (o : Option Tree) → firstOf nameKind parts ≡ o → Grown new s (deletePropertyNamed parent span o t)
       go (some n) e = grown-define g _ (first-under new parent parts n good e under) refl refl
       go none e = g
 
-  grow-directive : (w : ℕ) (parts : Trees) (span : Span) → goodNamesIn parts ≡ true → quietDirective w parts ≡ true → Grown new s (lowerDirective w parent parts span t)
+  grow-directive : (w : ℕ) (parts : Trees) (span : Span) → goodNamesIn parts ≡ true → quietDirective w parts ≡ true
+      → Grown new s (lowerDirective w parent parts span t)
   unfolding lowerDirective quietDirective
   grow-directive w parts span good q =
       by-test (eqb w 1) (λ e. absurd (not-both {t = false} (rw e at q) refl))
@@ -114,15 +127,19 @@ module _ (new : List ℕ) (s : State) (free : any (λ (b : Binding). atOrUnder (
 mutual
   unfolding lowerItem lowerItems goodNamesIn quietIn
 
-  grow : (i : Tree) (new : List ℕ) (s : State) → any (λ (b : Binding). atOrUnder (b .path) new) (s .binds) ≡ false → goodNames i ≡ true → quiet i ≡ true
-      → (parent : List ℕ) → isEmpty parent ≡ false → atOrUnder parent new ≡ true → (t : State) → Grown new s t → Grown new s (lowerItem i parent t)
+  grow : (i : Tree) (new : List ℕ) (s : State) → any (λ (b : Binding). atOrUnder (b .path) new) (s .binds) ≡ false → goodNames i ≡ true
+      → quiet i ≡ true
+      → (parent : List ℕ) → isEmpty parent ≡ false → atOrUnder parent new ≡ true → (t : State) → Grown new s t
+      → Grown new s (lowerItem i parent t)
   grow (tree k text w span parts second) new s free good q parent inBody under t g =
       grow-as new s free k w span text parts second (λ p u. lowerItems second p u) good q
       (λ e qs p f u x y. grows second new s free (good-second k text w span parts second good) qs p f u x y)
       parent inBody under t g
 
-  grows : (is : Trees) (new : List ℕ) (s : State) → any (λ (b : Binding). atOrUnder (b .path) new) (s .binds) ≡ false → goodNamesIn is ≡ true → quietIn is ≡ true
-      → (parent : List ℕ) → isEmpty parent ≡ false → atOrUnder parent new ≡ true → (t : State) → Grown new s t → Grown new s (lowerItems is parent t)
+  grows : (is : Trees) (new : List ℕ) (s : State) → any (λ (b : Binding). atOrUnder (b .path) new) (s .binds) ≡ false
+      → goodNamesIn is ≡ true → quietIn is ≡ true
+      → (parent : List ℕ) → isEmpty parent ≡ false → atOrUnder parent new ≡ true → (t : State) → Grown new s t
+      → Grown new s (lowerItems is parent t)
   grows empty new s free good q parent inBody under t g = g
   grows (more i is) new s free good q parent inBody under t g =
       let a = both (goodNames i) (goodNamesIn is) good in
@@ -149,7 +166,8 @@ subnode-grows (tree k text w span parts second) new parent s e m inBody good q f
     (grown-opened (grown-emit (grown-none new s) (fullName parts .reports)) new (under-refl new) parts span))
 
 -- the two together leave a gap
-pair-gap : {new : List ℕ} {s t : State} → Grown new s t → live new (s .defs) ≡ [] → any (λ (x : Def). not (isDirective (x .value))) (s .defs) ≡ true
+pair-gap : {new : List ℕ} {s t : State} → Grown new s t → live new (s .defs) ≡ []
+    → any (λ (x : Def). not (isDirective (x .value))) (s .defs) ≡ true
     → (span : Span) → Gap new (s .defs) (t .defs ++ bare new deletedNode span ∷ [])
 pair-gap {new} {s} {t} g dead defined span =
     record {

@@ -5,11 +5,11 @@ use mathlib.Core.Bool.{true, false}
 use mathlib.Core.List.{List, _∷_, _++_}
 use mathlib.Core.Option.{Option, some, none}
 use borrow.Author.Tests.{not-true}
-use Rattle.paths_numbers.specs.Byte.{atSign}
+use Rattle.paths_numbers.specs.meaning.Byte.{atSign}
 use Rattle.paths_numbers.proofs.Texts.{by-test, not-both, both}
-use Rattle.input.specs.Tree.{Tree, Trees, textOf, childrenOf, firstOf, has, nameKind, unitAddressKind, referenceKind, slashKind}
-use Rattle.input.specs.Name.{nameOrMacro, addressed, fullName}
-use Rattle.two_runs.specs.TwoRuns.{addressNamed, plainName}
+use Rattle.input.specs.meaning.Tree.{Tree, Trees, textOf, childrenOf, firstOf, has, nameKind, unitAddressKind, referenceKind, slashKind}
+use Rattle.input.specs.meaning.Name.{nameOrMacro, addressed, fullName}
+use Rattle.two_runs.specs.meaning.TwoRuns.{addressNamed, plainName}
 use Rattle.input.proofs.GoodNames.{first-none, first-some}
 
 -- a plain name is a name, and no reference stands beside it
@@ -24,7 +24,8 @@ plain-named parts e =
     named : (ts : Trees) (n : Tree) → firstOf nameKind ts ≡ some n → nameOrMacro ts .result ≡ some (textOf n)
     named ts n q = rw q refl
 
-    go : (n : Tree) → firstOf nameKind parts ≡ some n → (o : Option Tree) → addressNamed o ≡ true → (name : List ℕ) × (addressed (nameOrMacro parts) o .result ≡ some name)
+    go : (n : Tree) → firstOf nameKind parts ≡ some n → (o : Option Tree) → addressNamed o ≡ true
+        → (name : List ℕ) × (addressed (nameOrMacro parts) o .result ≡ some name)
     go n q none a = (textOf n, named parts n q)
     go n q (some u) a =
         let m = first-some nameKind (childrenOf u) a in

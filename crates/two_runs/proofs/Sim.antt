@@ -1,27 +1,31 @@
--- Two runs that differ in a gap of the log in hand, or only in row 7's counts, stay so: lowering asks the log for nothing but live lists and
--- whether it is an overlay.
+-- Two runs that differ in a gap of the log in hand, or only in row 7's counts, stay so: lowering asks the log for nothing but live lists
+-- and whether it is an overlay.
 use Prim.Native.Nat.{ℕ}
 use mathlib.Core.Path.{_≡_, refl, sym, ap, _∙_}
 use mathlib.Core.Bool.{Bool, true, false, cond}
 use mathlib.Core.List.{List, [], _∷_, _++_}
 use mathlib.Core.Option.{Option, some, none}
 use lib.Dec.{eqb}
-use Rattle.paths_numbers.specs.Text.{isEmpty}
-use Rattle.paths_numbers.specs.Path.{root, join}
-use Rattle.paths_numbers.specs.Reference.{Target, label, labelPath, path, unreadable}
-use Rattle.log.specs.Meaning.{Span, Def, DefValue, deletedNode, deletedProperty, version, plugin, Ext, Binding, Diag}
-use Rattle.queries.specs.Kind.{setsOverlay}
-use Rattle.queries.specs.Live.{live, containsNode}
+use Rattle.paths_numbers.specs.meaning.Text.{isEmpty}
+use Rattle.paths_numbers.specs.meaning.Path.{root, join}
+use Rattle.paths_numbers.specs.meaning.Reference.{Target, label, labelPath, path, unreadable}
+use Rattle.log.specs.meaning.Contents.{Span, Def, DefValue, deletedNode, deletedProperty, version, plugin, Ext, Binding, Diag}
+use Rattle.queries.specs.meaning.Kind.{setsOverlay}
+use Rattle.queries.specs.meaning.Live.{live, containsNode}
 use Rattle.queries.proofs.Gap.{Gap, gap-live, gap-overlay, gap-contains, gap-more}
-use Rattle.input.specs.Tree.{Tree, Trees, tree, empty, more, textOf, spanOf, firstOf, has, nodeKind, propertyKind, directiveKind, preprocessorKind, nameKind, referenceKind}
-use Rattle.input.specs.Report.{Got, Made, report}
-use Rattle.input.specs.Name.{fullName, nodeNameSpan, labelsOf}
-use Rattle.input.specs.Phandle.{lowerPhandle}
-use Rattle.post_checks.specs.Resolve.{firstBinding, Resolution, reaches, missing, liveAt, belowLabel, resolve, unresolved}
-use Rattle.input.specs.Property.{lowerValues}
-use Rattle.making.specs.State.{State, define, bind, emit, apart, dropped, extended}
-use Rattle.items.specs.Unbind.{without, unbind}
-use Rattle.items.specs.Lower.{Place, at, aside, discarded, nowhere, Placed, byResolution, byTarget, byName, byParts, placeOf, nodeDef, opened, settled, lowerPlaced, lowerNode, namedProperty, lowerProperty, bare, deleteNode, deleteResolved, deleteTarget, deleteReferenced, deleteNamed, lowerDeleteNode, deletePropertyNamed, lowerDirective, lowerAs, lowerItem, lowerItems}
+use Rattle.input.specs.meaning.Tree.{Tree, Trees, tree, empty, more, textOf, spanOf, firstOf, has, nodeKind, propertyKind, directiveKind}
+use Rattle.input.specs.meaning.Tree.{preprocessorKind, nameKind, referenceKind}
+use Rattle.input.specs.meaning.Report.{Got, Made, report}
+use Rattle.input.specs.meaning.Name.{fullName, nodeNameSpan, labelsOf}
+use Rattle.input.specs.meaning.Phandle.{lowerPhandle}
+use Rattle.resolving.specs.meaning.Resolve.{firstBinding, Resolution, reaches, missing, liveAt, belowLabel, resolve, unresolved}
+use Rattle.input.specs.meaning.Property.{lowerValues}
+use Rattle.making.specs.meaning.State.{State, define, bind, emit, apart, dropped, extended}
+use Rattle.items.specs.meaning.Unbind.{without, unbind}
+use Rattle.items.specs.meaning.Lower.{Place, at, aside, discarded, nowhere, Placed, byResolution, byTarget, byName, byParts, placeOf}
+use Rattle.items.specs.meaning.Lower.{nodeDef, opened, settled, lowerPlaced, lowerNode, namedProperty, lowerProperty, bare, deleteNode}
+use Rattle.items.specs.meaning.Lower.{deleteResolved, deleteTarget, deleteReferenced, deleteNamed, lowerDeleteNode, deletePropertyNamed}
+use Rattle.items.specs.meaning.Lower.{lowerDirective, lowerAs, lowerItem, lowerItems}
 
 -- two logs: the same, or with a gap
 pub data Like (new : List ℕ) : Bool → List Def → List Def → Type 0 where
@@ -73,7 +77,8 @@ module _ {new : List ℕ} {t : Bool} {a b : State} (s : Sim new t a b) where
       record {
         logs = s .logs;
         exts = s .exts;
-        binds = ap (λ (l : List Def). without l (a .binds)) (like-live (s .logs) p) ∙ ap (λ (l : List Binding). without (live p (b .defs)) l) (s .binds);
+        binds = ap (λ (l : List Def). without l (a .binds)) (like-live (s .logs) p)
+            ∙ ap (λ (l : List Binding). without (live p (b .defs)) l) (s .binds);
         diags = s .diags;
       }
 
@@ -87,7 +92,8 @@ module _ {new : List ℕ} {t : Bool} {a b : State} (s : Sim new t a b) where
   sim-dropped r = record { logs = s .logs; exts = s .exts; binds = r .binds; diags = r .diags }
 
   sim-extended : {u v : State} (target : Target) (span nameSpan : Span) → Sim new false u v
-      → Sim new t (extended (record { target = target; body = u .defs; span = span; nameSpan = nameSpan }) a u) (extended (record { target = target; body = v .defs; span = span; nameSpan = nameSpan }) b v)
+      → Sim new t (extended (record { target = target; body = u .defs; span = span; nameSpan = nameSpan }) a u)
+      (extended (record { target = target; body = v .defs; span = span; nameSpan = nameSpan }) b v)
   unfolding extended
   sim-extended {u} {v} target span nameSpan r =
       record {
@@ -123,7 +129,8 @@ module _ {new : List ℕ} {t : Bool} {a b : State} (s : Sim new t a b) where
   same-target r ds (some x) = rw (same-resolve x) (same-resolution r x (resolve x (b .binds) (b .defs)))
   same-target r ds none = refl
 
-  same-parts : (parent : List ℕ) (parts : Trees) (span : Span) (o : Option Tree) → byParts parent parts span a o ≡ byParts parent parts span b o
+  same-parts : (parent : List ℕ) (parts : Trees) (span : Span) (o : Option Tree)
+      → byParts parent parts span a o ≡ byParts parent parts span b o
   same-parts parent parts span (some r) = same-target r (lowerPhandle r .reports) (lowerPhandle r .result)
   same-parts parent parts span none = refl
 
@@ -150,7 +157,8 @@ sim-opened s p parts span =
 
 module _ {new : List ℕ} {t : Bool} {a b : State} (s : Sim new t a b) where
   -- a body with a log of its own, kept or not
-  sim-settled : {u v : State} (x : Target) (refSpan span : Span) → Sim new false u v → Sim new t (settled x refSpan span a u) (settled x refSpan span b v)
+  sim-settled : {u v : State} (x : Target) (refSpan span : Span) → Sim new false u v
+      → Sim new t (settled x refSpan span a u) (settled x refSpan span b v)
   sim-settled x refSpan span r =
       rw (like-overlay (s .logs)) (sim-cond (setsOverlay (b .defs)) (sim-extended s x span refSpan r) (sim-dropped s r))
 
@@ -171,7 +179,8 @@ module _ {new : List ℕ} {t : Bool} {a b : State} (s : Sim new t a b) where
   sim-delete-resolved r span (reaches p) = sim-delete p span
   sim-delete-resolved r span (missing code text) = rw (same-unresolved s r code text) (sim-emit s (unresolved r code text (b .defs)))
 
-  sim-delete-target : (r : Tree) (span : Span) (ds : List Diag) (o : Option Target) → Sim new t (deleteTarget r span ds o a) (deleteTarget r span ds o b)
+  sim-delete-target : (r : Tree) (span : Span) (ds : List Diag) (o : Option Target)
+      → Sim new t (deleteTarget r span ds o a) (deleteTarget r span ds o b)
   sim-delete-target r span ds (some x) = rw (same-resolve s x) (sim-delete-resolved r span (resolve x (b .binds) (b .defs)))
   sim-delete-target r span ds none = sim-emit s ds
 
@@ -179,16 +188,19 @@ module _ {new : List ℕ} {t : Bool} {a b : State} (s : Sim new t a b) where
   sim-delete-referenced span (some r) = sim-delete-target r span (lowerPhandle r .reports) (lowerPhandle r .result)
   sim-delete-referenced span none = s
 
-  sim-delete-named : (parent : List ℕ) (parts : Trees) (span : Span) (o : Option (List ℕ)) → Sim new t (deleteNamed parent parts span o a) (deleteNamed parent parts span o b)
+  sim-delete-named : (parent : List ℕ) (parts : Trees) (span : Span) (o : Option (List ℕ))
+      → Sim new t (deleteNamed parent parts span o a) (deleteNamed parent parts span o b)
   sim-delete-named parent parts span (some name) = sim-delete (join parent name) span
   sim-delete-named parent parts span none = sim-delete-referenced span (firstOf referenceKind parts)
 
-  sim-delete-property : (parent : List ℕ) (span : Span) (o : Option Tree) → Sim new t (deletePropertyNamed parent span o a) (deletePropertyNamed parent span o b)
+  sim-delete-property : (parent : List ℕ) (span : Span) (o : Option Tree)
+      → Sim new t (deletePropertyNamed parent span o a) (deletePropertyNamed parent span o b)
   sim-delete-property parent span (some n) = sim-define s _
   sim-delete-property parent span none = s
 
   -- a property
-  sim-named : (parent : List ℕ) (parts values : Trees) (span : Span) (o : Option (List ℕ)) → Sim new t (namedProperty parent parts values span o a) (namedProperty parent parts values span o b)
+  sim-named : (parent : List ℕ) (parts values : Trees) (span : Span) (o : Option (List ℕ))
+      → Sim new t (namedProperty parent parts values span o a) (namedProperty parent parts values span o b)
   sim-named parent parts values span (some name) = sim-define s _
   sim-named parent parts values span none = s
 
@@ -200,13 +212,15 @@ module _ {new : List ℕ} {t : Bool} {a b : State} (s : Sim new t a b) where
       rw (same-place s parent parts span)
       (sim-placed (sim-emit s (placeOf parent parts span b .reports)) body k (placeOf parent parts span b .place) parts span)
 
-  sim-property : (parent : List ℕ) (parts values : Trees) (span : Span) → Sim new t (lowerProperty parent parts values span a) (lowerProperty parent parts values span b)
+  sim-property : (parent : List ℕ) (parts values : Trees) (span : Span)
+      → Sim new t (lowerProperty parent parts values span a) (lowerProperty parent parts values span b)
   unfolding lowerProperty
   sim-property parent parts values span =
       sim-cond (isEmpty parent) (sim-emit s (report 7 [] span ∷ []))
       (sim-named (sim-emit s (lowerValues values .reports ++ fullName parts .reports)) parent parts values span (fullName parts .result))
 
-  sim-directive : (w : ℕ) (parent : List ℕ) (parts : Trees) (span : Span) → Sim new t (lowerDirective w parent parts span a) (lowerDirective w parent parts span b)
+  sim-directive : (w : ℕ) (parent : List ℕ) (parts : Trees) (span : Span)
+      → Sim new t (lowerDirective w parent parts span a) (lowerDirective w parent parts span b)
   unfolding lowerDirective lowerDeleteNode
   sim-directive w parent parts span =
       sim-cond (eqb w 1) (sim-define s (bare parent version span))
@@ -229,10 +243,12 @@ module _ {new : List ℕ} {t : Bool} {a b : State} (s : Sim new t a b) where
 mutual
   unfolding lowerItem lowerItems
 
-  pub keep : (i : Tree) (new parent : List ℕ) (t : Bool) (a b : State) → Sim new t a b → Sim new t (lowerItem i parent a) (lowerItem i parent b)
+  pub keep : (i : Tree) (new parent : List ℕ) (t : Bool) (a b : State) → Sim new t a b
+      → Sim new t (lowerItem i parent a) (lowerItem i parent b)
   keep (tree k text w span parts second) new parent t a b s =
       sim-as s k w span parts second (λ p u. lowerItems second p u) (λ p t' x y r. keeps second new p t' x y r) parent
 
-  pub keeps : (is : Trees) (new parent : List ℕ) (t : Bool) (a b : State) → Sim new t a b → Sim new t (lowerItems is parent a) (lowerItems is parent b)
+  pub keeps : (is : Trees) (new parent : List ℕ) (t : Bool) (a b : State) → Sim new t a b
+      → Sim new t (lowerItems is parent a) (lowerItems is parent b)
   keeps empty new parent t a b s = s
   keeps (more i is) new parent t a b s = keeps is new parent t _ _ (keep i new parent t a b s)

@@ -1,30 +1,36 @@
--- The two-run theorem over trees and states: a new subnode and its deletion, anywhere in a body that enters the main log, leave all that is read alike.
+-- The two-run theorem over trees and states: a new subnode and its deletion, anywhere in a body that enters the main log, leave all that is
+-- read alike.
 use Prim.Native.Nat.{ℕ}
 use mathlib.Core.Path.{_≡_, refl, sym, ap, _∙_}
 use mathlib.Core.Bool.{Bool, true, false, not, cond}
 use mathlib.Core.List.{List, [], _∷_, _++_}
-use Rattle.paths_numbers.specs.Text.{isEmpty}
-use Rattle.paths_numbers.specs.Path.{join}
-use Rattle.paths_numbers.specs.Reference.{Target}
+use Rattle.paths_numbers.specs.meaning.Text.{isEmpty}
+use Rattle.paths_numbers.specs.meaning.Path.{join}
+use Rattle.paths_numbers.specs.meaning.Reference.{Target}
 use Rattle.paths_numbers.proofs.Texts.{by-test, not-both, both}
-use Rattle.log.specs.Meaning.{Span, Cell, number, reference, Value, string, cellList, bytestring, phandle, DefValue, node, property, deletedNode, deletedProperty, version, plugin, Def, Diag}
-use Rattle.queries.specs.Kind.{any, setsOverlay}
-use Rattle.queries.specs.Live.{live}
+use Rattle.log.specs.meaning.Contents.{Span, Cell, number, reference, Value, string, cellList, bytestring, phandle, DefValue, node}
+use Rattle.log.specs.meaning.Contents.{property, deletedNode, deletedProperty, version, plugin, Def, Diag}
+use Rattle.queries.specs.meaning.Kind.{setsOverlay}
+use Rattle.paths_numbers.specs.meaning.Lists.{any}
+use Rattle.queries.specs.meaning.Live.{live}
 use Rattle.queries.proofs.Gap.{Gap, gap-within, gap-live, gap-overlay, gap-history}
-use Rattle.input.specs.Tree.{Tree, Trees, tree, empty, more, nodeKind}
-use Rattle.making.specs.State.{State, start, emit}
-use Rattle.items.specs.Lower.{Place, at, Placed, placeOf, opened, lowerPlaced, lowerNode, lowerItem, lowerItems, lowered}
-use Rattle.post_checks.specs.Post.{atFirst, duplicateLabels, referenceReport, checkTarget, checkCell, checkCells, checkValue, checkValues, checkDef, checkDefs, checkReferences, directivesFrom, checkDirectives, postChecks}
-use Rattle.two_runs.specs.TwoRuns.{Pair, Inserted, here, after, within, Alike, TwoRuns}
-use Rattle.input.specs.GoodName.{goodNames, goodNamesIn}
+use Rattle.input.specs.meaning.Tree.{Tree, Trees, tree, empty, more, nodeKind}
+use Rattle.making.specs.meaning.State.{State, start, emit}
+use Rattle.items.specs.meaning.Lower.{Place, at, Placed, placeOf, opened, lowerPlaced, lowerNode, lowerItem, lowerItems, lowered}
+use Rattle.post_checks.specs.meaning.Post.{atFirst, duplicateLabels, referenceReport, checkTarget, checkCell, checkCells, checkValue}
+use Rattle.post_checks.specs.meaning.Post.{checkValues, checkDef, checkDefs, checkReferences, directivesFrom, checkDirectives, postChecks}
+use Rattle.two_runs.specs.meaning.TwoRuns.{Pair, Inserted, here, after, within, Alike, TwoRuns}
+use Rattle.input.specs.meaning.GoodName.{goodNames, goodNamesIn}
 use Rattle.two_runs.proofs.Sim.{Sim, Like, equal, gap, same-resolve, keeps}
 use Rattle.input.proofs.GoodNames.{good-second}
 use Rattle.two_runs.proofs.Pair.{pair-sim}
 use Rattle.two_runs.proofs.Defined.{Defined, still, opened-defined, directives-same}
 
 -- a node that is placed at a path, as a whole
-node-at : (parent : List ℕ) (s : State) (text : List ℕ) (w : ℕ) (span : Span) (parts body : Trees) (p : List ℕ) → placeOf parent parts span s .place ≡ at p
-    → lowerItem (tree nodeKind text w span parts body) parent s ≡ lowerItems body p (opened p parts span (emit (placeOf parent parts span s .reports) s))
+node-at : (parent : List ℕ) (s : State) (text : List ℕ) (w : ℕ) (span : Span) (parts body : Trees) (p : List ℕ)
+    → placeOf parent parts span s .place ≡ at p
+    → lowerItem (tree nodeKind text w span parts body) parent s ≡ lowerItems body p
+    (opened p parts span (emit (placeOf parent parts span s .reports) s))
 unfolding lowerItem lowerNode
 node-at parent s text w span parts body p e = rw e refl
 
@@ -83,7 +89,8 @@ module _ {new : List ℕ} {t : Bool} {a b : State} (s : Sim new t a b) where
 module _ {new : List ℕ} {a b : State} (s : Sim new true a b) (g : Gap new (a .defs) (b .defs)) where
   same-references : checkReferences a ≡ checkReferences b
   unfolding checkReferences
-  same-references = rw (gap-overlay g, gap-live g []) (ap (λ (l : List Diag). cond (setsOverlay (b .defs)) [] l) (same-defs s (live [] (b .defs))))
+  same-references = rw (gap-overlay g, gap-live g []) (ap (λ (l : List Diag). cond (setsOverlay (b .defs)) [] l)
+      (same-defs s (live [] (b .defs))))
 
   same-directives : checkDirectives (a .defs) ≡ checkDirectives (b .defs)
   unfolding checkDirectives

@@ -6,72 +6,46 @@ use mathlib.Core.List.{List, [], _∷_, _++_, map}
 use mathlib.Core.Option.{Option, some, none}
 use native.Mathlib.Omega.{arith}
 use Rattle.paths_numbers.proofs.Texts.{by-test}
-use Rattle.paths_numbers.specs.Text.{same}
-use Rattle.paths_numbers.specs.Path.{atOrUnder}
-use Rattle.log.specs.Meaning.{Def, Ext, Binding, Diag}
-use Rattle.log.specs.Record.{firstDef, firstExt, firstBind, firstDiag, firstPost}
-use Rattle.log.specs.ReadBack.{Log, chainOf, defAt, extAt, bindingAt, diagAt, readLog, readDefs, readExts, readBindings, readDiags}
-use Rattle.log.specs.Sound.{Place, definitions}
-use Rattle.log.specs.Written.{Written}
-use Rattle.log.specs.Alike.{AlikeWords, AlikeAll, AlikeDef, AlikeExt}
+use Rattle.paths_numbers.specs.meaning.Text.{same}
+use Rattle.paths_numbers.specs.meaning.Path.{atOrUnder}
+use Rattle.log.specs.meaning.Contents.{Def, Ext, Binding, Diag}
+use Rattle.log.specs.meaning.Record.{firstDef, firstExt, firstBind, firstDiag, firstPost}
+use Rattle.log.specs.meaning.ReadBack.{Log, chainOf, defAt, extAt, bindingAt, diagAt, readLog, readDefs, readExts, readBindings, readDiags}
+use Rattle.log.specs.meaning.Sound.{Place, definitions}
+use Rattle.log.specs.meaning.Written.{Written}
+use Rattle.log.specs.meaning.Alike.{AlikeWords, AlikeAll, AlikeDef, AlikeExt}
 use Rattle.log.proofs.Reached.{defs, exts, binds, diags, post}
 use Rattle.log.proofs.Places.{head-stands}
 use Rattle.log.proofs.Chains.{head-starts, chain-list}
-use Rattle.log.proofs.Pinned.{AllStand, no-record, one-record, chain-stands, zip, def-alike, binding-alike, diag-alike, ext-alike, head-alike}
-use Rattle.queries.specs.Live.{live, isLive, deletes}
-use Rattle.queries.specs.History.{historyFrom, history, definedBy}
-use Rattle.queries.specs.Query.{Answered, liveNumbers, historyNumbers, mainChain, liveAnswers, historyAnswers}
-use Rattle.making.specs.State.{State, start}
-use Rattle.items.specs.Lower.{lowered}
-use Rattle.post_checks.specs.Post.{postChecks}
-use Rattle.input.specs.Input.{description}
-use Rattle.input.specs.Rows.{Verdict, accepted, refused, orElse, verdict, wrongSize, rowTwo, rowThree, rowFour, rowFive, rowSix}
-use Rattle.lowering.specs.Lowered.{logOf, recordsMade, bytesMade, meaning, Lowered, turnedDown, short, done}
-use Rattle.two_runs.specs.TwoRuns.{Inserted, Alike, TwoRuns}
-use Rattle.two_runs.specs.WholeRuns.{Run, AcceptedRun, AlikeRuns, WholeRuns}
+use Rattle.log.proofs.Pinned.{AllStand, no-record, one-record, chain-stands, zip, def-alike, binding-alike, diag-alike, ext-alike}
+use Rattle.log.proofs.Pinned.{head-alike}
+use Rattle.queries.specs.meaning.Live.{live, isLive, deletes}
+use Rattle.queries.specs.meaning.History.{historyFrom, history, definedBy}
+use Rattle.queries.specs.meaning.Query.{liveNumbers, historyNumbers, mainChain, liveAnswers, historyAnswers}
+use Rattle.log.specs.meaning.Answer.{Answered}
+use Rattle.making.specs.meaning.State.{State, start}
+use Rattle.items.specs.meaning.Lower.{lowered}
+use Rattle.post_checks.specs.meaning.Post.{postChecks}
+use Rattle.input.specs.meaning.Input.{description}
+use Rattle.input.specs.meaning.Rows.{Verdict, accepted, refused, orElse, verdict, wrongSize, rowTwo, rowThree, rowFour, rowFive, rowSix}
+use Rattle.lowering.specs.meaning.Lowered.{logOf, recordsMade, bytesMade, meaning, Lowered, turnedDown, short, done}
+use Rattle.two_runs.specs.meaning.TwoRuns.{Inserted, Alike, TwoRuns}
+use Rattle.two_runs.specs.meaning.WholeRuns.{Run, AcceptedRun, AlikeRuns, WholeRuns}
 use Rattle.input.proofs.Rows.{accepted-names}
+use Rattle.input.proofs.Refusals.{refusal-number}
 use Rattle.two_runs.proofs.TwoRuns.{two-runs}
-
--- no refusal has the number 0
-data Told : Verdict → Type 0 where
-  told-accepted : Told accepted
-  told-refused : {n r : ℕ} → 1 ≤ n → Told (refused n r)
-
-told-or : (n : ℕ) → 1 ≤ n → (o : Option ℕ) {v : Verdict} → Told v → Told (orElse n o v)
-told-or n p (some r) t = told-refused p
-told-or n p none t = t
-
-told-cond : (q : Bool) {v u : Verdict} → Told v → Told u → Told (cond q v u)
-told-cond true x y = x
-told-cond false x y = y
-
-told : (words text : List ℕ) → Told (verdict words text)
-unfolding verdict
-told words text =
-    told-cond (wrongSize words text) (told-refused (omega arith))
-    (told-or 2 (omega arith) (rowTwo words)
-    (told-or 3 (omega arith) (rowThree words text)
-    (told-or 4 (omega arith) (rowFour words)
-    (told-or 5 (omega arith) (rowFive words text)
-    (told-or 6 (omega arith) (rowSix words) told-accepted)))))
 
 -- an accepted run's input is accepted, and what its description lowers to is written
 record Wrote (r : Run) : Type 0 where
   verdictIs : verdict (r .words) (r .text) ≡ accepted
-  log : Written (r .out) (r .bytes) (recordsMade (meaning (r .words) (r .text))) (bytesMade (meaning (r .words) (r .text))) (logOf (meaning (r .words) (r .text)))
-
-refused-number : {v : Verdict} {n r : ℕ} → Told v → v ≡ refused n r → n ≡ 0 → ⊥
-refused-number told-accepted e z = let q : _≡_ {A = ℕ} 0 1 = cc in omega arith
-refused-number {n = n} (told-refused {n = m} p) e z = let q : m ≡ n = cc in omega arith
-
-pub refusal-number : (words text : List ℕ) {n r : ℕ} → verdict words text ≡ refused n r → n ≡ 0 → ⊥
-refusal-number words text v z = refused-number (told words text) v z
+  log : Written (r .out) (r .bytes) (recordsMade (meaning (r .words) (r .text))) (bytesMade (meaning (r .words) (r .text)))
+      (logOf (meaning (r .words) (r .text)))
 
 wrote : (r : Run) → AcceptedRun r → Wrote r
 wrote r a = go (a .lowered)
   where
     go : Lowered (r .words) (r .text) (r .outBefore) (r .bytesBefore) (r .answer) (r .out) (r .bytes) → Wrote r
-    go (turnedDown v e o b) = absurd (refused-number (told (r .words) (r .text)) v (sym (ap (λ (x : Answered). x .number) e) ∙ a .accepted))
+    go (turnedDown v e o b) = absurd (refusal-number (r .words) (r .text) v (sym (ap (λ (x : Answered). x .number) e) ∙ a .accepted))
     go (short v f e o b) = let q : _≡_ {A = ℕ} 7 0 = sym (ap (λ (x : Answered). x .number) e) ∙ a .accepted in absurd (omega arith)
     go (done v f e o b w) = record { verdictIs = v; log = w }
 
@@ -90,12 +64,14 @@ live-stand def base no-record = no-record
 live-stand def base (one-record {r} {rs} i h) =
     all-both (live-stand def base h) (all-cond (isLive base (def r) (map def rs)) (one-record i no-record) no-record)
 
-history-stand : {w : List ℕ} {p : Place} (def : ℕ → Def) (path : List ℕ) {l : List ℕ} → AllStand w p l → (defined : Bool) → AllStand w p (historyNumbers def defined path l)
+history-stand : {w : List ℕ} {p : Place} (def : ℕ → Def) (path : List ℕ) {l : List ℕ} → AllStand w p l → (defined : Bool)
+    → AllStand w p (historyNumbers def defined path l)
 unfolding historyNumbers
 history-stand def path no-record defined = no-record
 history-stand def path (one-record {r} i h) defined =
     all-cond (same (def r .path) path) (one-record i (history-stand def path h (definedBy (def r) defined)))
-    (all-cond (cond defined (deletes path (def r)) false) (one-record i (history-stand def path h false)) (history-stand def path h defined))
+    (all-cond (cond defined (deletes path (def r)) false) (one-record i (history-stand def path h false))
+    (history-stand def path h defined))
 
 -- and name the live definitions and the history
 map-both : {A : Type 0} (f : ℕ → A) (x y : List ℕ) → map f (x ++ y) ≡ map f x ++ map f y
@@ -112,15 +88,23 @@ live-named def base [] = refl
 live-named def base (r ∷ l) =
     map-both def (liveNumbers def base l) _ ∙ rw (live-named def base l, map-cond def (isLive base (def r) (map def l)) (r ∷ []) []) refl
 
-history-named : (def : ℕ → Def) (path l : List ℕ) (defined : Bool) → map def (historyNumbers def defined path l) ≡ historyFrom defined path (map def l)
+history-named : (def : ℕ → Def) (path l : List ℕ) (defined : Bool)
+    → map def (historyNumbers def defined path l) ≡ historyFrom defined path (map def l)
 unfolding historyNumbers historyFrom
 history-named def path [] defined = refl
 history-named def path (r ∷ l) defined =
     map-cond def (same (def r .path) path) _ _
-    ∙ rw (map-cond def (cond defined (deletes path (def r)) false) (r ∷ historyNumbers def false path l) (historyNumbers def defined path l), history-named def path l (definedBy (def r) defined), history-named def path l false, history-named def path l defined) refl
+    ∙ rw (
+      map-cond def (cond defined (deletes path (def r)) false) (r ∷ historyNumbers def false path l)
+          (historyNumbers def defined path l),
+      history-named def path l (definedBy (def r) defined),
+      history-named def path l false,
+      history-named def path l defined,
+    ) refl
 
 -- what both runs read back, for two runs of which the second has the two items more
-module _ (new : List ℕ) (a b : Run) (ra : AcceptedRun a) (rb : AcceptedRun b) (i : Inserted new [] start (description (a .words) (a .text)) (description (b .words) (b .text))) where
+module _ (new : List ℕ) (a b : Run) (ra : AcceptedRun a) (rb : AcceptedRun b)
+    (i : Inserted new [] start (description (a .words) (a .text)) (description (b .words) (b .text))) where
   wa : Wrote a
   wa = wrote a ra
 
@@ -129,7 +113,8 @@ module _ (new : List ℕ) (a b : Run) (ra : AcceptedRun a) (rb : AcceptedRun b) 
 
   same-states : Alike new (meaning (a .words) (a .text)) (meaning (b .words) (b .text))
   unfolding TwoRuns
-  same-states = two-runs new (description (a .words) (a .text)) (description (b .words) (b .text)) (accepted-names (b .words) (b .text) (wb .verdictIs)) i
+  same-states = two-runs new (description (a .words) (a .text)) (description (b .words) (b .text))
+      (accepted-names (b .words) (b .text) (wb .verdictIs)) i
 
   -- the definitions of the main chain
   reads-a : map (defAt (a .out) (a .bytes)) (chainOf (a .out) (firstDef (a .out))) ≡ meaning (a .words) (a .text) .defs
@@ -143,45 +128,67 @@ module _ (new : List ℕ) (a b : Run) (ra : AcceptedRun a) (rb : AcceptedRun b) 
   main-a : AllStand (a .out) definitions (chainOf (a .out) (firstDef (a .out)))
   main-a =
       let ok = wa .log .rules in
-      chain-stands (a .out) (a .bytes) ok definitions (chain-list (a .out) (a .bytes) ok (firstDef (a .out)) (head-starts (a .out) (a .bytes) ok defs)) (head-stands (a .out) (a .bytes) ok defs)
+      chain-stands (a .out) (a .bytes) ok definitions (chain-list (a .out) (a .bytes) ok (firstDef (a .out))
+      (head-starts (a .out) (a .bytes) ok defs)) (head-stands (a .out) (a .bytes) ok defs)
 
   main-b : AllStand (b .out) definitions (chainOf (b .out) (firstDef (b .out)))
   main-b =
       let ok = wb .log .rules in
-      chain-stands (b .out) (b .bytes) ok definitions (chain-list (b .out) (b .bytes) ok (firstDef (b .out)) (head-starts (b .out) (b .bytes) ok defs)) (head-stands (b .out) (b .bytes) ok defs)
+      chain-stands (b .out) (b .bytes) ok definitions (chain-list (b .out) (b .bytes) ok (firstDef (b .out))
+      (head-starts (b .out) (b .bytes) ok defs)) (head-stands (b .out) (b .bytes) ok defs)
 
-  alike-defs : (rs ss : List ℕ) → AllStand (a .out) definitions rs → AllStand (b .out) definitions ss → map (defAt (a .out) (a .bytes)) rs ≡ map (defAt (b .out) (b .bytes)) ss
+  alike-defs : (rs ss : List ℕ) → AllStand (a .out) definitions rs → AllStand (b .out) definitions ss
+      → map (defAt (a .out) (a .bytes)) rs ≡ map (defAt (b .out) (b .bytes)) ss
       → AlikeAll (AlikeDef (a .out) (a .bytes) (b .out) (b .bytes)) rs ss
   alike-defs rs ss h k e =
-      zip (defAt (a .out) (a .bytes)) (defAt (b .out) (b .bytes)) (AlikeDef (a .out) (a .bytes) (b .out) (b .bytes)) h k (def-alike (wa .log) (wb .log) (ra .words32) (rb .words32)) e
+      zip (defAt (a .out) (a .bytes)) (defAt (b .out) (b .bytes)) (AlikeDef (a .out) (a .bytes) (b .out) (b .bytes)) h k
+      (def-alike (wa .log) (wb .log) (ra .words32) (rb .words32)) e
 
-  lives-same : (base : List ℕ) → map (defAt (a .out) (a .bytes)) (liveAnswers (a .out) (a .bytes) base) ≡ map (defAt (b .out) (b .bytes)) (liveAnswers (b .out) (b .bytes) base)
+  lives-same : (base : List ℕ) → map (defAt (a .out) (a .bytes)) (liveAnswers (a .out) (a .bytes) base) ≡ map (defAt (b .out) (b .bytes))
+      (liveAnswers (b .out) (b .bytes) base)
   unfolding liveAnswers
   lives-same base =
-      rw (live-named (defAt (a .out) (a .bytes)) base (mainChain (a .out)), live-named (defAt (b .out) (b .bytes)) base (mainChain (b .out)), reads-a, reads-b)
+      rw (
+        live-named (defAt (a .out) (a .bytes)) base (mainChain (a .out)),
+        live-named (defAt (b .out) (b .bytes)) base
+            (mainChain (b .out)),
+        reads-a,
+        reads-b,
+      )
       (same-states .lives base)
 
   histories-same : (path : List ℕ) → atOrUnder path new ≡ false
-      → map (defAt (a .out) (a .bytes)) (historyAnswers (a .out) (a .bytes) path) ≡ map (defAt (b .out) (b .bytes)) (historyAnswers (b .out) (b .bytes) path)
+      → map (defAt (a .out) (a .bytes)) (historyAnswers (a .out) (a .bytes) path) ≡ map (defAt (b .out) (b .bytes))
+      (historyAnswers (b .out) (b .bytes) path)
   unfolding historyAnswers history
   histories-same path out =
-      rw (history-named (defAt (a .out) (a .bytes)) path (mainChain (a .out)) false, history-named (defAt (b .out) (b .bytes)) path (mainChain (b .out)) false, reads-a, reads-b)
+      rw (
+        history-named (defAt (a .out) (a .bytes)) path (mainChain (a .out)) false,
+        history-named (defAt (b .out) (b .bytes)) path
+            (mainChain (b .out)) false,
+        reads-a,
+        reads-b,
+      )
       (same-states .histories path out)
 
   -- the other chains
-  binds-same : map (bindingAt (a .out) (a .bytes)) (chainOf (a .out) (firstBind (a .out))) ≡ map (bindingAt (b .out) (b .bytes)) (chainOf (b .out) (firstBind (b .out)))
+  binds-same : map (bindingAt (a .out) (a .bytes)) (chainOf (a .out) (firstBind (a .out))) ≡ map (bindingAt (b .out) (b .bytes))
+      (chainOf (b .out) (firstBind (b .out)))
   unfolding readLog readBindings logOf
   binds-same = ap (λ (l : Log). l .binds) (wa .log .reads) ∙ same-states .bindings ∙ sym (ap (λ (l : Log). l .binds) (wb .log .reads))
 
-  exts-same : map (extAt (a .out) (a .bytes)) (chainOf (a .out) (firstExt (a .out))) ≡ map (extAt (b .out) (b .bytes)) (chainOf (b .out) (firstExt (b .out)))
+  exts-same : map (extAt (a .out) (a .bytes)) (chainOf (a .out) (firstExt (a .out))) ≡ map (extAt (b .out) (b .bytes))
+      (chainOf (b .out) (firstExt (b .out)))
   unfolding readLog readExts logOf
   exts-same = ap (λ (l : Log). l .exts) (wa .log .reads) ∙ same-states .extensions ∙ sym (ap (λ (l : Log). l .exts) (wb .log .reads))
 
-  diags-same : map (diagAt (a .out) (a .bytes)) (chainOf (a .out) (firstDiag (a .out))) ≡ map (diagAt (b .out) (b .bytes)) (chainOf (b .out) (firstDiag (b .out)))
+  diags-same : map (diagAt (a .out) (a .bytes)) (chainOf (a .out) (firstDiag (a .out))) ≡ map (diagAt (b .out) (b .bytes))
+      (chainOf (b .out) (firstDiag (b .out)))
   unfolding readLog readDiags logOf
   diags-same = ap (λ (l : Log). l .diags) (wa .log .reads) ∙ same-states .diagnostics ∙ sym (ap (λ (l : Log). l .diags) (wb .log .reads))
 
-  post-same : map (diagAt (a .out) (a .bytes)) (chainOf (a .out) (firstPost (a .out))) ≡ map (diagAt (b .out) (b .bytes)) (chainOf (b .out) (firstPost (b .out)))
+  post-same : map (diagAt (a .out) (a .bytes)) (chainOf (a .out) (firstPost (a .out))) ≡ map (diagAt (b .out) (b .bytes))
+      (chainOf (b .out) (firstPost (b .out)))
   unfolding readLog readDiags logOf
   post-same = ap (λ (l : Log). l .post) (wa .log .reads) ∙ same-states .checks ∙ sym (ap (λ (l : Log). l .post) (wb .log .reads))
 
@@ -202,7 +209,8 @@ module _ (new : List ℕ) (a b : Run) (ra : AcceptedRun a) (rb : AcceptedRun b) 
         checks = head-alike x y u v _ _ _ post post (diag-alike x y u v) post-same;
         histories = λ path out.
             alike-defs (historyAnswers (a .out) (a .bytes) path) (historyAnswers (b .out) (b .bytes) path)
-            (history-stand (defAt (a .out) (a .bytes)) path main-a false) (history-stand (defAt (b .out) (b .bytes)) path main-b false) (histories-same path out);
+            (history-stand (defAt (a .out) (a .bytes)) path main-a false) (history-stand (defAt (b .out) (b .bytes)) path main-b false)
+            (histories-same path out);
       }
 
 pub whole-runs : WholeRuns

@@ -1,7 +1,7 @@
 -- Cut short, of too many records, or read (Sizes: printed-short, printed-many, printed-read).
 use mathlib.Core.Path.{refl, ap, _∙_}
 use native.Mathlib.Omega.{arith}
-use Rattle.listing.specs.Page.{filled}
+use Rattle.listing.specs.machine.Page.{filled}
 use Rattle.listing.proofs.Sizes.{printed-short, printed-many, printed-read}
 use borrow.Author.Needs.{needs}
 use Rattle.listing.proofs.list_input.Statement.{statement}
@@ -37,7 +37,8 @@ same-length-2 c = search needs
 
 returns-2 : tie.Need-returns-2
 returns-2 c = let a = c .before .before .before .before .before .before .before .before .before .args in
-    c .before .before .list-refusal2 .ensures ∙ ap (filled (a .page .now)) (printed-short (a .input .now) (omega (arith, c .before .before .before .before .before .word-at .ensures)))
+    c .before .before .list-refusal2 .ensures ∙ ap (filled (a .page .now))
+    (printed-short (a .input .now) (omega (arith, c .before .before .before .before .before .word-at .ensures)))
 
 list-refusal-requires-3 : tie.Need-list-refusal-requires-3
 list-refusal-requires-3 c κs = search needs
@@ -47,7 +48,9 @@ same-length-3 c = search needs
 
 returns-3 : tie.Need-returns-3
 returns-3 c = let a = c .before .before .before .before .before .before .before .before .before .before .args in
-    c .before .before .list-refusal3 .ensures ∙ ap (filled (a .page .now)) (printed-many (a .input .now) (omega (arith, c .before .before .before .before .before .before .word-at .ensures)) (omega (arith, c .before .before .before .before .before .before .word-at .ensures)))
+    c .before .before .list-refusal3 .ensures ∙ ap (filled (a .page .now))
+    (printed-many (a .input .now) (omega (arith, c .before .before .before .before .before .before .word-at .ensures))
+    (omega (arith, c .before .before .before .before .before .before .word-at .ensures)))
 
 sub-list-records : tie.Need-sub-list-records
 sub-list-records c = search needs
@@ -81,7 +84,9 @@ same-length-4 c = search needs
 
 returns-4 : tie.Need-returns-4
 returns-4 c = let a = c .before .before .before .before .before .before .before .before .before .before .before .before .args in
-    c .before .before .list-records .ensures ∙ ap (filled (a .page .now)) (printed-read (a .input .now) _ _ (c .before .before .before .before .before .before .before .before .word-at .ensures) refl (omega arith))
+    c .before .before .list-records .ensures ∙ ap (filled (a .page .now))
+    (printed-read (a .input .now) _ _ (c .before .before .before .before .before .before .before .before .word-at .ensures) refl
+    (omega arith))
 
 pub list-input-spec : {M : Type 1} → statement M
 list-input-spec =

@@ -1,6 +1,6 @@
 -- What lowering answered and left is listed as its input is (Answers: answer-listed).
 use mathlib.Core.Path.{ap, _∙_}
-use Rattle.listing.specs.Page.{filled}
+use Rattle.listing.specs.machine.Page.{filled}
 use Rattle.listing.proofs.Answers.{answer-listed}
 use borrow.Author.Needs.{needs}
 use Rattle.listing.proofs.list_lowered.Statement.{statement}
@@ -22,8 +22,11 @@ same-length-3 : tie.Need-same-length-3
 same-length-3 c = search needs
 
 returns : tie.Need-returns
-returns c = let a = c .before .before .before .before .before .before .before .before .before .before .before .before .before .before .before .before .before .before in
-    c .before .before .list-answer .ensures ∙ ap (filled (a .args .page .now)) (answer-listed (c .before .before .before .before .before .before .before .before .before .before .lower .ensures .0) (a .pre .0) (a .pre .1))
+returns c = let a = c .before .before .before .before .before .before .before .before .before .before .before .before .before .before
+    .before .before .before .before in
+    c .before .before .list-answer .ensures ∙ ap (filled (a .args .page .now))
+    (answer-listed (c .before .before .before .before .before .before .before .before .before .before .lower .ensures .0) (a .pre .0)
+    (a .pre .1))
 
 pub list-lowered-spec : {M : Type 1} → statement M
 list-lowered-spec =

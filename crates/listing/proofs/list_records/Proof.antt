@@ -3,8 +3,8 @@ use mathlib.Core.Path.{sym, ap, _∙_}
 use mathlib.Core.List.{List}
 use Prim.Native.Nat.{ℕ}
 use lib.ListN.{length}
-use Rattle.listing.specs.Page.{filled}
-use Rattle.listing.specs.Program.{listed}
+use Rattle.listing.specs.machine.Page.{filled}
+use Rattle.listing.specs.meaning.Program.{listed}
 use Rattle.listing.proofs.InputWords.{words-length, words-read}
 use borrow.Author.Needs.{needs}
 use Rattle.listing.proofs.list_records.Statement.{statement}
@@ -21,7 +21,8 @@ array-share-prefix-words c = search needs
 
 slice-aggregate-list-words : tie.Need-slice-aggregate-list-words
 slice-aggregate-list-words c = let a = c .before .before .before .before .before .before .before .args in
-    sym (ap length (words-read _ (a .records .now) _ (a .n) (c .before .before .read-words .ensures)) ∙ words-length (a .n) (a .records .now))
+    sym (ap length (words-read _ (a .records .now) _ (a .n) (c .before .before .read-words .ensures))
+    ∙ words-length (a .n) (a .records .now))
 
 list-words-requires : tie.Need-list-words-requires
 list-words-requires c κs = search needs
@@ -31,7 +32,8 @@ same-length c = search needs
 
 returns : tie.Need-returns
 returns c = let a = c .before .before .before .before .before .before .before .before .before .before .before .args in
-    c .before .before .list-words .ensures ∙ ap (λ (w : List ℕ). filled (a .page .now) (listed w (a .text .now))) (words-read _ (a .records .now) _ (a .n) (c .before .before .before .before .before .before .read-words .ensures))
+    c .before .before .list-words .ensures ∙ ap (λ (w : List ℕ). filled (a .page .now) (listed w (a .text .now)))
+    (words-read _ (a .records .now) _ (a .n) (c .before .before .before .before .before .before .read-words .ensures))
 
 pub list-records-spec : {M : Type 1} → statement M
 list-records-spec =

@@ -2,7 +2,7 @@
 use mathlib.Core.Path.{sym}
 use native.Mathlib.Omega.{arith}
 use lib.Seq.{length-take-le}
-use Rattle.listing.specs.Program.{printed}
+use Rattle.listing.specs.meaning.Program.{printed}
 use Rattle.listing.proofs.Pages.{filled-whole}
 use Rattle.listing.proofs.Enough.{printed-most}
 use borrow.Author.Needs.{needs}
@@ -17,7 +17,8 @@ same-length c = search needs
 
 returns : tie.Need-returns
 returns c = let a = c .before .before .before .before .before .before .args in
-    let w = filled-whole (a .page .now) (printed (a .input .now)) _ _ (c .before .before .list-input .ensures) (omega (arith, printed-most (a .input .now))) in
+    let w = filled-whole (a .page .now) (printed (a .input .now)) _ _ (c .before .before .list-input .ensures)
+    (omega (arith, printed-most (a .input .now))) in
     ((w .0, sym (length-take-le _ _ (w .0))), w .1)
 
 pub list-whole-spec : {M : Type 1} → statement M

@@ -1,6 +1,6 @@
 -- `pn_bytestring_len`: what `bytestring_len` ensures, told.
 use mathlib.Core.Path.{ap, _∙_}
-use Rattle.paths_numbers_c.specs.Told.{countTold}
+use Rattle.paths_numbers_c.specs.meaning.Told.{countTold}
 use borrow.Author.Needs.{needs}
 use Rattle.paths_numbers_c.proofs.pn_bytestring_len.Statement.{statement}
 use Rattle.paths_numbers_c.proofs.pn_bytestring_len.Tie as tie

@@ -1,6 +1,6 @@
 -- `pn_good_path`: the truth that `good_path` ensures, told.
 use mathlib.Core.Path.{ap, _∙_}
-use Rattle.paths_numbers_c.specs.Told.{truth}
+use Rattle.paths_numbers_c.specs.meaning.Told.{truth}
 use borrow.Author.Needs.{needs}
 use Rattle.paths_numbers_c.proofs.pn_good_path.Statement.{statement}
 use Rattle.paths_numbers_c.proofs.pn_good_path.Tie as tie

@@ -1,7 +1,7 @@
 -- `pn_infix`: what `eval_infix` ensures of the values that are read, told.
 use mathlib.Core.Path.{ap, _∙_}
 use Rattle.paths_numbers.proofs.Integers.{read}
-use Rattle.paths_numbers_c.specs.Told.{evalTold}
+use Rattle.paths_numbers_c.specs.meaning.Told.{evalTold}
 use borrow.Author.Needs.{needs}
 use Rattle.paths_numbers_c.proofs.pn_infix.Statement.{statement}
 use Rattle.paths_numbers_c.proofs.pn_infix.Tie as tie

@@ -1,6 +1,6 @@
 -- `pn_lies_under_path`: the truth that `lies_under_path` ensures, told.
 use mathlib.Core.Path.{ap, _∙_}
-use Rattle.paths_numbers_c.specs.Told.{truth}
+use Rattle.paths_numbers_c.specs.meaning.Told.{truth}
 use borrow.Author.Needs.{needs}
 use Rattle.paths_numbers_c.proofs.pn_lies_under_path.Statement.{statement}
 use Rattle.paths_numbers_c.proofs.pn_lies_under_path.Tie as tie

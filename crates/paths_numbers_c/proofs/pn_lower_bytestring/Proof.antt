@@ -1,6 +1,6 @@
 -- `pn_lower_bytestring`: what `lower_bytestring` ensures, its answer told.
 use mathlib.Core.Path.{ap, _∙_}
-use Rattle.paths_numbers_c.specs.Told.{writtenTold}
+use Rattle.paths_numbers_c.specs.meaning.Told.{writtenTold}
 use borrow.Author.Needs.{needs}
 use Rattle.paths_numbers_c.proofs.pn_lower_bytestring.Statement.{statement}
 use Rattle.paths_numbers_c.proofs.pn_lower_bytestring.Tie as tie
@@ -15,8 +15,10 @@ same-length : tie.Need-same-length
 same-length c = search needs
 
 returns : tie.Need-returns
-returns c =
-    (c .told-written .ensures ∙ ap writtenTold (c .before .before .before .lower-bytestring .ensures .0), c .before .before .before .lower-bytestring .ensures .1)
+returns c = (
+  c .told-written .ensures ∙ ap writtenTold (c .before .before .before .lower-bytestring .ensures .0),
+  c .before .before .before .lower-bytestring .ensures .1,
+)
 
 pub pn-lower-bytestring-spec : {M : Type 1} → statement M
 pn-lower-bytestring-spec =

@@ -1,6 +1,6 @@
 -- `pn_parse_i64`: what `parse_int_tok_i64` ensures, told.
 use mathlib.Core.Path.{ap, _∙_}
-use Rattle.paths_numbers_c.specs.Told.{i64Told}
+use Rattle.paths_numbers_c.specs.meaning.Told.{i64Told}
 use borrow.Author.Needs.{needs}
 use Rattle.paths_numbers_c.proofs.pn_parse_i64.Statement.{statement}
 use Rattle.paths_numbers_c.proofs.pn_parse_i64.Tie as tie

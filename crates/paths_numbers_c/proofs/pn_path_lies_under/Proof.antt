@@ -1,6 +1,6 @@
 -- `pn_path_lies_under`: the truth that `path_lies_under` ensures, told.
 use mathlib.Core.Path.{ap, _∙_}
-use Rattle.paths_numbers_c.specs.Told.{truth}
+use Rattle.paths_numbers_c.specs.meaning.Told.{truth}
 use borrow.Author.Needs.{needs}
 use Rattle.paths_numbers_c.proofs.pn_path_lies_under.Statement.{statement}
 use Rattle.paths_numbers_c.proofs.pn_path_lies_under.Tie as tie

@@ -1,7 +1,7 @@
 -- `pn_prefix`: what `eval_prefix` ensures of the value that is read, told.
 use mathlib.Core.Path.{ap, _∙_}
 use Rattle.paths_numbers.proofs.Integers.{read}
-use Rattle.paths_numbers_c.specs.Told.{evalTold}
+use Rattle.paths_numbers_c.specs.meaning.Told.{evalTold}
 use borrow.Author.Needs.{needs}
 use Rattle.paths_numbers_c.proofs.pn_prefix.Statement.{statement}
 use Rattle.paths_numbers_c.proofs.pn_prefix.Tie as tie

@@ -1,6 +1,6 @@
 -- `pn_reference`: the kind, told, and the parts that the callees ensure.
 use mathlib.Core.Path.{ap, _∙_}
-use Rattle.paths_numbers.specs.Reference.{targetNumber}
+use Rattle.paths_numbers.specs.meaning.Reference.{targetNumber}
 use borrow.Author.Needs.{needs}
 use Rattle.paths_numbers_c.proofs.pn_reference.Statement.{statement}
 use Rattle.paths_numbers_c.proofs.pn_reference.Tie as tie

@@ -1,6 +1,6 @@
 -- `pn_width`: what `from_token` ensures, told.
 use mathlib.Core.Path.{ap, _∙_}
-use Rattle.paths_numbers_c.specs.Told.{widthTold}
+use Rattle.paths_numbers_c.specs.meaning.Told.{widthTold}
 use borrow.Author.Needs.{needs}
 use Rattle.paths_numbers_c.proofs.pn_width.Statement.{statement}
 use Rattle.paths_numbers_c.proofs.pn_width.Tie as tie

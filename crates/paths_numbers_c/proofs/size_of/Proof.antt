@@ -1,7 +1,7 @@
 -- `size_of`: the number of bits, compared with 8, 16, 32 and 64.
 use mathlib.Core.Path.{sym, ap}
 use Rattle.paths_numbers.proofs.Cells.{width-none}
-use Rattle.paths_numbers_c.specs.Told.{widthOf}
+use Rattle.paths_numbers_c.specs.meaning.Told.{widthOf}
 use Rattle.paths_numbers_c.proofs.size_of.Statement.{statement}
 use Rattle.paths_numbers_c.proofs.size_of.Tie as tie
 

@@ -1,6 +1,6 @@
 -- `told_built`: by the cases of what is told.
 use mathlib.Core.Path.{sym, ap}
-use Rattle.paths_numbers_c.specs.Told.{builtTold}
+use Rattle.paths_numbers_c.specs.meaning.Told.{builtTold}
 use borrow.Author.Needs.{needs}
 use Rattle.paths_numbers_c.proofs.told_built.Statement.{statement}
 use Rattle.paths_numbers_c.proofs.told_built.Tie as tie

@@ -1,6 +1,6 @@
 -- `told_cell`: by the cases of what is told.
 use mathlib.Core.Path.{sym, ap}
-use Rattle.paths_numbers_c.specs.Told.{cellTold}
+use Rattle.paths_numbers_c.specs.meaning.Told.{cellTold}
 use borrow.Author.Needs.{needs}
 use Rattle.paths_numbers_c.proofs.told_cell.Statement.{statement}
 use Rattle.paths_numbers_c.proofs.told_cell.Tie as tie

@@ -1,6 +1,6 @@
 -- `told_count`: by the cases of what is told.
 use mathlib.Core.Path.{sym, ap}
-use Rattle.paths_numbers_c.specs.Told.{countTold}
+use Rattle.paths_numbers_c.specs.meaning.Told.{countTold}
 use borrow.Author.Needs.{needs}
 use Rattle.paths_numbers_c.proofs.told_count.Statement.{statement}
 use Rattle.paths_numbers_c.proofs.told_count.Tie as tie

@@ -1,7 +1,7 @@
 -- `told_eval`: by the cases of what is told.
 use mathlib.Core.Path.{sym, ap, _∙_}
 use Rattle.paths_numbers.proofs.Integers.{read}
-use Rattle.paths_numbers_c.specs.Told.{integer, evalTold}
+use Rattle.paths_numbers_c.specs.meaning.Told.{integer, evalTold}
 use borrow.Author.Needs.{needs}
 use Rattle.paths_numbers_c.proofs.told_eval.Statement.{statement}
 use Rattle.paths_numbers_c.proofs.told_eval.Tie as tie

@@ -1,7 +1,7 @@
 -- `told_i64`: by the cases of what is told, and the code that `told_error` ensures.
 use mathlib.Core.Path.{sym, ap, _∙_}
 use Rattle.paths_numbers.proofs.Integers.{read}
-use Rattle.paths_numbers_c.specs.Told.{integer, noInteger, i64Told}
+use Rattle.paths_numbers_c.specs.meaning.Told.{integer, noInteger, i64Told}
 use borrow.Author.Needs.{needs}
 use Rattle.paths_numbers_c.proofs.told_i64.Statement.{statement}
 use Rattle.paths_numbers_c.proofs.told_i64.Tie as tie

@@ -1,6 +1,6 @@
 -- `told_int`: by the cases of what is told, and the code that `told_error` ensures.
 use mathlib.Core.Path.{sym, ap, _∙_}
-use Rattle.paths_numbers_c.specs.Told.{noNumber, intTold}
+use Rattle.paths_numbers_c.specs.meaning.Told.{noNumber, intTold}
 use borrow.Author.Needs.{needs}
 use Rattle.paths_numbers_c.proofs.told_int.Statement.{statement}
 use Rattle.paths_numbers_c.proofs.told_int.Tie as tie

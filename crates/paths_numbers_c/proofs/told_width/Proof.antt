@@ -1,6 +1,6 @@
 -- `told_width`: by the cases of what is told, the bits and the code that the callees ensure.
 use mathlib.Core.Path.{sym, ap, _∙_}
-use Rattle.paths_numbers_c.specs.Told.{number, noNumber, atWidth, widthTold}
+use Rattle.paths_numbers_c.specs.meaning.Told.{number, noNumber, atWidth, widthTold}
 use borrow.Author.Needs.{needs}
 use Rattle.paths_numbers_c.proofs.told_width.Statement.{statement}
 use Rattle.paths_numbers_c.proofs.told_width.Tie as tie

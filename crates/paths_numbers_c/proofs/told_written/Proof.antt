@@ -1,6 +1,6 @@
 -- `told_written`: by the cases of what is told.
 use mathlib.Core.Path.{sym, ap}
-use Rattle.paths_numbers_c.specs.Told.{writtenTold}
+use Rattle.paths_numbers_c.specs.meaning.Told.{writtenTold}
 use borrow.Author.Needs.{needs}
 use Rattle.paths_numbers_c.proofs.told_written.Statement.{statement}
 use Rattle.paths_numbers_c.proofs.told_written.Tie as tie

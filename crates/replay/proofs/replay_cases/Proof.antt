@@ -5,7 +5,8 @@ use Rattle.replay.proofs.replay_cases.Statement.{statement}
 use Rattle.replay.proofs.replay_cases.Tie as tie
 
 abbrev Inv-loop : tie.InvT-loop
-Inv-loop sample input₀ out₀ bytes₀ list₀ t₀ left₀ t9 input out bytes list t left = (length input ≡ length input₀) × (length out ≡ length out₀) × (length bytes ≡ length bytes₀) × (length list ≡ length list₀)
+Inv-loop sample input₀ out₀ bytes₀ list₀ t₀ left₀ t9 input out bytes list t left = (length input ≡ length input₀)
+    × (length out ≡ length out₀) × (length bytes ≡ length bytes₀) × (length list ≡ length list₀)
 
 abbrev μ-loop : tie.MeasureT-loop
 μ-loop sample input₀ out₀ bytes₀ list₀ t₀ left₀ t9 input out bytes list t left = left

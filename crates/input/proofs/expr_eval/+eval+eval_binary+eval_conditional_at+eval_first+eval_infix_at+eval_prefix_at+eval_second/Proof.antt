@@ -1,14 +1,17 @@
--- An expression and what it is made of call each other as the level runs out: each answers what its definition makes of its operands (Evaluation).
-use Rattle.input.specs.Expr.{value, eval as evalOf}
+-- An expression and what it is made of call each other as the nesting runs out: each answers what its definition makes of its operands
+-- (Evaluation).
+use Rattle.input.specs.meaning.Expr.{value, eval as evalOf}
 use mathlib.Core.Path.{refl, sym, ap, _∙_}
 use native.Mathlib.Omega.{arith}
 use Rattle.paths_numbers.proofs.Integers.{read}
 use Rattle.paths_numbers.proofs.Casts.{signed-is}
 use Rattle.paths_numbers.proofs.Relations.{read-truth}
-use Rattle.input.specs.Input.{childAt, numberAt, spanAt, chainAt, recordAt}
-use Rattle.input.specs.Expr.{evals}
-use Rattle.input.proofs.Read.{before-some, chain-first, chain-after, some-level, children-in}
-use Rattle.input.proofs.Evaluation.{prefix-missing, prefix-first, infix-missing, infix-short, conditional-short, decided, undecided, no-first, first-is, eval-kind, eval-macro, eval-other, binary-fails, binary-value, conditional-fails, conditional-value}
+use Rattle.input.specs.meaning.Input.{childAt, numberAt, spanAt, chainAt, recordAt}
+use Rattle.input.specs.meaning.Expr.{evals}
+use Rattle.input.proofs.Read.{before-some, chain-first, chain-after, some-nesting, children-in}
+use Rattle.input.proofs.Evaluation.{prefix-missing, prefix-first, infix-missing, infix-short, conditional-short, decided, undecided}
+use Rattle.input.proofs.Evaluation.{no-first, first-is, eval-kind, eval-macro, eval-other, binary-fails, binary-value}
+use Rattle.input.proofs.Evaluation.{conditional-fails, conditional-value}
 use borrow.Author.Needs.{needs}
 use Prim.Native.Nat.{ℕ, _+_, _*_, _<_}
 use borrow.Fn.Kinds.{In}
@@ -148,7 +151,26 @@ eval-second-below t =
     and 2 eval-second-kinds.ps (falls 2 eval-second-kinds.ps _<_ μ-eval-second t) eval-second.Pre
 
 abbrev eval-claims : ℕ → eval-lts.Claims
-eval-claims t = (kind-at-reads.Asked, kind-at-reads.Learnt, text-at-reads.Asked, text-at-reads.Learnt, parse-int-tok-i64-reads.Asked, parse-int-tok-i64-reads.Learnt, literal-of-reads.Asked, literal-of-reads.Learnt, number-at-reads.Asked, number-at-reads.Learnt, eval-prefix-at-below t, eval-prefix-at.Post, child-at-reads.Asked, child-at-reads.Learnt, eval-first-below t, eval-first.Post, eval-infix-at-below t, eval-infix-at.Post)
+eval-claims t = (
+  kind-at-reads.Asked,
+  kind-at-reads.Learnt,
+  text-at-reads.Asked,
+  text-at-reads.Learnt,
+  parse-int-tok-i64-reads.Asked,
+  parse-int-tok-i64-reads.Learnt,
+  literal-of-reads.Asked,
+  literal-of-reads.Learnt,
+  number-at-reads.Asked,
+  number-at-reads.Learnt,
+  eval-prefix-at-below t,
+  eval-prefix-at.Post,
+  child-at-reads.Asked,
+  child-at-reads.Learnt,
+  eval-first-below t,
+  eval-first.Post,
+  eval-infix-at-below t,
+  eval-infix-at.Post,
+)
 
 abbrev eval-binary-claims : ℕ → eval-binary-lts.Claims
 eval-binary-claims t = (after-reads.Asked, after-reads.Learnt, eval-below t, eval.Post, eval-second-below t, eval-second.Post)
@@ -160,13 +182,40 @@ abbrev eval-first-claims : ℕ → eval-first-lts.Claims
 eval-first-claims t = (eval-below t, eval.Post)
 
 abbrev eval-infix-at-claims : ℕ → eval-infix-at-lts.Claims
-eval-infix-at-claims t = (number-at-reads.Asked, number-at-reads.Learnt, child-at-reads.Asked, child-at-reads.Learnt, eval-conditional-at-below t, eval-conditional-at.Post, eval-binary-below t, eval-binary.Post)
+eval-infix-at-claims t = (
+  number-at-reads.Asked,
+  number-at-reads.Learnt,
+  child-at-reads.Asked,
+  child-at-reads.Learnt,
+  eval-conditional-at-below t,
+  eval-conditional-at.Post,
+  eval-binary-below t,
+  eval-binary.Post,
+)
 
 abbrev eval-prefix-at-claims : ℕ → eval-prefix-at-lts.Claims
-eval-prefix-at-claims t = (number-at-reads.Asked, number-at-reads.Learnt, child-at-reads.Asked, child-at-reads.Learnt, eval-first-below t, eval-first.Post, prefix-of-reads.Asked, prefix-of-reads.Learnt)
+eval-prefix-at-claims t = (
+  number-at-reads.Asked,
+  number-at-reads.Learnt,
+  child-at-reads.Asked,
+  child-at-reads.Learnt,
+  eval-first-below t,
+  eval-first.Post,
+  prefix-of-reads.Asked,
+  prefix-of-reads.Learnt,
+)
 
 abbrev eval-second-claims : ℕ → eval-second-lts.Claims
-eval-second-claims t = (first-decides-reads.Asked, first-decides-reads.Learnt, is-true-reads.Asked, is-true-reads.Learnt, eval-below t, eval.Post, infix-of-reads.Asked, infix-of-reads.Learnt)
+eval-second-claims t = (
+  first-decides-reads.Asked,
+  first-decides-reads.Learnt,
+  is-true-reads.Asked,
+  is-true-reads.Learnt,
+  eval-below t,
+  eval.Post,
+  infix-of-reads.Asked,
+  infix-of-reads.Learnt,
+)
 
 eval-returns : (t : ℕ) → eval-lts.Need-returns (eval-claims t) (eval-at t) eval.Post
 eval-returns t c =
@@ -174,8 +223,8 @@ eval-returns t c =
     let words = s .args .words .now in
     let text = s .args .text .now in
     let linked = s .pre .1 .0 in
-    let level = s .args .level in
-    absurd (omega (arith, some-level words text linked (s .args .r) level (s .pre .1 .1)))
+    let nesting = s .args .nesting in
+    absurd (omega (arith, some-nesting words text linked (s .args .r) nesting (s .pre .1 .1)))
 
 eval-kind-at-requires : (t : ℕ) → eval-lts.Need-kind-at-requires (eval-claims t) (eval-at t) eval.Post
 eval-kind-at-requires t c κs = search needs
@@ -204,8 +253,8 @@ eval-eval-prefix-at-requires t c κs =
     let words = s .args .words .now in
     let text = s .args .text .now in
     let linked = s .pre .1 .0 in
-    let level = s .args .level in
-    (omega arith, (linked, children-in words text linked (s .args .r) level (s .pre .1 .1)))
+    let nesting = s .args .nesting in
+    (omega arith, (linked, children-in words text linked (s .args .r) nesting (s .pre .1 .1)))
 
 eval-child-at-requires : (t : ℕ) → eval-lts.Need-child-at-requires (eval-claims t) (eval-at t) eval.Post
 eval-child-at-requires t c κs = search needs
@@ -219,8 +268,8 @@ eval-eval-first-requires t c κs =
     let words = s .args .words .now in
     let text = s .args .text .now in
     let linked = s .pre .1 .0 in
-    let level = s .args .level in
-    (omega arith, (linked, rw (c .child-at .ensures) (children-in words text linked (s .args .r) level (s .pre .1 .1))))
+    let nesting = s .args .nesting in
+    (omega arith, (linked, rw (c .child-at .ensures) (children-in words text linked (s .args .r) nesting (s .pre .1 .1))))
 
 eval-sub-eval-infix-at : (t : ℕ) → eval-lts.Need-sub-eval-infix-at (eval-claims t) (eval-at t) eval.Post
 eval-sub-eval-infix-at t c = search needs
@@ -231,8 +280,8 @@ eval-eval-infix-at-requires t c κs =
     let words = s .args .words .now in
     let text = s .args .text .now in
     let linked = s .pre .1 .0 in
-    let level = s .args .level in
-    (omega arith, (linked, children-in words text linked (s .args .r) level (s .pre .1 .1)))
+    let nesting = s .args .nesting in
+    (omega arith, (linked, children-in words text linked (s .args .r) nesting (s .pre .1 .1)))
 
 eval-returns-2 : (t : ℕ) → eval-lts.Need-returns-2 (eval-claims t) (eval-at t) eval.Post
 eval-returns-2 t c =
@@ -248,7 +297,8 @@ eval-returns-3 t c =
     let text = s .args .text .now in
     c .literal-of .ensures words text
     ∙ rw (c .before .parse-int-tok-i64 .ensures, c .before .before .text-at .ensures)
-    (eval-kind words text (s .args .r) 15 (sym (c .before .before .before .before .kind-at .ensures) ∙ c .before .before .before .match .keys2))
+    (eval-kind words text (s .args .r) 15 (sym (c .before .before .before .before .kind-at .ensures)
+    ∙ c .before .before .before .match .keys2))
 
 eval-returns-4 : (t : ℕ) → eval-lts.Need-returns-4 (eval-claims t) (eval-at t) eval.Post
 eval-returns-4 t c =
@@ -271,7 +321,8 @@ eval-returns-6 t c =
     let s = c .before .before .before .before .before .before .before in
     let words = s .args .words .now in
     let text = s .args .text .now in
-    c .eval-first .ensures ∙ rw (c .before .child-at .ensures) (eval-kind words text (s .args .r) 19 (sym (c .before .before .before .kind-at .ensures) ∙ c .before .before .match .keys5))
+    c .eval-first .ensures ∙ rw (c .before .child-at .ensures) (eval-kind words text (s .args .r) 19
+    (sym (c .before .before .before .kind-at .ensures) ∙ c .before .before .match .keys5))
 
 eval-returns-7 : (t : ℕ) → eval-lts.Need-returns-7 (eval-claims t) (eval-at t) eval.Post
 eval-returns-7 t c =
@@ -287,7 +338,8 @@ eval-returns-8 t c =
     let text = s .args .text .now in
     let k = c .before .kind-at .ensures in
     let r = c .match .rest in
-    eval-other words text (s .args .r) (λ e. r .0 .0 .0 .0 .0 .1 (k ∙ e)) (λ e. r .0 .0 .0 .0 .1 (k ∙ e)) (λ e. r .0 .0 .0 .1 (k ∙ e)) (λ e. r .0 .0 .1 (k ∙ e)) (λ e. r .0 .1 (k ∙ e)) (λ e. r .1 (k ∙ e))
+    eval-other words text (s .args .r) (λ e. r .0 .0 .0 .0 .0 .1 (k ∙ e)) (λ e. r .0 .0 .0 .0 .1 (k ∙ e)) (λ e. r .0 .0 .0 .1 (k ∙ e))
+    (λ e. r .0 .0 .1 (k ∙ e)) (λ e. r .0 .1 (k ∙ e)) (λ e. r .1 (k ∙ e))
 
 eval-binary-after-requires : (t : ℕ) → eval-binary-lts.Need-after-requires (eval-binary-claims t) (eval-binary-at t) eval-binary.Post
 eval-binary-after-requires t c κs = search needs
@@ -298,7 +350,8 @@ eval-binary-returns t c =
     let words = s .args .words .now in
     let text = s .args .text .now in
     let linked = s .pre .1 .0 in
-    infix-short words text linked (s .args .op) (spanAt words (s .args .r)) (s .args .x) _ (c .before .after .ensures) (s .pre .1 .1 .0 .at) (c .if1 .taken)
+    infix-short words text linked (s .args .op) (spanAt words (s .args .r)) (s .args .x) _ (c .before .after .ensures) (s .pre .1 .1 .0 .at)
+    (c .if1 .taken)
 
 eval-binary-eval-requires : (t : ℕ) → eval-binary-lts.Need-eval-requires (eval-binary-claims t) (eval-binary-at t) eval-binary.Post
 eval-binary-eval-requires t c κs =
@@ -306,8 +359,14 @@ eval-binary-eval-requires t c κs =
     let words = s .args .words .now in
     let text = s .args .text .now in
     let linked = s .pre .1 .0 in
-    let level = s .args .level in
-    (omega arith, (linked, chain-first words text linked (s .args .x) level (s .pre .1 .1 .0) (before-some words text (s .args .x) _ (c .before .after .ensures) (c .if1 .left))))
+    let nesting = s .args .nesting in (
+      omega arith,
+      (
+        linked,
+        chain-first words text linked (s .args .x) nesting (s .pre .1 .1 .0)
+            (before-some words text (s .args .x) _ (c .before .after .ensures) (c .if1 .left)),
+      ),
+    )
 
 eval-binary-enum-known-e : (t : ℕ) → eval-binary-lts.Need-enum-known-e (eval-binary-claims t) (eval-binary-at t) eval-binary.Post
 eval-binary-enum-known-e t c = search needs
@@ -318,18 +377,28 @@ eval-binary-returns-2 t c =
     let words = s .args .words .now in
     let text = s .args .text .now in
     let linked = s .pre .1 .0 in
-    let level = s .args .level in
-    binary-fails words text linked (spanAt words (s .args .r)) level (s .args .x) (s .pre .1 .1 .0) (c .before .eval .result) (c .before .eval .ensures) _ (c .before .before .before .after .ensures) (s .args .op) (s .pre .1 .1 .1 .0) (s .pre .1 .1 .1 .1) (c .before .before .if1 .left) (c .match .keys2)
+    let nesting = s .args .nesting in
+    binary-fails words text linked (spanAt words (s .args .r)) nesting (s .args .x) (s .pre .1 .1 .0) (c .before .eval .result)
+    (c .before .eval .ensures) _ (c .before .before .before .after .ensures) (s .args .op) (s .pre .1 .1 .1 .0) (s .pre .1 .1 .1 .1)
+    (c .before .before .if1 .left) (c .match .keys2)
 
-eval-binary-eval-second-requires : (t : ℕ) → eval-binary-lts.Need-eval-second-requires (eval-binary-claims t) (eval-binary-at t) eval-binary.Post
+eval-binary-eval-second-requires : (t : ℕ) → eval-binary-lts.Need-eval-second-requires (eval-binary-claims t) (eval-binary-at t)
+    eval-binary.Post
 eval-binary-eval-second-requires t c κs =
     let s = c .before .before .before .before .before .before .before .before in
     let words = s .args .words .now in
     let text = s .args .text .now in
     let linked = s .pre .1 .0 in
-    let level = s .args .level in
-    let y = c .before .before .before .before .before .after in
-    (omega arith, (linked, chain-first words text linked (y .result) level (chain-after words text (s .args .x) (y .result) (y .ensures) linked level (s .pre .1 .1 .0)) (c .before .before .before .before .if1 .left)))
+    let nesting = s .args .nesting in
+    let y = c .before .before .before .before .before .after in (
+      omega arith,
+      (
+        linked,
+        chain-first words text linked (y .result) nesting
+            (chain-after words text (s .args .x) (y .result) (y .ensures) linked nesting (s .pre .1 .1 .0))
+            (c .before .before .before .before .if1 .left),
+      ),
+    )
 
 eval-binary-returns-3 : (t : ℕ) → eval-binary-lts.Need-returns-3 (eval-binary-claims t) (eval-binary-at t) eval-binary.Post
 eval-binary-returns-3 t c =
@@ -337,95 +406,144 @@ eval-binary-returns-3 t c =
     let words = s .args .words .now in
     let text = s .args .text .now in
     let linked = s .pre .1 .0 in
-    let level = s .args .level in
+    let nesting = s .args .nesting in
     c .eval-second .ensures
     ∙ rw (read (record { sfits = c .before .known-told .given .0 .1 }))
-    (binary-value words text linked (spanAt words (s .args .r)) level (s .args .x) (s .pre .1 .1 .0) (c .before .before .before .before .eval .result) (c .before .before .before .before .eval .ensures) _ (c .before .before .before .before .before .before .after .ensures) (s .args .op) (s .pre .1 .1 .1 .0) (s .pre .1 .1 .1 .1) (c .before .before .before .before .before .if1 .left) _ (c .before .before .e .given .1))
+    (binary-value words text linked (spanAt words (s .args .r)) nesting (s .args .x) (s .pre .1 .1 .0)
+    (c .before .before .before .before .eval .result) (c .before .before .before .before .eval .ensures) _
+    (c .before .before .before .before .before .before .after .ensures) (s .args .op) (s .pre .1 .1 .1 .0) (s .pre .1 .1 .1 .1)
+    (c .before .before .before .before .before .if1 .left) _ (c .before .before .e .given .1))
 
-eval-conditional-at-after-requires : (t : ℕ) → eval-conditional-at-lts.Need-after-requires (eval-conditional-at-claims t) (eval-conditional-at-at t) eval-conditional-at.Post
+eval-conditional-at-after-requires : (t : ℕ) → eval-conditional-at-lts.Need-after-requires (eval-conditional-at-claims t)
+    (eval-conditional-at-at t) eval-conditional-at.Post
 eval-conditional-at-after-requires t c κs = search needs
 
-eval-conditional-at-after-requires-2 : (t : ℕ) → eval-conditional-at-lts.Need-after-requires-2 (eval-conditional-at-claims t) (eval-conditional-at-at t) eval-conditional-at.Post
+eval-conditional-at-after-requires-2 : (t : ℕ) → eval-conditional-at-lts.Need-after-requires-2 (eval-conditional-at-claims t)
+    (eval-conditional-at-at t) eval-conditional-at.Post
 eval-conditional-at-after-requires-2 t c κs = search needs
 
-eval-conditional-at-returns : (t : ℕ) → eval-conditional-at-lts.Need-returns (eval-conditional-at-claims t) (eval-conditional-at-at t) eval-conditional-at.Post
+eval-conditional-at-returns : (t : ℕ) → eval-conditional-at-lts.Need-returns (eval-conditional-at-claims t) (eval-conditional-at-at t)
+    eval-conditional-at.Post
 eval-conditional-at-returns t c =
     let s = c .before .before .before .before .before in
     let words = s .args .words .now in
     let text = s .args .text .now in
     let linked = s .pre .1 .0 in
-    let level = s .args .level in
-    λ span. conditional-short words text linked span (s .args .x) _ _ (c .before .before .after .ensures) (c .before .after2 .ensures) (s .pre .1 .1 .at) (chain-after words text (s .args .x) _ (c .before .before .after .ensures) linked level (s .pre .1 .1) .at) (c .if1 .taken)
+    let nesting = s .args .nesting in
+    λ span. conditional-short words text linked span (s .args .x) _ _ (c .before .before .after .ensures) (c .before .after2 .ensures)
+    (s .pre .1 .1 .at) (chain-after words text (s .args .x) _ (c .before .before .after .ensures) linked nesting (s .pre .1 .1) .at)
+    (c .if1 .taken)
 
-eval-conditional-at-eval-requires : (t : ℕ) → eval-conditional-at-lts.Need-eval-requires (eval-conditional-at-claims t) (eval-conditional-at-at t) eval-conditional-at.Post
+eval-conditional-at-eval-requires : (t : ℕ) → eval-conditional-at-lts.Need-eval-requires (eval-conditional-at-claims t)
+    (eval-conditional-at-at t) eval-conditional-at.Post
 eval-conditional-at-eval-requires t c κs =
     let s = c .before .before .before .before .before in
     let words = s .args .words .now in
     let text = s .args .text .now in
     let linked = s .pre .1 .0 in
-    let level = s .args .level in
-    let y = c .before .before .after in
-    (omega arith, (linked, chain-first words text linked (s .args .x) level (s .pre .1 .1) (before-some words text (s .args .x) (y .result) (y .ensures) (before-some words text (y .result) _ (c .before .after2 .ensures) (c .if1 .left)))))
+    let nesting = s .args .nesting in
+    let y = c .before .before .after in (
+      omega arith,
+      (
+        linked,
+        chain-first words text linked (s .args .x) nesting (s .pre .1 .1)
+            (before-some words text (s .args .x) (y .result) (y .ensures)
+            (before-some words text (y .result) _ (c .before .after2 .ensures) (c .if1 .left))),
+      ),
+    )
 
-eval-conditional-at-enum-known-e : (t : ℕ) → eval-conditional-at-lts.Need-enum-known-e (eval-conditional-at-claims t) (eval-conditional-at-at t) eval-conditional-at.Post
+eval-conditional-at-enum-known-e : (t : ℕ) → eval-conditional-at-lts.Need-enum-known-e (eval-conditional-at-claims t)
+    (eval-conditional-at-at t) eval-conditional-at.Post
 eval-conditional-at-enum-known-e t c = search needs
 
-eval-conditional-at-returns-2 : (t : ℕ) → eval-conditional-at-lts.Need-returns-2 (eval-conditional-at-claims t) (eval-conditional-at-at t) eval-conditional-at.Post
+eval-conditional-at-returns-2 : (t : ℕ) → eval-conditional-at-lts.Need-returns-2 (eval-conditional-at-claims t) (eval-conditional-at-at t)
+    eval-conditional-at.Post
 eval-conditional-at-returns-2 t c =
     let s = c .before .before .before .before .before .before .before in
     let words = s .args .words .now in
     let text = s .args .text .now in
     let linked = s .pre .1 .0 in
-    let level = s .args .level in
-    λ span. conditional-fails words text linked span level (s .args .x) (s .pre .1 .1) (c .before .eval .result) (c .before .eval .ensures) _ (c .before .before .before .before .after .ensures) _ (c .before .before .before .after2 .ensures) (c .before .before .if1 .left) (c .match .keys2)
+    let nesting = s .args .nesting in
+    λ span. conditional-fails words text linked span nesting (s .args .x) (s .pre .1 .1) (c .before .eval .result) (c .before .eval .ensures)
+    _ (c .before .before .before .before .after .ensures) _ (c .before .before .before .after2 .ensures) (c .before .before .if1 .left)
+    (c .match .keys2)
 
-eval-conditional-at-is-true-requires : (t : ℕ) → eval-conditional-at-lts.Need-is-true-requires (eval-conditional-at-claims t) (eval-conditional-at-at t) eval-conditional-at.Post
+eval-conditional-at-is-true-requires : (t : ℕ) → eval-conditional-at-lts.Need-is-true-requires (eval-conditional-at-claims t)
+    (eval-conditional-at-at t) eval-conditional-at.Post
 eval-conditional-at-is-true-requires t c κs = search needs
 
-eval-conditional-at-eval-requires-2 : (t : ℕ) → eval-conditional-at-lts.Need-eval-requires-2 (eval-conditional-at-claims t) (eval-conditional-at-at t) eval-conditional-at.Post
+eval-conditional-at-eval-requires-2 : (t : ℕ) → eval-conditional-at-lts.Need-eval-requires-2 (eval-conditional-at-claims t)
+    (eval-conditional-at-at t) eval-conditional-at.Post
 eval-conditional-at-eval-requires-2 t c κs =
     let s = c .before .before .before .before .before .before .before .before .before .before .before in
     let words = s .args .words .now in
     let text = s .args .text .now in
     let linked = s .pre .1 .0 in
-    let level = s .args .level in
-    let y = c .before .before .before .before .before .before .before .before .after in
-    (omega arith, (linked, chain-first words text linked (y .result) level (chain-after words text (s .args .x) (y .result) (y .ensures) linked level (s .pre .1 .1)) (before-some words text (y .result) _ (c .before .before .before .before .before .before .before .after2 .ensures) (c .before .before .before .before .before .before .if1 .left))))
+    let nesting = s .args .nesting in
+    let y = c .before .before .before .before .before .before .before .before .after in (
+      omega arith,
+      (
+        linked,
+        chain-first words text linked (y .result) nesting
+            (chain-after words text (s .args .x) (y .result) (y .ensures) linked nesting (s .pre .1 .1))
+            (before-some words text (y .result) _ (c .before .before .before .before .before .before .before .after2 .ensures)
+            (c .before .before .before .before .before .before .if1 .left)),
+      ),
+    )
 
-eval-conditional-at-returns-3 : (t : ℕ) → eval-conditional-at-lts.Need-returns-3 (eval-conditional-at-claims t) (eval-conditional-at-at t) eval-conditional-at.Post
+eval-conditional-at-returns-3 : (t : ℕ) → eval-conditional-at-lts.Need-returns-3 (eval-conditional-at-claims t) (eval-conditional-at-at t)
+    eval-conditional-at.Post
 eval-conditional-at-returns-3 t c =
     let s = c .before .before .before .before .before .before .before .before .before .before .before .before in
     let words = s .args .words .now in
     let text = s .args .text .now in
     let linked = s .pre .1 .0 in
-    let level = s .args .level in
+    let nesting = s .args .nesting in
     let e = c .before .before .before .before .before .before .eval in
     λ span. c .eval2 .ensures
-    ∙ rw (rw (read (record { sfits = c .before .before .before .known-told .given .0 .1 })) at (sym (c .before .before .is-true .ensures) ∙ c .before .if2 .taken)) at
-    (conditional-value words text linked span level (s .args .x) (s .pre .1 .1) (e .result) (e .ensures) _ (c .before .before .before .before .before .before .before .before .before .after .ensures) _ (c .before .before .before .before .before .before .before .before .after2 .ensures) (c .before .before .before .before .before .before .before .if1 .left) _ (c .before .before .before .before .e .given .1))
+    ∙ rw (rw (read (record { sfits = c .before .before .before .known-told .given .0 .1 })) at
+    (sym (c .before .before .is-true .ensures) ∙ c .before .if2 .taken)) at
+    (conditional-value words text linked span nesting (s .args .x) (s .pre .1 .1) (e .result) (e .ensures) _
+    (c .before .before .before .before .before .before .before .before .before .after .ensures) _
+    (c .before .before .before .before .before .before .before .before .after2 .ensures)
+    (c .before .before .before .before .before .before .before .if1 .left) _ (c .before .before .before .before .e .given .1))
 
-eval-conditional-at-eval-requires-3 : (t : ℕ) → eval-conditional-at-lts.Need-eval-requires-3 (eval-conditional-at-claims t) (eval-conditional-at-at t) eval-conditional-at.Post
+eval-conditional-at-eval-requires-3 : (t : ℕ) → eval-conditional-at-lts.Need-eval-requires-3 (eval-conditional-at-claims t)
+    (eval-conditional-at-at t) eval-conditional-at.Post
 eval-conditional-at-eval-requires-3 t c κs =
     let s = c .before .before .before .before .before .before .before .before .before .before .before in
     let words = s .args .words .now in
     let text = s .args .text .now in
     let linked = s .pre .1 .0 in
-    let level = s .args .level in
+    let nesting = s .args .nesting in
     let y = c .before .before .before .before .before .before .before .before .after in
-    let z = c .before .before .before .before .before .before .before .after2 in
-    (omega arith, (linked, chain-first words text linked (z .result) level (chain-after words text (y .result) (z .result) (z .ensures) linked level (chain-after words text (s .args .x) (y .result) (y .ensures) linked level (s .pre .1 .1))) (c .before .before .before .before .before .before .if1 .left)))
+    let z = c .before .before .before .before .before .before .before .after2 in (
+      omega arith,
+      (
+        linked,
+        chain-first words text linked (z .result) nesting
+            (chain-after words text (y .result) (z .result) (z .ensures) linked nesting
+            (chain-after words text (s .args .x) (y .result) (y .ensures) linked nesting (s .pre .1 .1)))
+            (c .before .before .before .before .before .before .if1 .left),
+      ),
+    )
 
-eval-conditional-at-returns-4 : (t : ℕ) → eval-conditional-at-lts.Need-returns-4 (eval-conditional-at-claims t) (eval-conditional-at-at t) eval-conditional-at.Post
+eval-conditional-at-returns-4 : (t : ℕ) → eval-conditional-at-lts.Need-returns-4 (eval-conditional-at-claims t) (eval-conditional-at-at t)
+    eval-conditional-at.Post
 eval-conditional-at-returns-4 t c =
     let s = c .before .before .before .before .before .before .before .before .before .before .before .before in
     let words = s .args .words .now in
     let text = s .args .text .now in
     let linked = s .pre .1 .0 in
-    let level = s .args .level in
+    let nesting = s .args .nesting in
     let e = c .before .before .before .before .before .before .eval in
     λ span. c .eval3 .ensures
-    ∙ rw (rw (read (record { sfits = c .before .before .before .known-told .given .0 .1 })) at (sym (c .before .before .is-true .ensures) ∙ c .before .if2 .left)) at
-    (conditional-value words text linked span level (s .args .x) (s .pre .1 .1) (e .result) (e .ensures) _ (c .before .before .before .before .before .before .before .before .before .after .ensures) _ (c .before .before .before .before .before .before .before .before .after2 .ensures) (c .before .before .before .before .before .before .before .if1 .left) _ (c .before .before .before .before .e .given .1))
+    ∙ rw (rw (read (record { sfits = c .before .before .before .known-told .given .0 .1 })) at
+    (sym (c .before .before .is-true .ensures) ∙ c .before .if2 .left)) at
+    (conditional-value words text linked span nesting (s .args .x) (s .pre .1 .1) (e .result) (e .ensures) _
+    (c .before .before .before .before .before .before .before .before .before .after .ensures) _
+    (c .before .before .before .before .before .before .before .before .after2 .ensures)
+    (c .before .before .before .before .before .before .before .if1 .left) _ (c .before .before .before .before .e .given .1))
 
 eval-first-returns :
     (t : ℕ) →
@@ -444,8 +562,8 @@ eval-first-eval-requires t c κs =
     let words = s .args .words .now in
     let text = s .args .text .now in
     let linked = s .pre .1 .0 in
-    let level = s .args .level in
-    (omega arith, (linked, chain-first words text linked (s .args .first) level (s .pre .1 .1) (c .if1 .left)))
+    let nesting = s .args .nesting in
+    (omega arith, (linked, chain-first words text linked (s .args .first) nesting (s .pre .1 .1) (c .if1 .left)))
 
 eval-first-returns-2 :
     (t : ℕ) →
@@ -457,7 +575,8 @@ eval-first-returns-2 t c =
     let linked = s .pre .1 .0 in
     c .eval .ensures ∙ first-is words text linked (s .args .first) (c .before .if1 .left) (s .pre .1 .1 .at (c .before .if1 .left))
 
-eval-infix-at-number-at-requires : (t : ℕ) → eval-infix-at-lts.Need-number-at-requires (eval-infix-at-claims t) (eval-infix-at-at t) eval-infix-at.Post
+eval-infix-at-number-at-requires : (t : ℕ) → eval-infix-at-lts.Need-number-at-requires (eval-infix-at-claims t) (eval-infix-at-at t)
+    eval-infix-at.Post
 eval-infix-at-number-at-requires t c κs = search needs
 
 eval-infix-at-returns : (t : ℕ) → eval-infix-at-lts.Need-returns (eval-infix-at-claims t) (eval-infix-at-at t) eval-infix-at.Post
@@ -468,7 +587,8 @@ eval-infix-at-returns t c =
     rw (sym (c .before .number-at .ensures) ∙ c .if1 .taken)
     (sym (infix-missing (spanAt words (s .args .r)) (evals (chainAt words text (childAt words (s .args .r))))))
 
-eval-infix-at-child-at-requires : (t : ℕ) → eval-infix-at-lts.Need-child-at-requires (eval-infix-at-claims t) (eval-infix-at-at t) eval-infix-at.Post
+eval-infix-at-child-at-requires : (t : ℕ) → eval-infix-at-lts.Need-child-at-requires (eval-infix-at-claims t) (eval-infix-at-at t)
+    eval-infix-at.Post
 eval-infix-at-child-at-requires t c κs = search needs
 
 eval-infix-at-eval-conditional-at-requires :
@@ -482,18 +602,25 @@ eval-infix-at-returns-2 : (t : ℕ) → eval-infix-at-lts.Need-returns-2 (eval-i
 eval-infix-at-returns-2 t c =
     let s = c .before .before .before .before .before .before .before in
     let words = s .args .words .now in
-    c .eval-conditional-at .ensures (spanAt words (s .args .r)) ∙ rw (c .before .before .child-at .ensures, sym (c .before .before .before .before .number-at .ensures) ∙ c .before .if2 .taken) refl
+    c .eval-conditional-at .ensures (spanAt words (s .args .r))
+    ∙ rw (c .before .before .child-at .ensures, sym (c .before .before .before .before .number-at .ensures) ∙ c .before .if2 .taken)
+    refl
 
-eval-infix-at-eval-binary-requires : (t : ℕ) → eval-infix-at-lts.Need-eval-binary-requires (eval-infix-at-claims t) (eval-infix-at-at t) eval-infix-at.Post
+eval-infix-at-eval-binary-requires : (t : ℕ) → eval-infix-at-lts.Need-eval-binary-requires (eval-infix-at-claims t) (eval-infix-at-at t)
+    eval-infix-at.Post
 eval-infix-at-eval-binary-requires t c κs =
     let s = c .before .before .before .before .before .before in
     let linked = s .pre .1 .0 in
     (omega arith, (linked, (rw (c .before .child-at .ensures) (s .pre .1 .1), (c .before .before .if1 .left, c .if2 .left))))
 
 eval-infix-at-returns-3 : (t : ℕ) → eval-infix-at-lts.Need-returns-3 (eval-infix-at-claims t) (eval-infix-at-at t) eval-infix-at.Post
-eval-infix-at-returns-3 t c = c .eval-binary .ensures ∙ rw (c .before .before .child-at .ensures, c .before .before .before .before .number-at .ensures) refl
+eval-infix-at-returns-3 t c = c .eval-binary .ensures ∙ rw (
+  c .before .before .child-at .ensures,
+  c .before .before .before .before .number-at .ensures,
+) refl
 
-eval-prefix-at-number-at-requires : (t : ℕ) → eval-prefix-at-lts.Need-number-at-requires (eval-prefix-at-claims t) (eval-prefix-at-at t) eval-prefix-at.Post
+eval-prefix-at-number-at-requires : (t : ℕ) → eval-prefix-at-lts.Need-number-at-requires (eval-prefix-at-claims t) (eval-prefix-at-at t)
+    eval-prefix-at.Post
 eval-prefix-at-number-at-requires t c κs = search needs
 
 eval-prefix-at-returns : (t : ℕ) → eval-prefix-at-lts.Need-returns (eval-prefix-at-claims t) (eval-prefix-at-at t) eval-prefix-at.Post
@@ -504,16 +631,19 @@ eval-prefix-at-returns t c =
     rw (sym (c .before .number-at .ensures) ∙ c .if1 .taken)
     (sym (prefix-missing (spanAt words (s .args .r)) (evals (chainAt words text (childAt words (s .args .r))))))
 
-eval-prefix-at-child-at-requires : (t : ℕ) → eval-prefix-at-lts.Need-child-at-requires (eval-prefix-at-claims t) (eval-prefix-at-at t) eval-prefix-at.Post
+eval-prefix-at-child-at-requires : (t : ℕ) → eval-prefix-at-lts.Need-child-at-requires (eval-prefix-at-claims t) (eval-prefix-at-at t)
+    eval-prefix-at.Post
 eval-prefix-at-child-at-requires t c κs = search needs
 
-eval-prefix-at-eval-first-requires : (t : ℕ) → eval-prefix-at-lts.Need-eval-first-requires (eval-prefix-at-claims t) (eval-prefix-at-at t) eval-prefix-at.Post
+eval-prefix-at-eval-first-requires : (t : ℕ) → eval-prefix-at-lts.Need-eval-first-requires (eval-prefix-at-claims t) (eval-prefix-at-at t)
+    eval-prefix-at.Post
 eval-prefix-at-eval-first-requires t c κs =
     let s = c .before .before .before .before .before in
     let linked = s .pre .1 .0 in
     (omega arith, (linked, rw (c .child-at .ensures) (s .pre .1 .1)))
 
-eval-prefix-at-prefix-of-requires : (t : ℕ) → eval-prefix-at-lts.Need-prefix-of-requires (eval-prefix-at-claims t) (eval-prefix-at-at t) eval-prefix-at.Post
+eval-prefix-at-prefix-of-requires : (t : ℕ) → eval-prefix-at-lts.Need-prefix-of-requires (eval-prefix-at-claims t) (eval-prefix-at-at t)
+    eval-prefix-at.Post
 eval-prefix-at-prefix-of-requires t c κs = search needs
 
 eval-prefix-at-returns-2 : (t : ℕ) → eval-prefix-at-lts.Need-returns-2 (eval-prefix-at-claims t) (eval-prefix-at-at t) eval-prefix-at.Post
@@ -524,9 +654,11 @@ eval-prefix-at-returns-2 t c =
     let op = c .before .before .before .before .number-at in
     c .prefix-of .ensures words text
     ∙ rw (c .before .eval-first .ensures, c .before .before .child-at .ensures, op .ensures)
-    (prefix-first (numberAt words (s .args .r)) (λ q. c .before .before .before .if1 .left (op .ensures ∙ q)) (spanAt words (s .args .r)) (evals (chainAt words text (childAt words (s .args .r)))))
+    (prefix-first (numberAt words (s .args .r)) (λ q. c .before .before .before .if1 .left (op .ensures ∙ q)) (spanAt words (s .args .r))
+    (evals (chainAt words text (childAt words (s .args .r)))))
 
-eval-second-first-decides-requires : (t : ℕ) → eval-second-lts.Need-first-decides-requires (eval-second-claims t) (eval-second-at t) eval-second.Post
+eval-second-first-decides-requires : (t : ℕ) → eval-second-lts.Need-first-decides-requires (eval-second-claims t) (eval-second-at t)
+    eval-second.Post
 eval-second-first-decides-requires t c κs = search needs
 
 eval-second-is-true-requires : (t : ℕ) → eval-second-lts.Need-is-true-requires (eval-second-claims t) (eval-second-at t) eval-second.Post

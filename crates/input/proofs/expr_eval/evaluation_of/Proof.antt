@@ -1,8 +1,8 @@
 -- By the cases of an operator's result.
 use mathlib.Core.Path.{sym, ap, _∙_}
 use Rattle.paths_numbers.proofs.Integers.{read}
-use Rattle.input.specs.Input.{spanAt}
-use Rattle.input.specs.Expr.{value, evaluated}
+use Rattle.input.specs.meaning.Input.{spanAt}
+use Rattle.input.specs.meaning.Expr.{value, evaluated}
 use borrow.Author.Needs.{needs}
 use Rattle.input.proofs.expr_eval.evaluation_of.Statement.{statement}
 use Rattle.input.proofs.expr_eval.evaluation_of.Tie as tie
@@ -23,7 +23,8 @@ enum-told-4 : tie.Need-enum-told-4
 enum-told-4 c = search needs
 
 returns : tie.Need-returns
-returns c = λ words text. ap value (read (record { sfits = c .known-told .given .0 .1 })) ∙ sym (ap (evaluated (spanAt words (c .before .before .before .args .r))) (c .before .v .given .1))
+returns c = λ words text. ap value (read (record { sfits = c .known-told .given .0 .1 }))
+    ∙ sym (ap (evaluated (spanAt words (c .before .before .before .args .r))) (c .before .v .given .1))
 
 returns-2 : tie.Need-returns-2
 returns-2 c = λ words text. sym (ap (evaluated (spanAt words (c .before .before .args .r))) (c .enum-told .given .1))

@@ -2,7 +2,7 @@
 use mathlib.Core.Path.{refl}
 use borrow.Author.Tests.{ne-eqb}
 use Rattle.paths_numbers.proofs.Integers.{read}
-use Rattle.input.specs.Evaluation.{decides}
+use Rattle.input.specs.machine.Evaluation.{decides}
 use borrow.Author.Needs.{needs}
 use Rattle.input.proofs.expr_eval.first_decides.Statement.{statement}
 use Rattle.input.proofs.expr_eval.first_decides.Tie as tie

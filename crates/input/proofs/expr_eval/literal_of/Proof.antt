@@ -2,8 +2,8 @@
 use mathlib.Core.Path.{refl}
 use mathlib.Core.Path.{sym, ap, _∙_}
 use Rattle.paths_numbers.proofs.Integers.{read}
-use Rattle.input.specs.Input.{spanAt}
-use Rattle.input.specs.Expr.{value, literal}
+use Rattle.input.specs.meaning.Input.{spanAt}
+use Rattle.input.specs.meaning.Expr.{value, literal}
 use borrow.Author.Needs.{needs}
 use Rattle.input.proofs.expr_eval.literal_of.Statement.{statement}
 use Rattle.input.proofs.expr_eval.literal_of.Tie as tie
@@ -18,7 +18,8 @@ int-code-requires : tie.Need-int-code-requires
 int-code-requires c κs = search needs
 
 returns : tie.Need-returns
-returns c = λ words text. ap value (read (record { sfits = c .known-told .given .0 .1 })) ∙ sym (ap (literal (spanAt words (c .before .before .before .args .r))) (c .before .p .given .1))
+returns c = λ words text. ap value (read (record { sfits = c .known-told .given .0 .1 }))
+    ∙ sym (ap (literal (spanAt words (c .before .before .before .args .r))) (c .before .p .given .1))
 
 returns-2 : tie.Need-returns-2
 returns-2 c = λ words text. rw (c .int-code .ensures, c .before .before .p2 .given .1) refl

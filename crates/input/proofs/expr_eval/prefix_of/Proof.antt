@@ -19,7 +19,13 @@ evaluation-of-requires : tie.Need-evaluation-of-requires
 evaluation-of-requires c κs = search needs
 
 returns-2 : tie.Need-returns-2
-returns-2 c = λ words text. c .evaluation-of .ensures words text ∙ rw (c .before .eval-prefix .ensures, c .before .before .before .x .given .1, read (record { sfits = c .before .before .known-told .given .0 .1 })) refl
+returns-2 c = λ words text. c .evaluation-of .ensures words text
+    ∙ rw (
+      c .before .eval-prefix .ensures,
+      c .before .before .before .x .given .1,
+      read
+          (record { sfits = c .before .before .known-told .given .0 .1 }),
+    ) refl
 
 pub prefix-of-spec : {M : Type 1} → statement M
 prefix-of-spec =

@@ -1,8 +1,8 @@
 -- By whether there is a unit address (NameRead).
 use mathlib.Core.Path.{ap, _∙_}
 use Prim.Native.Nat.{ℕ}
-use Rattle.input.specs.Name.{nameOrMacro}
-use Rattle.input.specs.Input.{chainAt}
+use Rattle.input.specs.meaning.Name.{nameOrMacro}
+use Rattle.input.specs.meaning.Input.{chainAt}
 use Rattle.input.proofs.NameRead.{full-alone, full-addressed}
 use borrow.Author.Needs.{needs}
 use Rattle.input.proofs.name.full_name.Statement.{statement}
@@ -15,7 +15,8 @@ first-of-requires : tie.Need-first-of-requires
 first-of-requires c κs = search needs
 
 returns : tie.Need-returns
-returns c = full-alone _ _ (c .before .before .name-or-macro .result) (c .before .before .name-or-macro .ensures) _ (c .before .first-of .ensures) (c .if1 .taken)
+returns c = full-alone _ _ (c .before .before .name-or-macro .result) (c .before .before .name-or-macro .ensures) _
+    (c .before .first-of .ensures) (c .if1 .taken)
 
 child-at-requires : tie.Need-child-at-requires
 child-at-requires c κs = search needs
@@ -30,8 +31,10 @@ returns-2 : tie.Need-returns-2
 returns-2 c =
     let s = c .before .before .before .before .before .before in
     let name = c .before .before .before .before .name-or-macro in
-    full-addressed (s .args .words .now) (s .args .first) (name .result) (name .ensures) _ (c .before .before .before .first-of .ensures) (c .before .before .if1 .left) (c .name-or-macro2 .result)
-    (λ text. c .name-or-macro2 .ensures text ∙ ap (λ (r : ℕ). nameOrMacro (chainAt (s .args .words .now) text r)) (c .before .child-at .ensures))
+    full-addressed (s .args .words .now) (s .args .first) (name .result) (name .ensures) _ (c .before .before .before .first-of .ensures)
+    (c .before .before .if1 .left) (c .name-or-macro2 .result)
+    (λ text. c .name-or-macro2 .ensures text ∙ ap (λ (r : ℕ). nameOrMacro (chainAt (s .args .words .now) text r))
+    (c .before .child-at .ensures))
 
 pub full-name-spec : {M : Type 1} → statement M
 full-name-spec =

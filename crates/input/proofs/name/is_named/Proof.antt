@@ -21,12 +21,14 @@ returns-2 : tie.Need-returns-2
 returns-2 c =
     let s = c .before .before .before .before in
     λ words text. c .is-name2 .ensures words text
-    ∙ sym (named-addressed words text (s .args .f) (c .before .if2 .taken) (sym (c .before .before .before .is-name .ensures words text) ∙ not-false _ (c .before .before .if1 .left)))
+    ∙ sym (named-addressed words text (s .args .f) (c .before .if2 .taken)
+    (sym (c .before .before .before .is-name .ensures words text) ∙ not-false _ (c .before .before .if1 .left)))
 
 returns-3 : tie.Need-returns-3
 returns-3 c =
     let s = c .before .before .before in
-    λ words text. sym (named-alone words text (s .args .f) (c .if2 .left) ∙ sym (c .before .before .is-name .ensures words text) ∙ not-false _ (c .before .if1 .left))
+    λ words text. sym (named-alone words text (s .args .f) (c .if2 .left) ∙ sym (c .before .before .is-name .ensures words text)
+    ∙ not-false _ (c .before .if1 .left))
 
 pub is-named-spec : {M : Type 1} → statement M
 is-named-spec =

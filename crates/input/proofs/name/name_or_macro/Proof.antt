@@ -14,10 +14,12 @@ first-of-requires-2 : tie.Need-first-of-requires-2
 first-of-requires-2 c κs = search needs
 
 returns-2 : tie.Need-returns-2
-returns-2 c = λ text. macro-there _ _ _ _ (c .before .before .before .first-of .ensures) text (c .before .before .if1 .left) (c .before .first-of2 .ensures) (c .if2 .taken)
+returns-2 c = λ text. macro-there _ _ _ _ (c .before .before .before .first-of .ensures) text (c .before .before .if1 .left)
+    (c .before .first-of2 .ensures) (c .if2 .taken)
 
 returns-3 : tie.Need-returns-3
-returns-3 c = λ text. nothing-there _ _ _ _ (c .before .before .before .first-of .ensures) text (c .before .before .if1 .left) (c .before .first-of2 .ensures) (c .if2 .left)
+returns-3 c = λ text. nothing-there _ _ _ _ (c .before .before .before .first-of .ensures) text (c .before .before .if1 .left)
+    (c .before .first-of2 .ensures) (c .if2 .left)
 
 pub name-or-macro-spec : {M : Type 1} → statement M
 name-or-macro-spec =

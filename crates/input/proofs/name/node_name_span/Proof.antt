@@ -1,6 +1,6 @@
 -- By whether there is a reference (NameRead).
 use mathlib.Core.Path.{_∙_}
-use Rattle.making.specs.Recs.{meant}
+use Rattle.log.specs.machine.Parts.{meant}
 use Rattle.input.proofs.NameRead.{reference-span, no-reference}
 use borrow.Author.Needs.{needs}
 use Rattle.input.proofs.name.node_name_span.Statement.{statement}
@@ -15,7 +15,8 @@ span-at-requires c κs = search needs
 returns : tie.Need-returns
 returns c =
     let a = c .before .before .before .before .args in
-    λ text. c .span-at .ensures ∙ reference-span (a .words .now) (a .parts) text (meant (a .span)) _ (c .before .before .first-of .ensures) (c .before .if1 .taken)
+    λ text. c .span-at .ensures ∙ reference-span (a .words .now) (a .parts) text (meant (a .span)) _ (c .before .before .first-of .ensures)
+    (c .before .if1 .taken)
 
 own-span-requires : tie.Need-own-span-requires
 own-span-requires c κs = search needs
@@ -23,7 +24,8 @@ own-span-requires c κs = search needs
 returns-2 : tie.Need-returns-2
 returns-2 c =
     let a = c .before .before .before .before .args in
-    λ text. c .own-span .ensures text ∙ no-reference (a .words .now) (a .parts) text (meant (a .span)) _ (c .before .before .first-of .ensures) (c .before .if1 .left)
+    λ text. c .own-span .ensures text ∙ no-reference (a .words .now) (a .parts) text (meant (a .span)) _
+    (c .before .before .first-of .ensures) (c .before .if1 .left)
 
 pub node-name-span-spec : {M : Type 1} → statement M
 node-name-span-spec =

@@ -1,6 +1,6 @@
 -- By whether there is a name (NameRead).
 use mathlib.Core.Path.{_∙_}
-use Rattle.making.specs.Recs.{meant}
+use Rattle.log.specs.machine.Parts.{meant}
 use Rattle.input.proofs.NameRead.{name-span, no-name}
 use borrow.Author.Needs.{needs}
 use Rattle.input.proofs.name.own_span.Statement.{statement}
@@ -18,7 +18,8 @@ span-or-requires c κs = search needs
 returns : tie.Need-returns
 returns c =
     let a = c .before .before .before .before .before .args in
-    λ text. c .span-or .ensures text ∙ no-name (a .words .now) (a .parts) text (meant (a .span)) _ (c .before .before .before .first-of .ensures) _ (c .before .first-of2 .ensures) (c .before .before .if1 .taken)
+    λ text. c .span-or .ensures text ∙ no-name (a .words .now) (a .parts) text (meant (a .span)) _
+    (c .before .before .before .first-of .ensures) _ (c .before .first-of2 .ensures) (c .before .before .if1 .taken)
 
 span-at-requires : tie.Need-span-at-requires
 span-at-requires c κs = search needs
@@ -33,7 +34,8 @@ returns-2 : tie.Need-returns-2
 returns-2 c =
     let a = c .before .before .before .before .before .before .args in
     λ text. c .span-to .ensures text
-    ∙ rw (c .before .before .span-at .ensures) (name-span (a .words .now) (a .parts) text (meant (a .span)) _ (c .before .before .before .before .first-of .ensures) _ (c .before .first-of3 .ensures) (c .before .before .before .if1 .left))
+    ∙ rw (c .before .before .span-at .ensures) (name-span (a .words .now) (a .parts) text (meant (a .span)) _
+    (c .before .before .before .before .first-of .ensures) _ (c .before .first-of3 .ensures) (c .before .before .before .if1 .left))
 
 pub own-span-spec : {M : Type 1} → statement M
 own-span-spec =

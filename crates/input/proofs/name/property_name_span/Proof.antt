@@ -1,6 +1,6 @@
 -- From the first name (NameRead).
 use mathlib.Core.Path.{_∙_}
-use Rattle.making.specs.Recs.{meant}
+use Rattle.log.specs.machine.Parts.{meant}
 use Rattle.input.proofs.NameRead.{property-span}
 use borrow.Author.Needs.{needs}
 use Rattle.input.proofs.name.property_name_span.Statement.{statement}

@@ -1,6 +1,6 @@
 -- By whether there is a record (NameRead).
 use mathlib.Core.Path.{_∙_}
-use Rattle.making.specs.Recs.{meant}
+use Rattle.log.specs.machine.Parts.{meant}
 use Rattle.input.proofs.NameRead.{span-none, span-some}
 use borrow.Author.Needs.{needs}
 use Rattle.input.proofs.name.span_or.Statement.{statement}

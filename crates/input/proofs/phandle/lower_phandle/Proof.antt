@@ -16,7 +16,8 @@ first-of-requires c κs =
 returns : tie.Need-returns
 returns c =
     let a = c .before .before .before .before .before .args in
-    macro-is (a .words .now) (a .text .now) (a .r) _ (rw (c .before .before .child-at .ensures) at (c .before .first-of .ensures)) (c .if1 .taken)
+    macro-is (a .words .now) (a .text .now) (a .r) _ (rw (c .before .before .child-at .ensures) at (c .before .first-of .ensures))
+    (c .if1 .taken)
 
 plain-target-requires : tie.Need-plain-target-requires
 plain-target-requires c κs = search needs
@@ -24,7 +25,8 @@ plain-target-requires c κs = search needs
 returns-2 : tie.Need-returns-2
 returns-2 c =
     let a = c .before .before .before .before .before .before .args in
-    c .plain-target .ensures ∙ no-macro (a .words .now) (a .text .now) (a .r) _ (rw (c .before .before .before .child-at .ensures) at (c .before .before .first-of .ensures)) (c .before .if1 .left)
+    c .plain-target .ensures ∙ no-macro (a .words .now) (a .text .now) (a .r) _
+    (rw (c .before .before .before .child-at .ensures) at (c .before .before .first-of .ensures)) (c .before .if1 .left)
 
 pub lower-phandle-spec : {M : Type 1} → statement M
 lower-phandle-spec =

@@ -17,7 +17,9 @@ phandle-path-requires c κs = search needs
 returns : tie.Need-returns
 returns c =
     let a = c .before .before .before .before .before .before .args in
-    c .phandle-path .ensures ∙ rw (c .before .text-at .ensures) (raw-path (a .words .now) (a .text .now) (a .r) (sym (c .before .before .before .number-at .ensures) ∙ c .before .before .if1 .taken))
+    c .phandle-path .ensures ∙ rw (c .before .text-at .ensures)
+    (raw-path (a .words .now) (a .text .now) (a .r) (sym (c .before .before .before .number-at .ensures)
+    ∙ c .before .before .if1 .taken))
 
 no-text-requires : tie.Need-no-text-requires
 no-text-requires c κs = search needs
@@ -25,7 +27,8 @@ no-text-requires c κs = search needs
 returns-2 : tie.Need-returns-2
 returns-2 c =
     let a = c .before .before .before .before .before .args in
-    c .no-text .ensures ∙ no-path (a .words .now) (a .text .now) (a .r) (λ e. c .before .if1 .left (c .before .before .number-at .ensures ∙ e))
+    c .no-text .ensures ∙ no-path (a .words .now) (a .text .now) (a .r)
+    (λ e. c .before .if1 .left (c .before .before .number-at .ensures ∙ e))
 
 pub phandle-path-at-spec : {M : Type 1} → statement M
 phandle-path-at-spec =

@@ -27,12 +27,14 @@ returns c =
 returns-2 : tie.Need-returns-2
 returns-2 c =
     let a = c .before .before .before .before .before .before .args in
-    empty-is (a .words .now) (a .text .now) (a .r) (λ e. c .before .if1 .left (c .before .before .number-at .ensures ∙ e)) (sym (ap length (c .before .before .before .text-at .ensures)) ∙ c .if2 .taken)
+    empty-is (a .words .now) (a .text .now) (a .r) (λ e. c .before .if1 .left (c .before .before .number-at .ensures ∙ e))
+    (sym (ap length (c .before .before .before .text-at .ensures)) ∙ c .if2 .taken)
 
 returns-3 : tie.Need-returns-3
 returns-3 c =
     let a = c .before .before .before .before .before .before .args in
-    name-is (a .words .now) (a .text .now) (a .r) (λ e. c .before .if1 .left (c .before .before .number-at .ensures ∙ e)) (λ e. c .if2 .left (ap length (c .before .before .before .text-at .ensures) ∙ e))
+    name-is (a .words .now) (a .text .now) (a .r) (λ e. c .before .if1 .left (c .before .before .number-at .ensures ∙ e))
+    (λ e. c .if2 .left (ap length (c .before .before .before .text-at .ensures) ∙ e))
 
 pub plain-target-spec : {M : Type 1} → statement M
 plain-target-spec =

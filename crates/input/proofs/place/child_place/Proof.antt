@@ -1,7 +1,7 @@
 -- By the kind in turn.
 use borrow.Author.Tests.{eq-eqb, ne-eqb}
 use mathlib.Core.Path.{refl, sym, _∙_}
-use Rattle.input.specs.Place.{expressions, noPlace, childPlace}
+use Rattle.input.specs.meaning.Place.{expressions, noPlace, childPlace}
 use Rattle.input.proofs.RowsTests.{four-of}
 use borrow.Author.Needs.{needs}
 use Rattle.input.proofs.place.child_place.Statement.{statement}
@@ -23,22 +23,54 @@ returns-3 c =
 returns-4 : tie.Need-returns-4
 unfolding childPlace
 returns-4 c =
-    rw (ne-eqb _ _ (c .before .before .before .if1 .left), ne-eqb _ _ (c .before .before .if2 .left), ne-eqb _ _ (c .before .if3 .left), eq-eqb _ _ (c .if4 .taken)) refl
+    rw (
+      ne-eqb _ _ (c .before .before .before .if1 .left),
+      ne-eqb _ _ (c .before .before .if2 .left),
+      ne-eqb _ _ (c .before .if3 .left),
+      eq-eqb _ _ (c .if4 .taken),
+    ) refl
 
 returns-5 : tie.Need-returns-5
 unfolding childPlace
 returns-5 c =
-    rw (ne-eqb _ _ (c .before .before .before .before .if1 .left), ne-eqb _ _ (c .before .before .before .if2 .left), ne-eqb _ _ (c .before .before .if3 .left), ne-eqb _ _ (c .before .if4 .left), eq-eqb _ _ (c .if5 .taken)) refl
+    rw (
+      ne-eqb _ _ (c .before .before .before .before .if1 .left),
+      ne-eqb _ _ (c .before .before .before .if2 .left),
+      ne-eqb _ _
+          (c .before .before .if3 .left),
+      ne-eqb _ _ (c .before .if4 .left),
+      eq-eqb _ _ (c .if5 .taken),
+    ) refl
 
 returns-6 : tie.Need-returns-6
 unfolding childPlace
 returns-6 c =
-    rw (ne-eqb _ _ (c .before .before .before .before .before .if1 .left), ne-eqb _ _ (c .before .before .before .before .if2 .left), ne-eqb _ _ (c .before .before .before .if3 .left), ne-eqb _ _ (c .before .before .if4 .left), ne-eqb _ _ (c .before .if5 .left), eq-eqb _ _ (c .if6 .taken)) refl
+    rw (
+      ne-eqb _ _ (c .before .before .before .before .before .if1 .left),
+      ne-eqb _ _ (c .before .before .before .before .if2 .left),
+      ne-eqb
+          _ _ (c .before .before .before .if3 .left),
+      ne-eqb _ _ (c .before .before .if4 .left),
+      ne-eqb _ _ (c .before .if5 .left),
+      eq-eqb _ _
+          (c .if6 .taken),
+    ) refl
 
 returns-7 : tie.Need-returns-7
 unfolding childPlace
 returns-7 c =
-    rw (ne-eqb _ _ (c .before .before .before .before .before .before .if1 .left), ne-eqb _ _ (c .before .before .before .before .before .if2 .left), ne-eqb _ _ (c .before .before .before .before .if3 .left), ne-eqb _ _ (c .before .before .before .if4 .left), ne-eqb _ _ (c .before .before .if5 .left), ne-eqb _ _ (c .before .if6 .left), eq-eqb _ _ (c .if7 .taken)) refl
+    rw (
+      ne-eqb _ _ (c .before .before .before .before .before .before .if1 .left),
+      ne-eqb _ _
+          (c .before .before .before .before .before .if2 .left),
+      ne-eqb _ _ (c .before .before .before .before .if3 .left),
+      ne-eqb _ _
+          (c .before .before .before .if4 .left),
+      ne-eqb _ _ (c .before .before .if5 .left),
+      ne-eqb _ _ (c .before .if6 .left),
+      eq-eqb _ _
+          (c .if7 .taken),
+    ) refl
 
 slice-aggregate-one-of : tie.Need-slice-aggregate-one-of
 slice-aggregate-one-of c = search needs
@@ -49,12 +81,42 @@ one-of-requires c κs = search needs
 returns-8 : tie.Need-returns-8
 unfolding childPlace
 returns-8 c =
-    rw (ne-eqb _ _ (c .before .before .before .before .before .before .before .before .before .if1 .left), ne-eqb _ _ (c .before .before .before .before .before .before .before .before .if2 .left), ne-eqb _ _ (c .before .before .before .before .before .before .before .if3 .left), ne-eqb _ _ (c .before .before .before .before .before .before .if4 .left), ne-eqb _ _ (c .before .before .before .before .before .if5 .left), ne-eqb _ _ (c .before .before .before .before .if6 .left), ne-eqb _ _ (c .before .before .before .if7 .left), ← four-of (c .before .before .before .before .before .before .before .before .before .before .args .kind) 17 18 19 20 expressions noPlace, sym (c .before .one-of .ensures) ∙ c .if8 .taken) refl
+    rw (
+      ne-eqb _ _ (c .before .before .before .before .before .before .before .before .before .if1 .left),
+      ne-eqb _ _
+          (c .before .before .before .before .before .before .before .before .if2 .left),
+      ne-eqb _ _
+          (c .before .before .before .before .before .before .before .if3 .left),
+      ne-eqb _ _
+          (c .before .before .before .before .before .before .if4 .left),
+      ne-eqb _ _ (c .before .before .before .before .before .if5 .left),
+      ne-eqb _ _ (c .before .before .before .before .if6 .left),
+      ne-eqb _ _ (c .before .before .before .if7 .left),
+      ← four-of
+          (c .before .before .before .before .before .before .before .before .before .before .args .kind) 17 18 19 20 expressions noPlace,
+      sym
+          (c .before .one-of .ensures) ∙ c .if8 .taken,
+    ) refl
 
 returns-9 : tie.Need-returns-9
 unfolding childPlace
 returns-9 c =
-    rw (ne-eqb _ _ (c .before .before .before .before .before .before .before .before .before .if1 .left), ne-eqb _ _ (c .before .before .before .before .before .before .before .before .if2 .left), ne-eqb _ _ (c .before .before .before .before .before .before .before .if3 .left), ne-eqb _ _ (c .before .before .before .before .before .before .if4 .left), ne-eqb _ _ (c .before .before .before .before .before .if5 .left), ne-eqb _ _ (c .before .before .before .before .if6 .left), ne-eqb _ _ (c .before .before .before .if7 .left), ← four-of (c .before .before .before .before .before .before .before .before .before .before .args .kind) 17 18 19 20 expressions noPlace, sym (c .before .one-of .ensures) ∙ c .if8 .left) refl
+    rw (
+      ne-eqb _ _ (c .before .before .before .before .before .before .before .before .before .if1 .left),
+      ne-eqb _ _
+          (c .before .before .before .before .before .before .before .before .if2 .left),
+      ne-eqb _ _
+          (c .before .before .before .before .before .before .before .if3 .left),
+      ne-eqb _ _
+          (c .before .before .before .before .before .before .if4 .left),
+      ne-eqb _ _ (c .before .before .before .before .before .if5 .left),
+      ne-eqb _ _ (c .before .before .before .before .if6 .left),
+      ne-eqb _ _ (c .before .before .before .if7 .left),
+      ← four-of
+          (c .before .before .before .before .before .before .before .before .before .before .args .kind) 17 18 19 20 expressions noPlace,
+      sym
+          (c .before .one-of .ensures) ∙ c .if8 .left,
+    ) refl
 
 pub child-place-spec : {M : Type 1} → statement M
 child-place-spec =

@@ -1,7 +1,7 @@
 -- By the tests in turn.
 use mathlib.Core.Path.{refl, sym, _∙_}
 use borrow.Author.Tests.{not-true, not-false}
-use Rattle.input.specs.Place.{fitsAlone}
+use Rattle.input.specs.meaning.Place.{fitsAlone}
 use borrow.Author.Needs.{needs}
 use Rattle.input.proofs.place.fits_alone.Statement.{statement}
 use Rattle.input.proofs.place.fits_alone.Tie as tie
@@ -19,12 +19,20 @@ w-fits-requires c κs = search needs
 returns-2 : tie.Need-returns-2
 unfolding fitsAlone
 returns-2 c =
-    rw (sym (c .before .before .before .fits-place .ensures) ∙ not-false _ (c .before .before .if1 .left), sym (c .before .w-fits .ensures) ∙ not-true _ (c .if2 .taken)) refl
+    rw (
+      sym (c .before .before .before .fits-place .ensures) ∙ not-false _ (c .before .before .if1 .left),
+      sym (c .before .w-fits .ensures)
+          ∙ not-true _ (c .if2 .taken),
+    ) refl
 
 returns-3 : tie.Need-returns-3
 unfolding fitsAlone
 returns-3 c =
-    rw (sym (c .before .before .before .fits-place .ensures) ∙ not-false _ (c .before .before .if1 .left), sym (c .before .w-fits .ensures) ∙ not-false _ (c .if2 .left)) refl
+    rw (
+      sym (c .before .before .before .fits-place .ensures) ∙ not-false _ (c .before .before .if1 .left),
+      sym (c .before .w-fits .ensures)
+          ∙ not-false _ (c .if2 .left),
+    ) refl
 
 pub fits-alone-spec : {M : Type 1} → statement M
 fits-alone-spec =

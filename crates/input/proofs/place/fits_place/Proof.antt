@@ -1,9 +1,9 @@
 -- By the place in turn.
 use borrow.Author.Tests.{eq-eqb, ne-eqb}
 use mathlib.Core.Path.{refl, sym, _∙_}
-use Rattle.queries.specs.Kind.{any}
-use Rattle.input.specs.Place.{fits}
-use Rattle.input.specs.RowsPass.{placeOf}
+use Rattle.paths_numbers.specs.meaning.Lists.{any}
+use Rattle.input.specs.meaning.Place.{fits}
+use Rattle.input.specs.machine.RowsPass.{placeOf}
 use Rattle.log.proofs.Tests.{last-test}
 use borrow.Author.Needs.{needs}
 use Rattle.input.proofs.place.fits_place.Statement.{statement}
@@ -39,7 +39,11 @@ one-of-requires-3 c κs = search needs
 returns-3 : tie.Need-returns-3
 unfolding fits placeOf
 returns-3 c =
-    c .one-of3 .ensures ∙ rw (ne-eqb _ _ (c .before .before .before .before .if1 .left), ne-eqb _ _ (c .before .before .before .if2 .left), eq-eqb _ _ (c .before .before .if3 .taken)) refl
+    c .one-of3 .ensures ∙ rw (
+      ne-eqb _ _ (c .before .before .before .before .if1 .left),
+      ne-eqb _ _ (c .before .before .before .if2 .left),
+      eq-eqb _ _ (c .before .before .if3 .taken),
+    ) refl
 
 slice-aggregate-one-of-4 : tie.Need-slice-aggregate-one-of-4
 slice-aggregate-one-of-4 c = search needs
@@ -50,7 +54,14 @@ one-of-requires-4 c κs = search needs
 returns-4 : tie.Need-returns-4
 unfolding fits placeOf
 returns-4 c =
-    c .one-of4 .ensures ∙ rw (ne-eqb _ _ (c .before .before .before .before .before .if1 .left), ne-eqb _ _ (c .before .before .before .before .if2 .left), ne-eqb _ _ (c .before .before .before .if3 .left), eq-eqb _ _ (c .before .before .if4 .taken)) refl
+    c .one-of4 .ensures ∙ rw (
+      ne-eqb _ _ (c .before .before .before .before .before .if1 .left),
+      ne-eqb _ _
+          (c .before .before .before .before .if2 .left),
+      ne-eqb _ _ (c .before .before .before .if3 .left),
+      eq-eqb _ _
+          (c .before .before .if4 .taken),
+    ) refl
 
 slice-aggregate-one-of-5 : tie.Need-slice-aggregate-one-of-5
 slice-aggregate-one-of-5 c = search needs
@@ -61,12 +72,29 @@ one-of-requires-5 c κs = search needs
 returns-5 : tie.Need-returns-5
 unfolding fits placeOf
 returns-5 c =
-    c .one-of5 .ensures ∙ rw (ne-eqb _ _ (c .before .before .before .before .before .before .if1 .left), ne-eqb _ _ (c .before .before .before .before .before .if2 .left), ne-eqb _ _ (c .before .before .before .before .if3 .left), ne-eqb _ _ (c .before .before .before .if4 .left), eq-eqb _ _ (c .before .before .if5 .taken)) refl
+    c .one-of5 .ensures ∙ rw (
+      ne-eqb _ _ (c .before .before .before .before .before .before .if1 .left),
+      ne-eqb _ _
+          (c .before .before .before .before .before .if2 .left),
+      ne-eqb _ _ (c .before .before .before .before .if3 .left),
+      ne-eqb _ _
+          (c .before .before .before .if4 .left),
+      eq-eqb _ _ (c .before .before .if5 .taken),
+    ) refl
 
 returns-6 : tie.Need-returns-6
 unfolding fits placeOf any
 returns-6 c =
-    sym (last-test _) ∙ rw (ne-eqb _ _ (c .before .before .before .before .before .if1 .left), ne-eqb _ _ (c .before .before .before .before .if2 .left), ne-eqb _ _ (c .before .before .before .if3 .left), ne-eqb _ _ (c .before .before .if4 .left), ne-eqb _ _ (c .before .if5 .left), eq-eqb _ _ (c .if6 .taken)) refl
+    sym (last-test _) ∙ rw (
+      ne-eqb _ _ (c .before .before .before .before .before .if1 .left),
+      ne-eqb _ _
+          (c .before .before .before .before .if2 .left),
+      ne-eqb _ _ (c .before .before .before .if3 .left),
+      ne-eqb _ _
+          (c .before .before .if4 .left),
+      ne-eqb _ _ (c .before .if5 .left),
+      eq-eqb _ _ (c .if6 .taken),
+    ) refl
 
 fits-value-requires : tie.Need-fits-value-requires
 fits-value-requires c κs = search needs
@@ -74,7 +102,16 @@ fits-value-requires c κs = search needs
 returns-7 : tie.Need-returns-7
 unfolding placeOf
 returns-7 c =
-    c .fits-value .ensures ∙ rw (ne-eqb _ _ (c .before .before .before .before .before .before .if1 .left), ne-eqb _ _ (c .before .before .before .before .before .if2 .left), ne-eqb _ _ (c .before .before .before .before .if3 .left), ne-eqb _ _ (c .before .before .before .if4 .left), ne-eqb _ _ (c .before .before .if5 .left), ne-eqb _ _ (c .before .if6 .left)) refl
+    c .fits-value .ensures ∙ rw (
+      ne-eqb _ _ (c .before .before .before .before .before .before .if1 .left),
+      ne-eqb _ _
+          (c .before .before .before .before .before .if2 .left),
+      ne-eqb _ _ (c .before .before .before .before .if3 .left),
+      ne-eqb _ _
+          (c .before .before .before .if4 .left),
+      ne-eqb _ _ (c .before .before .if5 .left),
+      ne-eqb _ _ (c .before .if6 .left),
+    ) refl
 
 pub fits-place-spec : {M : Type 1} → statement M
 fits-place-spec =

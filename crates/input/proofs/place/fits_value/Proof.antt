@@ -1,8 +1,8 @@
 -- By the place in turn.
 use borrow.Author.Tests.{eq-eqb, ne-eqb}
 use mathlib.Core.Path.{refl, _∙_}
-use Rattle.input.specs.Place.{fits}
-use Rattle.queries.specs.Kind.{any}
+use Rattle.input.specs.meaning.Place.{fits}
+use Rattle.paths_numbers.specs.meaning.Lists.{any}
 use borrow.Author.Needs.{needs}
 use Rattle.input.proofs.place.fits_value.Statement.{statement}
 use Rattle.input.proofs.place.fits_value.Tie as tie
@@ -37,7 +37,11 @@ one-of-requires-3 c κs = search needs
 returns-3 : tie.Need-returns-3
 unfolding fits
 returns-3 c =
-    c .one-of3 .ensures ∙ rw (ne-eqb _ _ (c .before .before .before .before .if1 .left), ne-eqb _ _ (c .before .before .before .if2 .left), eq-eqb _ _ (c .before .before .if3 .taken)) refl
+    c .one-of3 .ensures ∙ rw (
+      ne-eqb _ _ (c .before .before .before .before .if1 .left),
+      ne-eqb _ _ (c .before .before .before .if2 .left),
+      eq-eqb _ _ (c .before .before .if3 .taken),
+    ) refl
 
 returns-4 : tie.Need-returns-4
 unfolding fits any

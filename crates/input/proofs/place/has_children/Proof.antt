@@ -3,7 +3,7 @@ use mathlib.Core.Path.{ap, _∙_}
 use Prim.Native.Nat.{ℕ}
 use mathlib.Core.Bool.{not}
 use lib.Dec.{eqb}
-use Rattle.input.specs.Place.{childPlace, hasChildren}
+use Rattle.input.specs.meaning.Place.{childPlace, hasChildren}
 use Rattle.input.proofs.RowsTests.{holds-kinds}
 use borrow.Author.Needs.{needs}
 use Rattle.input.proofs.place.has_children.Statement.{statement}

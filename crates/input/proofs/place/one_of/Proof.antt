@@ -5,7 +5,7 @@ use native.Mathlib.Omega.{arith}
 use borrow.Author.Tests.{eq-eqb, ne-eqb}
 use lib.Dec.{eqb}
 use lib.ListN.{length, drop}
-use Rattle.queries.specs.Kind.{any}
+use Rattle.paths_numbers.specs.meaning.Lists.{any}
 use Rattle.input.proofs.RowsLoops.{any-here, any-later, any-none}
 use borrow.Author.Needs.{needs}
 use Rattle.input.proofs.place.one_of.Statement.{statement}

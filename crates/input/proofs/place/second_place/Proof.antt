@@ -1,7 +1,7 @@
 -- By the kind.
 use borrow.Author.Tests.{eq-eqb, ne-eqb}
 use mathlib.Core.Path.{refl}
-use Rattle.input.specs.Place.{secondPlace}
+use Rattle.input.specs.meaning.Place.{secondPlace}
 use Rattle.input.proofs.place.second_place.Statement.{statement}
 use Rattle.input.proofs.place.second_place.Tie as tie
 

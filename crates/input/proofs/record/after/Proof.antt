@@ -1,7 +1,7 @@
 -- By whether there is a record.
 use mathlib.Core.Path.{_∙_}
 use borrow.Author.Tests.{eq-eqb, ne-eqb}
-use Rattle.input.specs.Read.{afterAt}
+use Rattle.input.specs.machine.Read.{afterAt}
 use borrow.Author.Needs.{needs}
 use Rattle.input.proofs.record.after.Statement.{statement}
 use Rattle.input.proofs.record.after.Tie as tie

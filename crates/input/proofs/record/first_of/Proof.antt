@@ -3,15 +3,16 @@ use borrow.Author.Needs.{needs}
 use Prim.Native.Nat.{ℕ}
 use mathlib.Core.Path.{_≡_, refl, sym, ap, _∙_}
 use mathlib.Core.List.{List}
-use Rattle.input.specs.Tree.{firstOf}
-use Rattle.input.specs.Input.{chainAt}
-use Rattle.input.specs.Linked.{At}
+use Rattle.input.specs.meaning.Tree.{firstOf}
+use Rattle.input.specs.meaning.Input.{chainAt}
+use Rattle.input.specs.machine.Linked.{At}
 use Rattle.input.proofs.Read.{rank, rank-less, first-hit, first-miss, first-end}
 use Rattle.input.proofs.record.first_of.Statement.{statement}
 use Rattle.input.proofs.record.first_of.Tie as tie
 
 abbrev Inv-loop : tie.InvT-loop
-Inv-loop words first kind r₀ r = At words r × ((text : List ℕ) → firstOf kind (chainAt words text first) ≡ firstOf kind (chainAt words text r))
+Inv-loop words first kind r₀ r = At words r × ((text : List ℕ) → firstOf kind (chainAt words text first) ≡ firstOf kind
+    (chainAt words text r))
 
 abbrev μ-loop : tie.MeasureT-loop
 μ-loop words first kind r₀ r = rank words r
@@ -52,7 +53,8 @@ loop-again c =
     let a = l .inv .0 n in
     rw (c .next-at .ensures) (
       s .pre .0 .all (l .r) a .next .within,
-      λ text. l .inv .1 text ∙ first-miss (s .args .words .now) (s .pre .0) (l .r) n a (s .args .kind) (λ e. c .before .if1 .left (c .before .before .kind-at .ensures ∙ e)) text,
+      λ text. l .inv .1 text ∙ first-miss (s .args .words .now) (s .pre .0) (l .r) n a (s .args .kind)
+          (λ e. c .before .if1 .left (c .before .before .kind-at .ensures ∙ e)) text,
     )
 
 returns-2 : tie.Need-returns-2 Inv-loop μ-loop
@@ -62,7 +64,8 @@ returns-2 c =
     record {
       at = λ n. absurd (n refl);
       kinded = λ n. absurd (n refl);
-      tree = λ text. l .inv .1 text ∙ ap (λ (r : ℕ). firstOf (s .args .kind) (chainAt (s .args .words .now) text r)) (c .loop-test .left) ∙ first-end (s .args .words .now) text (s .args .kind);
+      tree = λ text. l .inv .1 text ∙ ap (λ (r : ℕ). firstOf (s .args .kind) (chainAt (s .args .words .now) text r)) (c .loop-test .left)
+          ∙ first-end (s .args .words .now) text (s .args .kind);
     }
 
 pub first-of-spec : {M : Type 1} → statement M

@@ -1,6 +1,6 @@
 -- By whether W is a link.
 use mathlib.Core.Path.{refl, sym, _∙_}
-use Rattle.input.specs.Input.{secondAt}
+use Rattle.input.specs.meaning.Input.{secondAt}
 use borrow.Author.Needs.{needs}
 use Rattle.input.proofs.record.second_at.Statement.{statement}
 use Rattle.input.proofs.record.second_at.Tie as tie

@@ -1,6 +1,6 @@
 -- From the two words that say where the text is.
 use mathlib.Core.Path.{refl, _∙_}
-use Rattle.input.specs.Input.{textAt}
+use Rattle.input.specs.meaning.Input.{textAt}
 use borrow.Author.Needs.{needs}
 use Rattle.input.proofs.record.text_at.Statement.{statement}
 use Rattle.input.proofs.record.text_at.Tie as tie

@@ -6,8 +6,8 @@ use native.Mathlib.Omega.{arith}
 use borrow.Author.Tests.{eq-eqb, ne-eqb}
 use lib.Dec.{eqb}
 use lib.ListN.{length, drop}
-use Rattle.queries.specs.Kind.{any}
-use Rattle.input.specs.Input.{field}
+use Rattle.paths_numbers.specs.meaning.Lists.{any}
+use Rattle.input.specs.meaning.Input.{field}
 use Rattle.input.proofs.RowsLoops.{any-here, any-later, any-none}
 use borrow.Author.Needs.{needs}
 use Rattle.input.proofs.refusal.any_word.Statement.{statement}
@@ -15,7 +15,8 @@ use Rattle.input.proofs.refusal.any_word.Tie as tie
 
 abbrev Inv-loop : tie.InvT-loop
 Inv-loop words fields i₀ i =
-    (i ≤ length fields) × (any (λ (j : ℕ). not (eqb (field words 0 j) 0)) fields ≡ any (λ (j : ℕ). not (eqb (field words 0 j) 0)) (drop i fields))
+    (i ≤ length fields) × (any (λ (j : ℕ). not (eqb (field words 0 j) 0)) fields ≡ any (λ (j : ℕ). not (eqb (field words 0 j) 0))
+    (drop i fields))
 
 abbrev μ-loop : tie.MeasureT-loop
 μ-loop words fields i₀ i = length fields - i
@@ -36,7 +37,8 @@ returns : tie.Need-returns Inv-loop μ-loop
 returns c =
     let a = c .before .before .before .before .before .before .before .args in
     let l = c .before .before .before .before .loop in
-    any-here _ (a .fields .now) (l .i) _ (l .inv .1) (omega arith) (ap (λ (v : ℕ). not (eqb v 0)) (sym (c .before .word-at .ensures)) ∙ ap not (ne-eqb _ _ (c .if1 .taken)))
+    any-here _ (a .fields .now) (l .i) _ (l .inv .1) (omega arith)
+    (ap (λ (v : ℕ). not (eqb v 0)) (sym (c .before .word-at .ensures)) ∙ ap not (ne-eqb _ _ (c .if1 .taken)))
 
 add-i : tie.Need-add-i Inv-loop μ-loop
 add-i c = search needs
@@ -47,8 +49,11 @@ loop-less c = search needs
 loop-again : tie.Need-loop-again Inv-loop μ-loop
 loop-again c =
     let a = c .before .before .before .before .before .before .before .args in
-    let l = c .before .before .before .before .loop in
-    (omega arith, any-later _ (a .fields .now) (l .i) _ (l .inv .1) (omega arith) (ap (λ (v : ℕ). not (eqb v 0)) (sym (c .before .word-at .ensures)) ∙ ap not (eq-eqb _ _ (c .if1 .left))))
+    let l = c .before .before .before .before .loop in (
+      omega arith,
+      any-later _ (a .fields .now) (l .i) _ (l .inv .1) (omega arith)
+          (ap (λ (v : ℕ). not (eqb v 0)) (sym (c .before .word-at .ensures)) ∙ ap not (eq-eqb _ _ (c .if1 .left))),
+    )
 
 returns-2 : tie.Need-returns-2 Inv-loop μ-loop
 returns-2 c =

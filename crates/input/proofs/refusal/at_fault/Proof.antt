@@ -3,7 +3,7 @@ use Prim.Native.Nat.{ℕ}
 use mathlib.Core.Path.{refl, sym, ap, _∙_}
 use borrow.Author.Tests.{eq-eqb, ne-eqb}
 use lib.Dec.{eqb}
-use Rattle.input.specs.RowsPass.{faultBy}
+use Rattle.input.specs.machine.RowsPass.{faultBy}
 use Rattle.input.proofs.RowsStands.{fault-reached}
 use borrow.Author.Needs.{needs}
 use Rattle.input.proofs.refusal.at_fault.Statement.{statement}
@@ -22,7 +22,12 @@ bad-head-requires c κs = search needs
 returns-2 : tie.Need-returns-2
 unfolding faultBy
 returns-2 c =
-    c .bad-head .ensures ∙ rw (ne-eqb _ _ (c .before .before .before .if1 .left), eq-eqb _ _ (c .before .before .if2 .taken), eq-eqb _ _ (c .before .if3 .taken)) refl
+    c .bad-head .ensures ∙ rw (
+      ne-eqb _ _ (c .before .before .before .if1 .left),
+      eq-eqb _ _ (c .before .before .if2 .taken),
+      eq-eqb _ _
+          (c .before .if3 .taken),
+    ) refl
 
 returns-3 : tie.Need-returns-3
 unfolding faultBy
@@ -35,7 +40,12 @@ number-in-requires c κs = search needs
 returns-4 : tie.Need-returns-4
 unfolding faultBy
 returns-4 c =
-    rw (ne-eqb _ _ (c .before .before .before .if1 .left), ne-eqb _ _ (c .before .before .if2 .left), ap (λ (s : ℕ). eqb s 0) (sym (c .before .number-in .ensures)) ∙ eq-eqb _ _ (c .if4 .taken)) refl
+    rw (
+      ne-eqb _ _ (c .before .before .before .if1 .left),
+      ne-eqb _ _ (c .before .before .if2 .left),
+      ap (λ (s : ℕ). eqb s 0)
+          (sym (c .before .number-in .ensures)) ∙ eq-eqb _ _ (c .if4 .taken),
+    ) refl
 
 breaks-row-requires : tie.Need-breaks-row-requires
 breaks-row-requires c κs = search needs
@@ -43,7 +53,8 @@ breaks-row-requires c κs = search needs
 returns-5 : tie.Need-returns-5
 returns-5 c =
     let a = c .before .before .before .before .before .before .before .before .args in
-    fault-reached (a .row) (a .words .now) (a .text .now) (a .stands .now) (a .r) _ _ (c .before .before .before .before .if1 .left) (c .before .before .before .if2 .left) (c .before .before .number-in .ensures) (c .before .if4 .left) (c .breaks-row .ensures)
+    fault-reached (a .row) (a .words .now) (a .text .now) (a .stands .now) (a .r) _ _ (c .before .before .before .before .if1 .left)
+    (c .before .before .before .if2 .left) (c .before .before .number-in .ensures) (c .before .if4 .left) (c .breaks-row .ensures)
 
 pub at-fault-spec : {M : Type 1} → statement M
 at-fault-spec =

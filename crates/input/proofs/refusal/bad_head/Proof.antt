@@ -1,5 +1,5 @@
 -- All words but the child.
-use Rattle.input.specs.Rows.{badHead}
+use Rattle.input.specs.meaning.Rows.{badHead}
 use borrow.Author.Needs.{needs}
 use Rattle.input.proofs.refusal.bad_head.Statement.{statement}
 use Rattle.input.proofs.refusal.bad_head.Tie as tie

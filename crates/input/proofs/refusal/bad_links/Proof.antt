@@ -19,7 +19,8 @@ bad-link-requires c κs = search needs
 returns : tie.Need-returns
 returns c =
     let a = c .before .before .before .before .before .before .before .args in
-    links-first (a .words .now) (a .r) _ _ (c .before .before .before .before .word-at .ensures) (c .before .before .before .word-at2 .ensures) _ (c .before .bad-link .ensures) (c .if1 .taken)
+    links-first (a .words .now) (a .r) _ _ (c .before .before .before .before .word-at .ensures)
+    (c .before .before .before .word-at2 .ensures) _ (c .before .bad-link .ensures) (c .if1 .taken)
 
 slice-aggregate-bad-link-2 : tie.Need-slice-aggregate-bad-link-2
 slice-aggregate-bad-link-2 c = search needs
@@ -30,7 +31,9 @@ bad-link-requires-2 c κs = search needs
 returns-2 : tie.Need-returns-2
 returns-2 c =
     let a = c .before .before .before .before .before .before .before .before .before .before .args in
-    links-second (a .words .now) (a .r) _ _ (c .before .before .before .before .before .before .before .word-at .ensures) (c .before .before .before .before .before .before .word-at2 .ensures) _ (c .before .before .before .before .bad-link .ensures) _ (c .before .bad-link2 .ensures) (c .before .before .before .if1 .left) (c .if2 .taken)
+    links-second (a .words .now) (a .r) _ _ (c .before .before .before .before .before .before .before .word-at .ensures)
+    (c .before .before .before .before .before .before .word-at2 .ensures) _ (c .before .before .before .before .bad-link .ensures) _
+    (c .before .bad-link2 .ensures) (c .before .before .before .if1 .left) (c .if2 .taken)
 
 slice-aggregate-bad-link-3 : tie.Need-slice-aggregate-bad-link-3
 slice-aggregate-bad-link-3 c = search needs
@@ -44,7 +47,12 @@ bad-link-requires-3 c κs = search needs
 returns-3 : tie.Need-returns-3
 returns-3 c =
     let a = c .before .before .before .before .before .before .before .before .before .before .before .before .before .args in
-    links-third (a .words .now) (a .r) _ _ (c .before .before .before .before .before .before .before .before .before .before .word-at .ensures) (c .before .before .before .before .before .before .before .before .before .word-at2 .ensures) _ (c .before .before .before .before .before .before .before .bad-link .ensures) _ (c .before .before .before .before .bad-link2 .ensures) _ _ (c .before .second-at .ensures) (c .bad-link3 .ensures) (c .before .before .before .before .before .before .if1 .left) (c .before .before .before .if2 .left)
+    links-third (a .words .now) (a .r) _ _
+    (c .before .before .before .before .before .before .before .before .before .before .word-at .ensures)
+    (c .before .before .before .before .before .before .before .before .before .word-at2 .ensures) _
+    (c .before .before .before .before .before .before .before .bad-link .ensures) _
+    (c .before .before .before .before .bad-link2 .ensures) _ _ (c .before .second-at .ensures) (c .bad-link3 .ensures)
+    (c .before .before .before .before .before .before .if1 .left) (c .before .before .before .if2 .left)
 
 pub bad-links-spec : {M : Type 1} → statement M
 bad-links-spec =

@@ -4,8 +4,8 @@ use mathlib.Core.Path.{refl, sym, ap, _∙_}
 use mathlib.Core.Bool.{not}
 use borrow.Author.Tests.{eq-eqb, ne-eqb}
 use lib.Dec.{eqb}
-use Rattle.input.specs.Rows.{holdsSlash, badName}
-use Rattle.input.specs.GoodName.{goodName}
+use Rattle.input.specs.meaning.Rows.{holdsSlash, badName}
+use Rattle.input.specs.meaning.GoodName.{goodName}
 use borrow.Author.Needs.{needs}
 use Rattle.input.proofs.refusal.bad_name.Statement.{statement}
 use Rattle.input.proofs.refusal.bad_name.Tie as tie
@@ -28,7 +28,12 @@ returns c =
 returns-2 : tie.Need-returns-2
 unfolding badName
 returns-2 c =
-    rw (ap (λ (k : ℕ). eqb k 5) (sym (c .before .before .word-at .ensures)) ∙ ne-eqb _ _ (c .before .if1 .left), ap (λ (k : ℕ). eqb k 8) (sym (c .before .before .word-at .ensures)) ∙ ne-eqb _ _ (c .if2 .taken)) refl
+    rw (
+      ap (λ (k : ℕ). eqb k 5) (sym (c .before .before .word-at .ensures))
+          ∙ ne-eqb _ _ (c .before .if1 .left),
+      ap (λ (k : ℕ). eqb k 8) (sym (c .before .before .word-at .ensures))
+          ∙ ne-eqb _ _ (c .if2 .taken),
+    ) refl
 
 word-at-requires-2 : tie.Need-word-at-requires-2
 word-at-requires-2 c κs = search needs
@@ -36,7 +41,15 @@ word-at-requires-2 c κs = search needs
 returns-3 : tie.Need-returns-3
 unfolding badName
 returns-3 c =
-    rw (ap (λ (k : ℕ). eqb k 5) (sym (c .before .before .before .before .word-at .ensures)) ∙ ne-eqb _ _ (c .before .before .before .if1 .left), ap (λ (k : ℕ). eqb k 8) (sym (c .before .before .before .before .word-at .ensures)) ∙ eq-eqb _ _ (c .before .before .if2 .left), ap (λ (k : ℕ). eqb k 0) (sym (c .before .word-at2 .ensures)) ∙ ne-eqb _ _ (c .if3 .taken)) refl
+    rw (
+      ap (λ (k : ℕ). eqb k 5) (sym (c .before .before .before .before .word-at .ensures))
+          ∙ ne-eqb _ _ (c .before .before .before .if1 .left),
+      ap (λ (k : ℕ). eqb k 8)
+          (sym (c .before .before .before .before .word-at .ensures))
+          ∙ eq-eqb _ _ (c .before .before .if2 .left),
+      ap (λ (k : ℕ). eqb k 0) (sym (c .before .word-at2 .ensures))
+          ∙ ne-eqb _ _ (c .if3 .taken),
+    ) refl
 
 record-text-requires-2 : tie.Need-record-text-requires-2
 record-text-requires-2 c κs = search needs
@@ -48,7 +61,15 @@ returns-4 : tie.Need-returns-4
 unfolding badName
 returns-4 c =
     (c .holds-slash .ensures ∙ ap holdsSlash (c .before .record-text2 .ensures))
-    ∙ rw (ap (λ (k : ℕ). eqb k 5) (sym (c .before .before .before .before .before .before .word-at .ensures)) ∙ ne-eqb _ _ (c .before .before .before .before .before .if1 .left), ap (λ (k : ℕ). eqb k 8) (sym (c .before .before .before .before .before .before .word-at .ensures)) ∙ eq-eqb _ _ (c .before .before .before .before .if2 .left), ap (λ (k : ℕ). eqb k 0) (sym (c .before .before .before .word-at2 .ensures)) ∙ eq-eqb _ _ (c .before .before .if3 .left)) refl
+    ∙ rw (
+      ap (λ (k : ℕ). eqb k 5) (sym (c .before .before .before .before .before .before .word-at .ensures))
+          ∙ ne-eqb _ _ (c .before .before .before .before .before .if1 .left),
+      ap (λ (k : ℕ). eqb k 8)
+          (sym (c .before .before .before .before .before .before .word-at .ensures))
+          ∙ eq-eqb _ _ (c .before .before .before .before .if2 .left),
+      ap (λ (k : ℕ). eqb k 0)
+          (sym (c .before .before .before .word-at2 .ensures)) ∙ eq-eqb _ _ (c .before .before .if3 .left),
+    ) refl
 
 pub bad-name-spec : {M : Type 1} → statement M
 bad-name-spec =

@@ -1,6 +1,6 @@
 -- By where the text ends.
 use mathlib.Core.Path.{refl}
-use Rattle.input.specs.Rows.{badText}
+use Rattle.input.specs.meaning.Rows.{badText}
 use borrow.Author.Needs.{needs}
 use Rattle.input.proofs.refusal.bad_text.Statement.{statement}
 use Rattle.input.proofs.refusal.bad_text.Tie as tie

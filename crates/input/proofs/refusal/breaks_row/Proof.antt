@@ -1,8 +1,8 @@
 -- By the row.
 use mathlib.Core.Path.{refl, _∙_}
 use borrow.Author.Tests.{eq-eqb, ne-eqb}
-use Rattle.input.specs.Rows.{badName, tooDeep}
-use Rattle.input.specs.RowsPass.{breaks}
+use Rattle.input.specs.meaning.Rows.{badName, tooDeep}
+use Rattle.input.specs.machine.RowsPass.{breaks}
 use borrow.Author.Needs.{needs}
 use Rattle.input.proofs.refusal.breaks_row.Statement.{statement}
 use Rattle.input.proofs.refusal.breaks_row.Tie as tie

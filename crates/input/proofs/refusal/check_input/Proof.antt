@@ -1,6 +1,6 @@
 -- By the rows in turn.
 use mathlib.Core.Path.{refl, sym, ap, _∙_}
-use Rattle.input.specs.RowsAnswer.{foundIn}
+use Rattle.input.specs.meaning.RowsAnswer.{foundIn}
 use Rattle.input.proofs.Rows.{sizes}
 use Rattle.input.proofs.RowsMarks.{marks-start}
 use Rattle.input.proofs.RowsFound.{verdict-one, verdict-two, verdict-later}
@@ -32,19 +32,27 @@ enum-told : tie.Need-enum-told
 enum-told c = search needs
 
 check-linked-requires : tie.Need-check-linked-requires
-check-linked-requires c κs =
-    (sym (c .before .before .before .before .before .before .wrong-size .ensures) ∙ c .before .before .before .before .before .if1 .left, sym (c .before .before .before .first-bad-links .ensures) ∙ ap foundIn (c .enum-told .given .1))
+check-linked-requires c κs = (
+  sym (c .before .before .before .before .before .before .wrong-size .ensures)
+      ∙ c .before .before .before .before .before .if1 .left,
+  sym (c .before .before .before .first-bad-links .ensures)
+      ∙ ap foundIn (c .enum-told .given .1),
+)
 
 returns-2 : tie.Need-returns-2
 returns-2 c =
     let a = c .before .before .before .before .before .before .before .before .before .before .args in
-    verdict-two (a .words .now) (a .text .now) _ (sym (c .before .before .before .before .before .before .before .wrong-size .ensures) ∙ c .before .before .before .before .before .before .if1 .left) (sym (c .before .before .before .before .first-bad-links .ensures) ∙ ap foundIn (c .before .found .given .1))
+    verdict-two (a .words .now) (a .text .now) _ (sym (c .before .before .before .before .before .before .before .wrong-size .ensures)
+    ∙ c .before .before .before .before .before .before .if1 .left)
+    (sym (c .before .before .before .before .first-bad-links .ensures) ∙ ap foundIn (c .before .found .given .1))
 
 returns-3 : tie.Need-returns-3
 returns-3 c =
     let a = c .before .before .before .before .before .before .before .before .before .before .args in
     c .check-linked .ensures
-    ∙ verdict-later (a .words .now) (a .text .now) (sym (c .before .before .before .before .before .before .before .wrong-size .ensures) ∙ c .before .before .before .before .before .before .if1 .left) (sym (c .before .before .before .before .first-bad-links .ensures) ∙ ap foundIn (c .before .enum-told .given .1))
+    ∙ verdict-later (a .words .now) (a .text .now) (sym (c .before .before .before .before .before .before .before .wrong-size .ensures)
+    ∙ c .before .before .before .before .before .before .if1 .left)
+    (sym (c .before .before .before .before .first-bad-links .ensures) ∙ ap foundIn (c .before .enum-told .given .1))
 
 pub check-input-spec : {M : Type 1} → statement M
 check-input-spec =

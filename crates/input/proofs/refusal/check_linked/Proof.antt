@@ -26,7 +26,8 @@ check-reached-requires c κs = search needs
 returns : tie.Need-returns
 returns c =
     let s = c .before .before .before .before .before .before .before in
-    c .check-reached .ensures ∙ found-rows (s .args .words .now) (s .pre .1) (s .args .text .now) _ (c .before .before .before .find-stands .ensures) (s .pre .0)
+    c .check-reached .ensures ∙ found-rows (s .args .words .now) (s .pre .1) (s .args .text .now) _
+    (c .before .before .before .find-stands .ensures) (s .pre .0)
 
 pub check-linked-spec : {M : Type 1} → statement M
 check-linked-spec =

@@ -2,8 +2,8 @@
 use Prim.Native.Nat.{_-_, _≤_}
 use mathlib.Core.Path.{_≡_, refl, ap}
 use native.Mathlib.Omega.{arith}
-use Rattle.input.specs.RowsAnswer.{foundIn}
-use Rattle.input.specs.RowsPass.{rowsFrom}
+use Rattle.input.specs.meaning.RowsAnswer.{foundIn}
+use Rattle.input.specs.machine.RowsPass.{rowsFrom}
 use Rattle.input.proofs.RowsLoops.{row-here, row-later, row-done}
 use borrow.Author.Needs.{needs}
 use Rattle.input.proofs.refusal.check_reached.Statement.{statement}
@@ -28,7 +28,9 @@ returns : tie.Need-returns Inv-loop μ-loop
 returns c =
     let a = c .before .before .before .before .before .before .before .before .before .args in
     let l = c .before .before .before .before .before .loop in
-    row-here (a .words .now) (a .text .now) (a .stands .now) (l .row) _ (l .inv .1) _ _ (c .before .before .before .before .loop-test .taken) (c .before .before .before .first-fault .ensures) (ap foundIn (c .before .found .given .1))
+    row-here (a .words .now) (a .text .now) (a .stands .now) (l .row) _ (l .inv .1) _ _
+    (c .before .before .before .before .loop-test .taken) (c .before .before .before .first-fault .ensures)
+    (ap foundIn (c .before .found .given .1))
 
 enum-told : tie.Need-enum-told Inv-loop μ-loop
 enum-told c = search needs
@@ -42,8 +44,11 @@ loop-less c = search needs
 loop-again : tie.Need-loop-again Inv-loop μ-loop
 loop-again c =
     let a = c .before .before .before .before .before .before .before .before .args in
-    let l = c .before .before .before .before .loop in
-    (omega arith, row-later (a .words .now) (a .text .now) (a .stands .now) (l .row) _ (l .inv .1) _ (c .before .before .before .loop-test .taken) (c .before .before .first-fault .ensures) (ap foundIn (c .enum-told .given .1)))
+    let l = c .before .before .before .before .loop in (
+      omega arith,
+      row-later (a .words .now) (a .text .now) (a .stands .now) (l .row) _ (l .inv .1) _
+          (c .before .before .before .loop-test .taken) (c .before .before .first-fault .ensures) (ap foundIn (c .enum-told .given .1)),
+    )
 
 returns-2 : tie.Need-returns-2 Inv-loop μ-loop
 returns-2 c =

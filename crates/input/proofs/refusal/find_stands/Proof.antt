@@ -3,8 +3,8 @@ use Prim.Native.Nat.{_-_, _≤_}
 use mathlib.Core.Path.{_≡_, refl, _∙_}
 use native.Mathlib.Omega.{arith}
 use lib.ListN.{length}
-use Rattle.input.specs.Input.{recordCount}
-use Rattle.input.specs.RowsPass.{Stands}
+use Rattle.input.specs.meaning.Input.{recordCount}
+use Rattle.input.specs.machine.RowsPass.{Stands}
 use Rattle.input.proofs.RowsStands.{stands-first, stands-more, stand-most}
 use borrow.Author.Needs.{needs}
 use Rattle.input.proofs.refusal.find_stands.Statement.{statement}
@@ -30,8 +30,13 @@ store-requires c κs = search needs
 
 loop-holds : tie.Need-loop-holds Inv-loop μ-loop
 loop-holds c =
-    let s = c .before .before .before .before .before .before .before .before in
-    (omega arith, omega (arith, c .before .before .before .before .before .record-count .ensures), refl, stands-first (s .args .words .now) (s .args .stands .now) _ _ (s .pre .1) (c .before .before .before .word-at .ensures) (c .before .before .store .ensures))
+    let s = c .before .before .before .before .before .before .before .before in (
+      omega arith,
+      omega (arith, c .before .before .before .before .before .record-count .ensures),
+      refl,
+      stands-first (s .args .words .now)
+          (s .args .stands .now) _ _ (s .pre .1) (c .before .before .before .word-at .ensures) (c .before .before .store .ensures),
+    )
 
 number-in-requires : tie.Need-number-in-requires Inv-loop μ-loop
 number-in-requires c κs = search needs
@@ -42,7 +47,13 @@ lead-on-requires c κs =
     let l = c .before .before .before .before .loop in
     let h = l .inv .3 in
     let b = c .before .before .before .before .before .before .before .before .before .before .record-count .ensures in
-    omega (arith, c .before .number-in .ensures ∙ h .tell (l .r) (omega (arith, b, h .room)), stand-most (s .args .words .now) (l .r) (l .r), b)
+    omega (
+      arith,
+      c .before .number-in .ensures ∙ h .tell (l .r) (omega (arith, b, h .room)),
+      stand-most (s .args .words .now) (l .r)
+          (l .r),
+      b,
+    )
 
 add-r : tie.Need-add-r Inv-loop μ-loop
 add-r c = search needs
@@ -52,13 +63,19 @@ loop-less c = search needs
 
 loop-again : tie.Need-loop-again Inv-loop μ-loop
 loop-again c =
-    let s = c .before .before .before .before .before .before .before .before .before .before .before .before .before .before .before .before in
+    let s = c .before .before .before .before .before .before .before .before .before .before .before .before .before .before .before
+    .before in
     let l = c .before .before .before .before .before .before .before .loop in
     let h = l .inv .3 in (
       omega arith,
       omega arith,
       c .before .before .lead-on .kept .1 .1 .1 .0 ∙ l .inv .2,
-      stands-more (s .args .words .now) (l .r) (l .stands) _ _ (l .inv .0) h (c .before .before .before .before .number-in .ensures) (omega (arith, c .before .before .before .before .before .before .before .before .before .before .before .before .before .record-count .ensures, h .room)) (c .before .before .lead-on .ensures),
+      stands-more (s .args .words .now) (l .r) (l .stands) _ _ (l .inv .0) h (c .before .before .before .before .number-in .ensures)
+          (omega (
+            arith,
+            c .before .before .before .before .before .before .before .before .before .before .before .before .before .record-count .ensures,
+            h .room,
+          )) (c .before .before .lead-on .ensures),
     )
 
 same-length : tie.Need-same-length Inv-loop μ-loop
@@ -67,7 +84,8 @@ same-length c = search needs
 returns : tie.Need-returns Inv-loop μ-loop
 returns c =
     let l = c .before .loop in
-    let e : l .r ≡ recordCount (c .before .before .before .before .before .before .before .before .before .before .args .words .now) = omega (arith, c .before .before .before .before .before .before .before .record-count .ensures) in
+    let e : l .r ≡ recordCount (c .before .before .before .before .before .before .before .before .before .before .args .words .now) = omega
+    (arith, c .before .before .before .before .before .before .before .record-count .ensures) in
     rw e at (l .inv .3)
 
 pub find-stands-spec : {M : Type 1} → statement M

@@ -3,8 +3,8 @@ use Prim.Native.Nat.{ℕ, _-_, _≤_}
 use mathlib.Core.Path.{_≡_, refl, ap, _∙_}
 use native.Mathlib.Omega.{arith}
 use lib.ListN.{length}
-use Rattle.input.specs.Rows.{badLinks, lowest, rowTwo}
-use Rattle.input.specs.RowsPass.{Marks}
+use Rattle.input.specs.meaning.Rows.{badLinks, lowest, rowTwo}
+use Rattle.input.specs.machine.RowsPass.{Marks}
 use Rattle.input.proofs.RowsLoops.{lowest-starts, lowest-here, lowest-later, lowest-done}
 use Rattle.input.proofs.RowsMarks.{marks-more}
 use borrow.Author.Needs.{needs}
@@ -56,7 +56,8 @@ loop-again c =
       omega arith,
       c .before .before .mark-links .kept .1 .0 ∙ l .inv .1,
       marks-more w (l .r) _ _ (l .inv .2) (c .before .before .mark-links .ensures),
-      lowest-later (badLinks w) _ (l .r) _ (l .inv .3) _ (c .before .before .before .before .before .before .before .loop-test .taken) (c .before .before .before .before .before .bad-links .ensures) (c .before .before .before .before .if1 .left),
+      lowest-later (badLinks w) _ (l .r) _ (l .inv .3) _ (c .before .before .before .before .before .before .before .loop-test .taken)
+          (c .before .before .before .before .before .bad-links .ensures) (c .before .before .before .before .if1 .left),
     )
 
 same-length-2 : tie.Need-same-length-2 Inv-loop μ-loop
@@ -67,7 +68,8 @@ unfolding rowTwo
 returns-2 c =
     let test = badLinks (c .before .before .before .before .before .args .words .now) in
     let l = c .before .loop in
-    lowest-done test _ (l .r) _ (l .inv .3) (c .loop-test .left) ∙ ap (λ (k : ℕ). lowest test k 0) (c .before .before .record-count .ensures)
+    lowest-done test _ (l .r) _ (l .inv .3) (c .loop-test .left)
+    ∙ ap (λ (k : ℕ). lowest test k 0) (c .before .before .record-count .ensures)
 
 pub first-bad-links-spec : {M : Type 1} → statement M
 first-bad-links-spec =

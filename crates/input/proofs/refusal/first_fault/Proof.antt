@@ -2,8 +2,8 @@
 use Prim.Native.Nat.{ℕ, _-_, _≤_}
 use mathlib.Core.Path.{_≡_, ap, _∙_}
 use native.Mathlib.Omega.{arith}
-use Rattle.input.specs.Rows.{lowest}
-use Rattle.input.specs.RowsPass.{faultBy, firstFault}
+use Rattle.input.specs.meaning.Rows.{lowest}
+use Rattle.input.specs.machine.RowsPass.{faultBy, firstFault}
 use Rattle.input.proofs.RowsLoops.{lowest-starts, lowest-here, lowest-later, lowest-done}
 use borrow.Author.Needs.{needs}
 use Rattle.input.proofs.refusal.first_fault.Statement.{statement}
@@ -45,8 +45,11 @@ loop-less c = search needs
 loop-again : tie.Need-loop-again Inv-loop μ-loop
 loop-again c =
     let a = c .before .before .before .before .before .before .before .before .args in
-    let l = c .before .before .before .loop in
-    (omega arith, lowest-later (faultBy (a .row) (a .words .now) (a .text .now) (a .stands .now)) _ (l .r) _ (l .inv .1) _ (c .before .before .loop-test .taken) (c .before .at-fault .ensures) (c .if1 .left))
+    let l = c .before .before .before .loop in (
+      omega arith,
+      lowest-later (faultBy (a .row) (a .words .now) (a .text .now) (a .stands .now)) _ (l .r) _ (l .inv .1) _
+          (c .before .before .loop-test .taken) (c .before .at-fault .ensures) (c .if1 .left),
+    )
 
 returns-2 : tie.Need-returns-2 Inv-loop μ-loop
 unfolding firstFault
@@ -54,7 +57,8 @@ returns-2 c =
     let a = c .before .before .before .before .before .before .args in
     let l = c .before .loop in
     let test = faultBy (a .row) (a .words .now) (a .text .now) (a .stands .now) in
-    lowest-done test _ (l .r) _ (l .inv .1) (c .loop-test .left) ∙ ap (λ (k : ℕ). lowest test k 0) (c .before .before .record-count .ensures)
+    lowest-done test _ (l .r) _ (l .inv .1) (c .loop-test .left)
+    ∙ ap (λ (k : ℕ). lowest test k 0) (c .before .before .record-count .ensures)
 
 pub first-fault-spec : {M : Type 1} → statement M
 first-fault-spec =

@@ -5,8 +5,8 @@ use native.Mathlib.Omega.{arith}
 use borrow.Author.Tests.{eq-eqb, ne-eqb}
 use lib.Dec.{eqb}
 use lib.ListN.{length, drop}
-use Rattle.paths_numbers.specs.Byte.{slash}
-use Rattle.queries.specs.Kind.{any}
+use Rattle.paths_numbers.specs.meaning.Byte.{slash}
+use Rattle.paths_numbers.specs.meaning.Lists.{any}
 use Rattle.input.proofs.RowsLoops.{any-here, any-later, any-none}
 use borrow.Author.Needs.{needs}
 use Rattle.input.proofs.refusal.holds_slash.Statement.{statement}

@@ -22,7 +22,9 @@ fits-alone-requires c κs = search needs
 returns : tie.Need-returns
 returns c =
     let a = c .before .before .before .before .before .before .before .args in
-    unfit-alone (a .words .now) (a .r) (a .stand) _ _ _ _ (c .before .before .before .before .before .word-at .ensures) (c .before .before .before .before .number-at .ensures) (c .before .before .before .word-at2 .ensures) (c .before .before .word-at3 .ensures) _ (c .before .fits-alone .ensures)
+    unfit-alone (a .words .now) (a .r) (a .stand) _ _ _ _ (c .before .before .before .before .before .word-at .ensures)
+    (c .before .before .before .before .number-at .ensures) (c .before .before .before .word-at2 .ensures)
+    (c .before .before .word-at3 .ensures) _ (c .before .fits-alone .ensures)
     (c .if1 .taken)
 
 has-children-requires : tie.Need-has-children-requires
@@ -31,7 +33,10 @@ has-children-requires c κs = search needs
 returns-2 : tie.Need-returns-2
 returns-2 c =
     let a = c .before .before .before .before .before .before .before .before .before .args in
-    fit-children (a .words .now) (a .r) (a .stand) _ _ _ _ (c .before .before .before .before .before .before .before .word-at .ensures) (c .before .before .before .before .before .before .number-at .ensures) (c .before .before .before .before .before .word-at2 .ensures) (c .before .before .before .before .word-at3 .ensures) _ (c .before .before .before .fits-alone .ensures)
+    fit-children (a .words .now) (a .r) (a .stand) _ _ _ _ (c .before .before .before .before .before .before .before .word-at .ensures)
+    (c .before .before .before .before .before .before .number-at .ensures)
+    (c .before .before .before .before .before .word-at2 .ensures) (c .before .before .before .before .word-at3 .ensures) _
+    (c .before .before .before .fits-alone .ensures)
     (c .before .before .if1 .left) _ (c .before .has-children .ensures) (c .if2 .taken)
 
 word-at-requires-4 : tie.Need-word-at-requires-4
@@ -40,7 +45,11 @@ word-at-requires-4 c κs = search needs
 returns-3 : tie.Need-returns-3
 returns-3 c =
     let a = c .before .before .before .before .before .before .before .before .before .before .args in
-    unfit-child (a .words .now) (a .r) (a .stand) _ _ _ _ (c .before .before .before .before .before .before .before .before .word-at .ensures) (c .before .before .before .before .before .before .before .number-at .ensures) (c .before .before .before .before .before .before .word-at2 .ensures) (c .before .before .before .before .before .word-at3 .ensures) _ (c .before .before .before .before .fits-alone .ensures)
+    unfit-child (a .words .now) (a .r) (a .stand) _ _ _ _
+    (c .before .before .before .before .before .before .before .before .word-at .ensures)
+    (c .before .before .before .before .before .before .before .number-at .ensures)
+    (c .before .before .before .before .before .before .word-at2 .ensures)
+    (c .before .before .before .before .before .word-at3 .ensures) _ (c .before .before .before .before .fits-alone .ensures)
     (c .before .before .before .if1 .left) _ (c .before .before .has-children .ensures) _ (c .before .if2 .left) (c .word-at4 .ensures)
 
 pub is-unfit-spec : {M : Type 1} → statement M

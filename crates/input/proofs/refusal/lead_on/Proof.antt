@@ -2,8 +2,8 @@
 use mathlib.Core.Path.{refl}
 use native.Mathlib.Omega.{arith}
 use borrow.Author.Tests.{eq-eqb}
-use Rattle.input.specs.Place.{childPlace, secondPlace}
-use Rattle.input.specs.RowsPass.{ledOn}
+use Rattle.input.specs.meaning.Place.{childPlace, secondPlace}
+use Rattle.input.specs.machine.RowsPass.{ledOn}
 use Rattle.input.proofs.RowsTests.{in-places}
 use Rattle.input.proofs.RowsStands.{led-three}
 use borrow.Author.Needs.{needs}
@@ -44,7 +44,12 @@ child-place-requires c κs = search needs
 
 add-store-2 : tie.Need-add-store-2
 add-store-2 c =
-    omega (arith, c .child-place .ensures, in-places (childPlace (c .before .before .before .before .before .before .before .before .before .word-at .result)) .most)
+    omega (
+      arith,
+      c .child-place .ensures,
+      in-places (childPlace
+          (c .before .before .before .before .before .before .before .before .before .word-at .result)) .most,
+    )
 
 store-requires-2 : tie.Need-store-requires-2
 store-requires-2 c κs = search needs
@@ -60,10 +65,21 @@ same-length c = search needs
 
 returns-2 : tie.Need-returns-2
 returns-2 c =
-    let a = c .before .before .before .before .before .before .before .before .before .before .before .before .before .before .before .before .before .before .before .before .before .args in
-    led-three (a .words .now) (a .r) (a .stand) (a .stands .now) _ _ _ _ _ _ _ _ _ (c .before .before .before .before .before .before .before .before .before .before .before .before .before .before .before .before .before .word-at .ensures)
-    (c .before .before .before .word-at3 .ensures) (c .before .before .before .before .before .before .before .before .before .word-at2 .ensures) (c .before .before .before .before .before .before .before .before .before .before .before .before .before .before .before .second-at .ensures) (c .before .before .before .before .before .before .before .before .before .before .before .before .before .before .second-place .ensures) (c .before .before .before .before .before .before .before .before .child-place .ensures)
-    (c .before .before .before .before .before .before .before .before .before .before .before .before .before .before .before .before .before .before .if1 .left) (c .before .before .before .before .before .before .before .before .before .before .before .before .before .store .ensures) (c .before .before .before .before .before .before .before .store2 .ensures) (c .before .before .store3 .ensures)
+    let a = c .before .before .before .before .before .before .before .before .before .before .before .before .before .before .before
+    .before .before .before .before .before .before .args in
+    led-three (a .words .now) (a .r) (a .stand) (a .stands .now) _ _ _ _ _ _ _ _ _
+    (c .before .before .before .before .before .before .before .before .before .before .before .before .before .before .before .before
+    .before .word-at .ensures)
+    (c .before .before .before .word-at3 .ensures)
+    (c .before .before .before .before .before .before .before .before .before .word-at2 .ensures)
+    (c .before .before .before .before .before .before .before .before .before .before .before .before .before .before .before
+    .second-at .ensures)
+    (c .before .before .before .before .before .before .before .before .before .before .before .before .before .before .second-place
+    .ensures) (c .before .before .before .before .before .before .before .before .child-place .ensures)
+    (c .before .before .before .before .before .before .before .before .before .before .before .before .before .before .before .before
+    .before .before .if1 .left)
+    (c .before .before .before .before .before .before .before .before .before .before .before .before .before .store .ensures)
+    (c .before .before .before .before .before .before .before .store2 .ensures) (c .before .before .store3 .ensures)
 
 pub lead-on-spec : {M : Type 1} → statement M
 lead-on-spec =

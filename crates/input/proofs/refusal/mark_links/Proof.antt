@@ -27,9 +27,14 @@ same-length c = search needs
 
 returns : tie.Need-returns
 returns c =
-    let a = c .before .before .before .before .before .before .before .before .before .before .before .before .before .before .before .before .before .args in
-    mark-three (a .words .now) (a .r) (a .marks .now) _ _ _ _ _ _ (c .before .before .before .before .before .before .before .before .before .before .before .before .store .ensures) (c .before .before .before .before .before .before .before .store2 .ensures) (c .before .before .store3 .ensures)
-    (c .before .before .before .before .before .before .before .before .before .before .before .before .before .word-at .ensures) (c .before .before .before .before .before .before .before .before .word-at2 .ensures) (c .before .before .before .second-at .ensures)
+    let a = c .before .before .before .before .before .before .before .before .before .before .before .before .before .before .before
+    .before .before .args in
+    mark-three (a .words .now) (a .r) (a .marks .now) _ _ _ _ _ _
+    (c .before .before .before .before .before .before .before .before .before .before .before .before .store .ensures)
+    (c .before .before .before .before .before .before .before .store2 .ensures) (c .before .before .store3 .ensures)
+    (c .before .before .before .before .before .before .before .before .before .before .before .before .before .word-at .ensures)
+    (c .before .before .before .before .before .before .before .before .word-at2 .ensures)
+    (c .before .before .before .second-at .ensures)
 
 pub mark-links-spec : {M : Type 1} → statement M
 mark-links-spec =

@@ -1,6 +1,6 @@
 -- By the kind.
 use mathlib.Core.Path.{refl, sym, ap, _∙_}
-use Rattle.input.specs.Input.{linksByW, numberAt}
+use Rattle.input.specs.meaning.Input.{linksByW, numberAt}
 use borrow.Author.Needs.{needs}
 use Rattle.input.proofs.refusal.number_at.Statement.{statement}
 use Rattle.input.proofs.refusal.number_at.Tie as tie
@@ -22,7 +22,8 @@ word-at-requires-2 c κs = search needs
 returns-2 : tie.Need-returns-2
 unfolding numberAt
 returns-2 c =
-    c .word-at2 .ensures ∙ rw (ap linksByW (sym (c .before .before .before .word-at .ensures)) ∙ sym (c .before .before .links-by-w .ensures) ∙ c .before .if1 .left) refl
+    c .word-at2 .ensures ∙ rw (ap linksByW (sym (c .before .before .before .word-at .ensures))
+    ∙ sym (c .before .before .links-by-w .ensures) ∙ c .before .if1 .left) refl
 
 pub number-at-spec : {M : Type 1} → statement M
 number-at-spec =

@@ -1,6 +1,6 @@
 -- By where the text starts and how long it is.
 use mathlib.Core.Path.{refl, _∙_}
-use Rattle.input.specs.Input.{textAt}
+use Rattle.input.specs.meaning.Input.{textAt}
 use borrow.Author.Needs.{needs}
 use Rattle.input.proofs.refusal.record_text.Statement.{statement}
 use Rattle.input.proofs.refusal.record_text.Tie as tie

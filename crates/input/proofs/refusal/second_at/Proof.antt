@@ -1,6 +1,6 @@
 -- By the kind.
 use mathlib.Core.Path.{refl, sym, ap, _∙_}
-use Rattle.input.specs.Input.{linksByW, secondAt}
+use Rattle.input.specs.meaning.Input.{linksByW, secondAt}
 use borrow.Author.Needs.{needs}
 use Rattle.input.proofs.refusal.second_at.Statement.{statement}
 use Rattle.input.proofs.refusal.second_at.Tie as tie
@@ -17,7 +17,8 @@ word-at-requires-2 c κs = search needs
 returns : tie.Need-returns
 unfolding secondAt
 returns c =
-    c .word-at2 .ensures ∙ rw (ap linksByW (sym (c .before .before .before .word-at .ensures)) ∙ sym (c .before .before .links-by-w .ensures) ∙ c .before .if1 .taken) refl
+    c .word-at2 .ensures ∙ rw (ap linksByW (sym (c .before .before .before .word-at .ensures))
+    ∙ sym (c .before .before .links-by-w .ensures) ∙ c .before .if1 .taken) refl
 
 returns-2 : tie.Need-returns-2
 unfolding secondAt

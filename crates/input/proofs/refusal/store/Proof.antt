@@ -1,7 +1,7 @@
 -- A record outside the list is not stored.
 use mathlib.Core.Path.{refl, sym}
 use lib.Seq.{set-out}
-use Rattle.input.specs.RowsPass.{stored}
+use Rattle.input.specs.machine.RowsPass.{stored}
 use borrow.Author.Needs.{needs}
 use Rattle.input.proofs.refusal.store.Statement.{statement}
 use Rattle.input.proofs.refusal.store.Tie as tie

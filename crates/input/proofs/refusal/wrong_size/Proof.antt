@@ -1,7 +1,7 @@
 -- By the sizes in turn.
 use mathlib.Core.Path.{refl}
 use borrow.Author.Tests.{eq-eqb, ne-eqb, le-leb, lt-leb}
-use Rattle.input.specs.Rows.{wrongSize}
+use Rattle.input.specs.meaning.Rows.{wrongSize}
 use borrow.Author.Needs.{needs}
 use Rattle.input.proofs.refusal.wrong_size.Statement.{statement}
 use Rattle.input.proofs.refusal.wrong_size.Tie as tie

@@ -1,6 +1,6 @@
 -- By the cases of the cell.
-use Rattle.input.specs.Property.{fittedCell}
-use Rattle.input.specs.Input.{spanAt}
+use Rattle.input.specs.meaning.Property.{fittedCell}
+use Rattle.input.specs.meaning.Input.{spanAt}
 use mathlib.Core.Path.{sym, ap}
 use borrow.Author.Needs.{needs}
 use Rattle.input.proofs.value_read.fitted_cell.Statement.{statement}

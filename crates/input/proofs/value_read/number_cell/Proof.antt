@@ -1,6 +1,6 @@
 -- By the cases of what was read.
-use Rattle.input.specs.Property.{numberCell}
-use Rattle.input.specs.Input.{spanAt}
+use Rattle.input.specs.meaning.Property.{numberCell}
+use Rattle.input.specs.meaning.Input.{spanAt}
 use mathlib.Core.Path.{refl, sym, ap}
 use borrow.Author.Needs.{needs}
 use Rattle.input.proofs.value_read.number_cell.Statement.{statement}

@@ -1,7 +1,7 @@
 -- By the kind of the record (ValueRead).
 use Rattle.input.proofs.ValueRead.{cell-kind, cell-reference, cell-other}
-use Rattle.input.specs.Property.{lowerCell, referenceCell}
-use Rattle.input.specs.Input.{recordAt, spanAt}
+use Rattle.input.specs.meaning.Property.{lowerCell, referenceCell}
+use Rattle.input.specs.meaning.Input.{recordAt, spanAt}
 use mathlib.Core.Path.{sym, ap, _∙_}
 use borrow.Author.Needs.{needs}
 use Rattle.input.proofs.value_read.read_cell.Statement.{statement}
@@ -44,42 +44,53 @@ returns : tie.Need-returns
 unfolding lowerCell
 returns c = let a = c .before .before .before .before .before .before .before .args in
     c .number-cell .ensures (a .words .now) (a .text .now)
-    ∙ rw (c .before .parse-int-tok .ensures, c .before .before .text-at .ensures) (cell-kind (a .words .now) (a .text .now) (a .r) (a .size) 15 (sym (c .before .before .before .before .kind-at .ensures) ∙ c .before .before .before .match .keys1))
+    ∙ rw (c .before .parse-int-tok .ensures, c .before .before .text-at .ensures)
+    (cell-kind (a .words .now) (a .text .now) (a .r) (a .size) 15
+    (sym (c .before .before .before .before .kind-at .ensures) ∙ c .before .before .before .match .keys1))
 
 returns-2 : tie.Need-returns-2
 unfolding lowerCell
 returns-2 c = let a = c .before .before .before .before .before .before .before .args in
     c .fitted-cell .ensures (a .words .now) (a .text .now)
-    ∙ rw (c .before .char-cell .ensures, c .before .before .number-at .ensures) (cell-kind (a .words .now) (a .text .now) (a .r) (a .size) 16 (sym (c .before .before .before .before .kind-at .ensures) ∙ c .before .before .before .match .keys2))
+    ∙ rw (c .before .char-cell .ensures, c .before .before .number-at .ensures)
+    (cell-kind (a .words .now) (a .text .now) (a .r) (a .size) 16
+    (sym (c .before .before .before .before .kind-at .ensures) ∙ c .before .before .before .match .keys2))
 
 returns-3 : tie.Need-returns-3
 unfolding lowerCell
 returns-3 c = let a = c .before .before .before .before .before .args in
-    c .expression-cell .ensures ∙ cell-kind (a .words .now) (a .text .now) (a .r) (a .size) 17 (sym (c .before .before .kind-at .ensures) ∙ c .before .match .keys3)
+    c .expression-cell .ensures ∙ cell-kind (a .words .now) (a .text .now) (a .r) (a .size) 17
+    (sym (c .before .before .kind-at .ensures) ∙ c .before .match .keys3)
 
 returns-4 : tie.Need-returns-4
 returns-4 c = let a = c .before .before .before .before .before .before .before .args in
     c .reference-cell .ensures (a .words .now) (a .text .now)
-    ∙ ap (referenceCell (a .size) (spanAt (a .words .now) (a .r))) (c .before .target-read .ensures (a .words .now) (a .text .now) (a .r) ∙ c .before .before .lower-phandle .ensures)
-    ∙ cell-reference (a .words .now) (a .text .now) (a .r) (a .size) (sym (c .before .before .before .before .kind-at .ensures) ∙ c .before .before .before .match .keys4)
+    ∙ ap (referenceCell (a .size) (spanAt (a .words .now) (a .r)))
+    (c .before .target-read .ensures (a .words .now) (a .text .now) (a .r) ∙ c .before .before .lower-phandle .ensures)
+    ∙ cell-reference (a .words .now) (a .text .now) (a .r) (a .size)
+    (sym (c .before .before .before .before .kind-at .ensures) ∙ c .before .before .before .match .keys4)
 
 returns-5 : tie.Need-returns-5
 unfolding lowerCell recordAt
-returns-5 c = let a = c .before .before .before .before .args in cell-kind (a .words .now) (a .text .now) (a .r) (a .size) 9 (sym (c .before .kind-at .ensures) ∙ c .match .keys5)
+returns-5 c = let a = c .before .before .before .before .args in cell-kind (a .words .now) (a .text .now) (a .r) (a .size) 9
+    (sym (c .before .kind-at .ensures) ∙ c .match .keys5)
 
 returns-6 : tie.Need-returns-6
 unfolding lowerCell
-returns-6 c = let a = c .before .before .before .before .args in cell-kind (a .words .now) (a .text .now) (a .r) (a .size) 3 (sym (c .before .kind-at .ensures) ∙ c .match .keys6)
+returns-6 c = let a = c .before .before .before .before .args in cell-kind (a .words .now) (a .text .now) (a .r) (a .size) 3
+    (sym (c .before .kind-at .ensures) ∙ c .match .keys6)
 
 returns-7 : tie.Need-returns-7
 unfolding lowerCell
-returns-7 c = let a = c .before .before .before .before .args in cell-kind (a .words .now) (a .text .now) (a .r) (a .size) 4 (sym (c .before .kind-at .ensures) ∙ c .match .keys7)
+returns-7 c = let a = c .before .before .before .before .args in cell-kind (a .words .now) (a .text .now) (a .r) (a .size) 4
+    (sym (c .before .kind-at .ensures) ∙ c .match .keys7)
 
 returns-8 : tie.Need-returns-8
 returns-8 c = let a = c .before .before .before .before .args in
     let k = c .before .kind-at .ensures in
     let r = c .match .rest in
-    cell-other (a .words .now) (a .text .now) (a .r) (a .size) (λ e. r .0 .0 .0 .0 .0 .0 .1 (k ∙ e)) (λ e. r .0 .0 .0 .0 .0 .1 (k ∙ e)) (λ e. r .0 .0 .0 .0 .1 (k ∙ e))
+    cell-other (a .words .now) (a .text .now) (a .r) (a .size) (λ e. r .0 .0 .0 .0 .0 .0 .1 (k ∙ e)) (λ e. r .0 .0 .0 .0 .0 .1 (k ∙ e))
+    (λ e. r .0 .0 .0 .0 .1 (k ∙ e))
     (λ e. r .0 .0 .0 .1 (k ∙ e)) (λ e. r .0 .0 .1 (k ∙ e)) (λ e. r .0 .1 (k ∙ e)) (λ e. r .1 (k ∙ e))
 
 pub read-cell-spec : {M : Type 1} → statement M

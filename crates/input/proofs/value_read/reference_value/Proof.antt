@@ -1,6 +1,6 @@
 -- By the cases of the reference.
-use Rattle.input.specs.Property.{referenceValue}
-use Rattle.input.specs.ValueRead.{targetGot}
+use Rattle.input.specs.meaning.Property.{referenceValue}
+use Rattle.input.specs.machine.ValueRead.{targetGot}
 use mathlib.Core.Path.{sym, ap}
 use borrow.Author.Needs.{needs}
 use Rattle.input.proofs.value_read.reference_value.Statement.{statement}

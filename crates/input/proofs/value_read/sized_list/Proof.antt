@@ -1,6 +1,6 @@
 -- By the cases of the width.
-use Rattle.input.specs.Property.{sizedList}
-use Rattle.input.specs.Input.{childAt, spanAt, chainAt}
+use Rattle.input.specs.meaning.Property.{sizedList}
+use Rattle.input.specs.meaning.Input.{childAt, spanAt, chainAt}
 use mathlib.Core.Path.{refl, sym, ap}
 use borrow.Author.Needs.{needs}
 use Rattle.input.proofs.value_read.sized_list.Statement.{statement}
@@ -19,10 +19,12 @@ int-code-requires : tie.Need-int-code-requires
 int-code-requires c κs = search needs
 
 returns : tie.Need-returns
-returns c = let r = c .before .before .before .args .r in λ words text. sym (ap (sizedList (spanAt words r) (chainAt words text (childAt words r))) (c .before .size .given .1))
+returns c = let r = c .before .before .before .args .r in λ words text. sym
+    (ap (sizedList (spanAt words r) (chainAt words text (childAt words r))) (c .before .size .given .1))
 
 returns-2 : tie.Need-returns-2
-returns-2 c = let r = c .before .before .args .r in λ words text. sym (ap (sizedList (spanAt words r) (chainAt words text (childAt words r))) (c .enum-told .given .1))
+returns-2 c = let r = c .before .before .args .r in λ words text. sym
+    (ap (sizedList (spanAt words r) (chainAt words text (childAt words r))) (c .enum-told .given .1))
 
 returns-3 : tie.Need-returns-3
 returns-3 c = λ words text. rw (c .int-code .ensures, c .before .before .size2 .given .1) refl

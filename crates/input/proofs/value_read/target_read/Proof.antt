@@ -1,5 +1,5 @@
 -- By the cases of the reference.
-use Rattle.input.specs.PhandleRead.{phandleRead}
+use Rattle.input.specs.machine.PhandleRead.{phandleRead}
 use mathlib.Core.Path.{sym, ap}
 use borrow.Author.Needs.{needs}
 use Rattle.input.proofs.value_read.target_read.Statement.{statement}

@@ -25,8 +25,10 @@ kind-at-requires : tie.Need-kind-at-requires Inv-loop μ-loop
 kind-at-requires c κs = search needs
 
 lower-label-requires : tie.Need-lower-label-requires Inv-loop μ-loop
-lower-label-requires c κs =
-    (c .before .before .before .before .before .before .before .before .before .before .pre .0, c .before .before .before .before .before .loop .inv .2 .at (c .before .before .before .before .loop-test .taken))
+lower-label-requires c κs = (
+  c .before .before .before .before .before .before .before .before .before .before .pre .0,
+  c .before .before .before .before .before .loop .inv .2 .at (c .before .before .before .before .loop-test .taken),
+)
 
 next-at-requires : tie.Need-next-at-requires Inv-loop μ-loop
 next-at-requires c κs = search needs
@@ -46,7 +48,8 @@ loop-again c =
     let k = c .before .before .kind-at .ensures in
     rw (c .next-at .ensures) (
     ⊎-elim
-    (λ w. let m = labels-more (s .pre .0) (l .inv .2) n (sym k ∙ w .0 .taken) (w .3 .ensures) in rw (w .8, w .9, w .10) (w .3 .kept .1 .1 .1 .1 .0 ∙ l .inv .0, w .3 .kept .1 .1 .1 .1 .1 .0 ∙ l .inv .1, m))
+    (λ w. let m = labels-more (s .pre .0) (l .inv .2) n (sym k ∙ w .0 .taken) (w .3 .ensures) in rw (w .8, w .9, w .10)
+    (w .3 .kept .1 .1 .1 .1 .0 ∙ l .inv .0, w .3 .kept .1 .1 .1 .1 .1 .0 ∙ l .inv .1, m))
     (λ w. let m = labels-other (s .pre .0) (l .inv .2) n (λ e. w .0 .left (k ∙ e)) in rw (w .1, w .2, w .3) (l .inv .0, l .inv .1, m))
     (c .before .if1 .came)
     )

@@ -1,9 +1,9 @@
 -- By where the reference leads (NodeReferenced).
 use mathlib.Core.Path.{_≡_, refl, sym, ap, _∙_}
-use Rattle.making.specs.PathPlaces.{pathIn}
-use Rattle.input.specs.Input.{spanAt}
-use Rattle.input.specs.PhandleRead.{labelAt, pathAt}
-use Rattle.items.specs.NodePlaced.{leadsOn}
+use Rattle.making.specs.machine.PathPlaces.{pathIn}
+use Rattle.input.specs.meaning.Input.{spanAt}
+use Rattle.input.specs.machine.PhandleRead.{labelAt, pathAt}
+use Rattle.items.specs.machine.NodePlaced.{leadsOn}
 use Rattle.input.proofs.Read.{child-there}
 use Rattle.items.proofs.NodeReferenced.{defines-bound, defines-below, defines-path, defines-none}
 use borrow.Author.Needs.{needs}
@@ -14,13 +14,21 @@ child-at-requires : tie.Need-child-at-requires
 child-at-requires c κs = search needs
 
 node-kind-requires : tie.Need-node-kind-requires
-node-kind-requires c κs = let s = c .before .before .before .before .before in (s .pre .0, child-there _ (s .pre .0) (s .args .r) (s .pre .1) _ (c .child-at .ensures))
+node-kind-requires c κs = let s = c .before .before .before .before .before in (
+  s .pre .0,
+  child-there _ (s .pre .0) (s .args .r)
+      (s .pre .1) _ (c .child-at .ensures),
+)
 
 span-at-requires : tie.Need-span-at-requires
 span-at-requires c κs = search needs
 
 node-name-span-requires : tie.Need-node-name-span-requires
-node-name-span-requires c κs = let s = c .before .before .before .before .before .before .before in (s .pre .0, child-there _ (s .pre .0) (s .args .r) (s .pre .1) _ (c .before .before .child-at .ensures))
+node-name-span-requires c κs = let s = c .before .before .before .before .before .before .before in (
+  s .pre .0,
+  child-there _ (s .pre .0)
+      (s .args .r) (s .pre .1) _ (c .before .before .child-at .ensures),
+)
 
 phandle-path-at-requires : tie.Need-phandle-path-at-requires
 phandle-path-at-requires c κs = search needs
@@ -28,8 +36,8 @@ phandle-path-at-requires c κs = search needs
 enum-known-leads : tie.Need-enum-known-leads
 enum-known-leads c = search needs
 
-binding-path-requires : tie.Need-binding-path-requires
-binding-path-requires c κs = search needs
+second-place-requires : tie.Need-second-place-requires
+second-place-requires c κs = search needs
 
 define-at-requires : tie.Need-define-at-requires
 define-at-requires c κs = search needs
@@ -37,8 +45,8 @@ define-at-requires c κs = search needs
 enum-known-leads-2 : tie.Need-enum-known-leads-2
 enum-known-leads-2 c = search needs
 
-binding-path-requires-2 : tie.Need-binding-path-requires-2
-binding-path-requires-2 c κs = search needs
+second-place-requires-2 : tie.Need-second-place-requires-2
+second-place-requires-2 c κs = search needs
 
 no-text-requires : tie.Need-no-text-requires
 no-text-requires c κs = search needs
@@ -69,13 +77,31 @@ same-length-2 c = search needs
 
 returns : tie.Need-returns
 returns c =
-    let a = c .before .before .before .before .before .before .before .before .before .before .before .before .before .before .before .before .before .before .before .before .before .args in
+    let a = c .before .before .before .before .before .before .before .before .before .before .before .before .before .before .before
+    .before .before .before .before .before .before .args in
     let words = a .words .now in
     let text = a .text .now in
-    let part = c .before .before .before .before .before .before .before .before .before .before .before .before .before .before .before .before .child-at .ensures in
-    defines-bound (a .leads) (labelAt words text (a .reference)) (pathAt words text (a .reference)) (c .before .before .before .before .before .before .before .before .before .before .before .before .before .before .before .node-kind .result) (c .before .before .before .before .before .before .before .before .before .before .before .before .before .before .span-at .result) (c .before .before .before .before .before .before .before .before .before .before .before .before .before .node-name-span .result) (spanAt words (a .r)) _ (c .before .before .before .before .define-at .ensures)
-    (rw part at (c .before .before .before .before .before .before .before .before .before .before .before .before .before .before .before .node-kind .ensures text)) (c .before .before .before .before .before .before .before .before .before .before .before .before .before .before .span-at .ensures) (c .before .before .before .before .before .before .before .before .before .before .before .before .before .node-name-span .ensures text ∙ rw (part, c .before .before .before .before .before .before .before .before .before .before .before .before .before .before .span-at .ensures) refl)
-    _ (c .before .before .before .before .before .before .before .before .before .before .leads .given .1) (ap (pathIn (a .ctx .bytes) (a .bytes .now)) (c .before .before .before .before .before .before .before .binding-path .ensures))
+    let part = c .before .before .before .before .before .before .before .before .before .before .before .before .before .before .before
+    .before .child-at .ensures in
+    defines-bound (a .leads) (labelAt words text (a .reference)) (pathAt words text (a .reference))
+    (c .before .before .before .before .before .before .before .before .before .before .before .before .before .before .before
+    .node-kind .result)
+    (c .before .before .before .before .before .before .before .before .before .before .before .before .before .before .span-at .result)
+    (c .before .before .before .before .before .before .before .before .before .before .before .before .before .node-name-span .result)
+    (spanAt words (a .r)) _ (c .before .before .before .before .define-at .ensures)
+    (rw part at
+    (c .before .before .before .before .before .before .before .before .before .before .before .before .before .before .before
+    .node-kind .ensures text))
+    (c .before .before .before .before .before .before .before .before .before .before .before .before .before .before .span-at
+    .ensures)
+    (c .before .before .before .before .before .before .before .before .before .before .before .before .before .node-name-span .ensures
+    text ∙ rw (
+      part,
+      c .before .before .before .before .before .before .before .before .before .before .before .before .before .before .span-at .ensures,
+    )
+    refl)
+    _ (c .before .before .before .before .before .before .before .before .before .before .leads .given .1)
+    (ap (pathIn (a .ctx .bytes) (a .bytes .now)) (c .before .before .before .before .before .before .before .second-place .ensures))
 
 same-length-3 : tie.Need-same-length-3
 same-length-3 c = search needs
@@ -85,13 +111,35 @@ same-length-4 c = search needs
 
 returns-2 : tie.Need-returns-2
 returns-2 c =
-    let a = c .before .before .before .before .before .before .before .before .before .before .before .before .before .before .before .before .before .before .before .before .before .before .args in
+    let a = c .before .before .before .before .before .before .before .before .before .before .before .before .before .before .before
+    .before .before .before .before .before .before .before .args in
     let words = a .words .now in
     let text = a .text .now in
-    let part = c .before .before .before .before .before .before .before .before .before .before .before .before .before .before .before .before .before .child-at .ensures in
-    defines-below (a .leads) (labelAt words text (a .reference)) (pathAt words text (a .reference)) (c .before .before .before .before .before .before .before .before .before .before .before .before .before .before .before .before .node-kind .result) (c .before .before .before .before .before .before .before .before .before .before .before .before .before .before .before .span-at .result) (c .before .before .before .before .before .before .before .before .before .before .before .before .before .before .node-name-span .result) (spanAt words (a .r)) _ (c .before .before .before .before .define .ensures)
-    (rw part at (c .before .before .before .before .before .before .before .before .before .before .before .before .before .before .before .before .node-kind .ensures text)) (c .before .before .before .before .before .before .before .before .before .before .before .before .before .before .before .span-at .ensures) (c .before .before .before .before .before .before .before .before .before .before .before .before .before .before .node-name-span .ensures text ∙ rw (part, c .before .before .before .before .before .before .before .before .before .before .before .before .before .before .before .span-at .ensures) refl)
-    _ (c .before .before .before .before .before .before .before .before .before .before .before .leads2 .given .1) (rw (c .before .before .before .before .before .before .before .before .binding-path2 .ensures, c .before .before .before .before .before .before .before .before .before .before .before .before .before .phandle-path-at .ensures, c .before .before .before .before .before .before .before .no-text .ensures) refl)
+    let part = c .before .before .before .before .before .before .before .before .before .before .before .before .before .before .before
+    .before .before .child-at .ensures in
+    defines-below (a .leads) (labelAt words text (a .reference)) (pathAt words text (a .reference))
+    (c .before .before .before .before .before .before .before .before .before .before .before .before .before .before .before .before
+    .node-kind .result)
+    (c .before .before .before .before .before .before .before .before .before .before .before .before .before .before .before .span-at
+    .result) (c .before .before .before .before .before .before .before .before .before .before .before .before .before .before
+    .node-name-span .result) (spanAt words (a .r)) _ (c .before .before .before .before .define .ensures)
+    (rw part at
+    (c .before .before .before .before .before .before .before .before .before .before .before .before .before .before .before .before
+    .node-kind .ensures text))
+    (c .before .before .before .before .before .before .before .before .before .before .before .before .before .before .before .span-at
+    .ensures)
+    (c .before .before .before .before .before .before .before .before .before .before .before .before .before .before .node-name-span
+    .ensures text ∙ rw (
+      part,
+      c .before .before .before .before .before .before .before .before .before .before .before .before .before .before .before .span-at
+          .ensures,
+    ) refl)
+    _ (c .before .before .before .before .before .before .before .before .before .before .before .leads2 .given .1)
+    (rw (
+      c .before .before .before .before .before .before .before .before .second-place2 .ensures,
+      c .before .before .before .before .before .before .before .before .before .before .before .before .before .phandle-path-at .ensures,
+      c .before .before .before .before .before .before .before .no-text .ensures,
+    ) refl)
 
 same-length-5 : tie.Need-same-length-5
 same-length-5 c = search needs
@@ -101,22 +149,35 @@ same-length-6 c = search needs
 
 returns-3 : tie.Need-returns-3
 returns-3 c =
-    let a = c .before .before .before .before .before .before .before .before .before .before .before .before .before .before .before .before .before .before .args in
+    let a = c .before .before .before .before .before .before .before .before .before .before .before .before .before .before .before
+    .before .before .before .args in
     let words = a .words .now in
     let text = a .text .now in
-    let part = c .before .before .before .before .before .before .before .before .before .before .before .before .before .child-at .ensures in
-    defines-path (a .leads) (labelAt words text (a .reference)) (pathAt words text (a .reference)) (c .before .before .before .before .before .before .before .before .before .before .before .before .node-kind .result) (c .before .before .before .before .before .before .before .before .before .before .before .span-at .result) (c .before .before .before .before .before .before .before .before .before .before .node-name-span .result) (spanAt words (a .r)) _ (c .before .before .before .before .define-text .ensures)
-    (rw part at (c .before .before .before .before .before .before .before .before .before .before .before .before .node-kind .ensures text)) (c .before .before .before .before .before .before .before .before .before .before .before .span-at .ensures) (c .before .before .before .before .before .before .before .before .before .before .node-name-span .ensures text ∙ rw (part, c .before .before .before .before .before .before .before .before .before .before .before .span-at .ensures) refl)
-    (c .before .before .before .before .before .before .before .enum-told .given .1) (c .before .before .before .before .before .before .before .before .before .phandle-path-at .ensures)
+    let part = c .before .before .before .before .before .before .before .before .before .before .before .before .before .child-at .ensures
+    in
+    defines-path (a .leads) (labelAt words text (a .reference)) (pathAt words text (a .reference))
+    (c .before .before .before .before .before .before .before .before .before .before .before .before .node-kind .result)
+    (c .before .before .before .before .before .before .before .before .before .before .before .span-at .result)
+    (c .before .before .before .before .before .before .before .before .before .before .node-name-span .result) (spanAt words (a .r)) _
+    (c .before .before .before .before .define-text .ensures)
+    (rw part at (c .before .before .before .before .before .before .before .before .before .before .before .before .node-kind .ensures
+    text)) (c .before .before .before .before .before .before .before .before .before .before .before .span-at .ensures)
+    (c .before .before .before .before .before .before .before .before .before .before .node-name-span .ensures text
+    ∙ rw (part, c .before .before .before .before .before .before .before .before .before .before .before .span-at .ensures) refl)
+    (c .before .before .before .before .before .before .before .enum-told .given .1)
+    (c .before .before .before .before .before .before .before .before .before .phandle-path-at .ensures)
 
 returns-4 : tie.Need-returns-4
-returns-4 c = let a = c .before .before .before .before .before .before .before .before .before .before .before .args in defines-none (a .leads) _ _ (ap leadsOn (c .enum-told2 .given .1))
+returns-4 c = let a = c .before .before .before .before .before .before .before .before .before .before .before .args in defines-none
+    (a .leads) _ _ (ap leadsOn (c .enum-told2 .given .1))
 
 returns-5 : tie.Need-returns-5
-returns-5 c = let a = c .before .before .before .before .before .before .before .before .before .before .before .args in defines-none (a .leads) _ _ (ap leadsOn (c .enum-told3 .given .1))
+returns-5 c = let a = c .before .before .before .before .before .before .before .before .before .before .before .args in defines-none
+    (a .leads) _ _ (ap leadsOn (c .enum-told3 .given .1))
 
 returns-6 : tie.Need-returns-6
-returns-6 c = let a = c .before .before .before .before .before .before .before .before .before .before .before .args in defines-none (a .leads) _ _ (ap leadsOn (c .enum-told4 .given .1))
+returns-6 c = let a = c .before .before .before .before .before .before .before .before .before .before .before .args in defines-none
+    (a .leads) _ _ (ap leadsOn (c .enum-told4 .given .1))
 
 pub define-leading-spec : {M : Type 1} → statement M
 define-leading-spec =
@@ -128,10 +189,10 @@ define-leading-spec =
     node-name-span-requires
     phandle-path-at-requires
     enum-known-leads
-    binding-path-requires
+    second-place-requires
     define-at-requires
     enum-known-leads-2
-    binding-path-requires-2
+    second-place-requires-2
     no-text-requires
     define-requires
     enum-told

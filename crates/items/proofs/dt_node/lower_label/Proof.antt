@@ -1,7 +1,7 @@
 -- By what the reading of its name answers (Labels).
 use mathlib.Core.Path.{_≡_}
 use borrow.Author.Needs.{needs}
-use Rattle.input.specs.Input.{recordAt}
+use Rattle.input.specs.meaning.Input.{recordAt}
 use Rattle.items.proofs.Labels.{label-bound, label-reported, label-nothing, label-read}
 use Rattle.items.proofs.dt_node.lower_label.Statement.{statement}
 use Rattle.items.proofs.dt_node.lower_label.Tie as tie
@@ -47,9 +47,23 @@ same-length-2 c = search needs
 returns : tie.Need-returns
 unfolding recordAt
 returns c =
-    let a = c .before .before .before .before .before .before .before .before .before .before .before .before .before .before .before .before .before .before .before .before .before .before .before .before .before .args in
-    label-read (a .words .now) (a .text .now) (a .r) _ (c .before .before .before .before .before .before .before .before .before .before .before .before .before .before .before .before .before .before .before .name-or-macro .result) (c .before .before .before .before .before .before .before .before .before .before .before .before .before .before .before .before .before .before .before .before .child-at .ensures) (c .before .before .before .before .before .before .before .before .before .before .before .before .before .before .before .before .before .before .before .name-or-macro .ensures (a .text .now))
-    (rw (c .before .before .before .before .before .before .before .before .before .before .before .before .before .before .before .before .before .n .given .1) (rw (c .before .before .before .before .before .before .before .before .before .before .before .before .before .before .before .text-at .ensures, c .before .before .before .before .before .before .before .before .before .before .before .before .before .before .span-at .ensures) at (label-bound _ _ (c .before .before .before .before .before .before .before .before .before .before .before .add-label .ensures) (c .before .before .before .before .bind .ensures))))
+    let a = c .before .before .before .before .before .before .before .before .before .before .before .before .before .before .before
+    .before .before .before .before .before .before .before .before .before .before .args in
+    label-read (a .words .now) (a .text .now) (a .r) _
+    (c .before .before .before .before .before .before .before .before .before .before .before .before .before .before .before .before
+    .before .before .before .name-or-macro .result)
+    (c .before .before .before .before .before .before .before .before .before .before .before .before .before .before .before .before
+    .before .before .before .before .child-at .ensures)
+    (c .before .before .before .before .before .before .before .before .before .before .before .before .before .before .before .before
+    .before .before .before .name-or-macro .ensures (a .text .now))
+    (rw (c .before .before .before .before .before .before .before .before .before .before .before .before .before .before .before .before
+    .before .n .given .1) (rw (
+      c .before .before .before .before .before .before .before .before .before .before .before .before .before .before .before .text-at
+          .ensures,
+      c .before .before .before .before .before .before .before .before .before .before .before .before .before .before .span-at .ensures,
+    )
+    at (label-bound _ _ (c .before .before .before .before .before .before .before .before .before .before .before .add-label .ensures)
+    (c .before .before .before .before .bind .ensures))))
 
 same-length-3 : tie.Need-same-length-3
 same-length-3 c = search needs
@@ -59,14 +73,20 @@ same-length-4 c = search needs
 
 returns-2 : tie.Need-returns-2
 returns-2 c =
-    let a = c .before .before .before .before .before .before .before .before .before .before .before .before .before .before .before .before .args in
-    label-read (a .words .now) (a .text .now) (a .r) _ (c .before .before .before .before .before .before .before .before .before .before .name-or-macro .result) (c .before .before .before .before .before .before .before .before .before .before .before .child-at .ensures) (c .before .before .before .before .before .before .before .before .before .before .name-or-macro .ensures (a .text .now))
-    (rw (c .before .before .before .before .before .before .before .before .m .given .1) (label-reported _ (c .before .before .before .before .undefined-macro .ensures)))
+    let a = c .before .before .before .before .before .before .before .before .before .before .before .before .before .before .before
+    .before .args in
+    label-read (a .words .now) (a .text .now) (a .r) _
+    (c .before .before .before .before .before .before .before .before .before .before .name-or-macro .result)
+    (c .before .before .before .before .before .before .before .before .before .before .before .child-at .ensures)
+    (c .before .before .before .before .before .before .before .before .before .before .name-or-macro .ensures (a .text .now))
+    (rw (c .before .before .before .before .before .before .before .before .m .given .1)
+    (label-reported _ (c .before .before .before .before .undefined-macro .ensures)))
 
 returns-3 : tie.Need-returns-3
 returns-3 c =
     let a = c .before .before .before .before .before .before .before .before .args in
-    label-read (a .words .now) (a .text .now) (a .r) _ (c .before .before .name-or-macro .result) (c .before .before .before .child-at .ensures) (c .before .before .name-or-macro .ensures (a .text .now))
+    label-read (a .words .now) (a .text .now) (a .r) _ (c .before .before .name-or-macro .result)
+    (c .before .before .before .child-at .ensures) (c .before .before .name-or-macro .ensures (a .text .now))
     (rw (c .enum-told .given .1) label-nothing)
 
 pub lower-label-spec : {M : Type 1} → statement M

@@ -2,7 +2,7 @@
 use mathlib.Core.Path.{_≡_, refl, sym, ap, _∙_}
 use mathlib.Core.Bool.{Bool}
 use mathlib.Core.List.{[]}
-use Rattle.log.specs.Meaning.{node}
+use Rattle.log.specs.meaning.Contents.{node}
 use borrow.Author.Needs.{needs}
 use Rattle.items.proofs.dt_node.node_kind.Statement.{statement}
 use Rattle.items.proofs.dt_node.node_kind.Tie as tie

@@ -17,7 +17,8 @@ same-length-2 : tie.Need-same-length-2
 same-length-2 c = search needs
 
 returns : tie.Need-returns
-returns c = node-opens (c .before .before .before .before .before .before .before .newest-path .ensures) (c .before .before .before .before .collect-labels .ensures)
+returns c = node-opens (c .before .before .before .before .before .before .before .newest-path .ensures)
+    (c .before .before .before .before .collect-labels .ensures)
 
 pub open-node-spec : {M : Type 1} → statement M
 open-node-spec =

@@ -3,12 +3,12 @@ use mathlib.Core.Path.{_≡_, refl, sym, ap, _∙_}
 use mathlib.Core.Bool.{true, false}
 use mathlib.Core.List.{List, [], _∷_}
 use Prim.Native.Nat.{ℕ}
-use Rattle.paths_numbers.specs.Path.{root, join, joined}
+use Rattle.paths_numbers.specs.meaning.Path.{root, join, joined}
 use Rattle.paths_numbers.proofs.Good.{plain-not-root}
-use Rattle.input.specs.Report.{report}
-use Rattle.input.specs.Name.{nodeNameSpan}
-use Rattle.items.specs.Lower.{at, Placed, placedAs}
-use Rattle.input.specs.Input.{childAt, spanAt, chainAt}
+use Rattle.input.specs.meaning.Report.{report}
+use Rattle.input.specs.meaning.Name.{nodeNameSpan}
+use Rattle.items.specs.meaning.Lower.{at, Placed, placedAs}
+use Rattle.input.specs.meaning.Input.{childAt, spanAt, chainAt}
 use Rattle.input.proofs.GoodNames.{full-plain}
 use Rattle.input.proofs.NameRead.{full-joined}
 use Rattle.items.proofs.NodePlaced.{places-at, places-nowhere, named-outside, named-below, root-inside, root-on-top}
@@ -36,8 +36,11 @@ returns c =
     let parts = chainAt words text (childAt words (s .args .r)) in
     let nameSpan = nodeNameSpan parts (spanAt words (s .args .r)) in
     λ n e.
-    places-nowhere (λ p. placedAs p n nameSpan []) (report 5 [] nameSpan ∷ []) true (sym (c .before .before .before .before .before .before .before .before .is-top .ensures) ∙ c .before .before .before .before .before .before .before .if1 .taken)
-    (λ p q. named-outside n nameSpan p (plain-not-root n (full-plain parts n (s .pre .1 .1 .1) e .slashless)) q) (c .before .before .before .before .refuse-node .ensures text)
+    places-nowhere (λ p. placedAs p n nameSpan []) (report 5 [] nameSpan ∷ []) true
+    (sym (c .before .before .before .before .before .before .before .before .is-top .ensures)
+    ∙ c .before .before .before .before .before .before .before .if1 .taken)
+    (λ p q. named-outside n nameSpan p (plain-not-root n (full-plain parts n (s .pre .1 .1 .1) e .slashless)) q)
+    (c .before .before .before .before .refuse-node .ensures text)
 
 define-below-requires : tie.Need-define-below-requires
 define-below-requires c κs = search needs
@@ -57,10 +60,13 @@ returns-2 c =
     let parts = chainAt words text first in
     let nameSpan = nodeNameSpan parts (spanAt words (s .args .r)) in
     λ n e.
-    places-at (λ p. placedAs p n nameSpan []) false (sym (c .before .before .before .before .before .before .before .before .before .before .is-top .ensures) ∙ c .before .before .before .before .before .before .before .before .before .if1 .left)
+    places-at (λ p. placedAs p n nameSpan []) false (sym
+    (c .before .before .before .before .before .before .before .before .before .before .is-top .ensures)
+    ∙ c .before .before .before .before .before .before .before .before .before .if1 .left)
     (λ p q.
     named-below n nameSpan p (plain-not-root n (full-plain parts n (s .pre .1 .1 .1) e .slashless)) q
-    ∙ ap (λ (x : List ℕ). record { place = at x; reports = [] }) (full-joined words text first (s .args .full) (s .pre .1 .1 .0) (s .pre .1 .1 .1) p n e))
+    ∙ ap (λ (x : List ℕ). record { place = at x; reports = [] })
+    (full-joined words text first (s .args .full) (s .pre .1 .1 .0) (s .pre .1 .1 .1) p n e))
     (c .before .before .before .before .before .before .define-below .ensures)
 
 pub place-below-spec : {M : Type 1} → statement M

@@ -1,6 +1,6 @@
 -- By what the reference is read as (NodeReferenced).
 use mathlib.Core.Path.{_≡_, refl, sym, ap, _∙_}
-use Rattle.input.specs.PhandleRead.{phandleRead}
+use Rattle.input.specs.machine.PhandleRead.{phandleRead}
 use Rattle.items.proofs.Reported.{reports-none}
 use Rattle.items.proofs.NodeReferenced.{read-named, read-nowhere}
 use borrow.Author.Needs.{needs}
@@ -24,21 +24,30 @@ enum-told-2 c = search needs
 
 place-resolved-requires : tie.Need-place-resolved-requires
 unfolding phandleRead
-place-resolved-requires c κs = let s = c .before .before .before .before .before .before .before .before .before in (s .pre .0, (s .pre .1 .0, rw (c .before .before .enum-told2 .given .1) refl))
+place-resolved-requires c κs = let s = c .before .before .before .before .before .before .before .before .before in (
+  s .pre .0,
+  (s .pre .1 .0, rw (c .before .before .enum-told2 .given .1) refl),
+)
 
 enum-told-3 : tie.Need-enum-told-3
 enum-told-3 c = search needs
 
 place-resolved-requires-2 : tie.Need-place-resolved-requires-2
 unfolding phandleRead
-place-resolved-requires-2 c κs = let s = c .before .before .before .before .before .before .before .before .before in (s .pre .0, (s .pre .1 .0, rw (c .before .before .enum-told3 .given .1) refl))
+place-resolved-requires-2 c κs = let s = c .before .before .before .before .before .before .before .before .before in (
+  s .pre .0,
+  (s .pre .1 .0, rw (c .before .before .enum-told3 .given .1) refl),
+)
 
 enum-told-4 : tie.Need-enum-told-4
 enum-told-4 c = search needs
 
 place-resolved-requires-3 : tie.Need-place-resolved-requires-3
 unfolding phandleRead
-place-resolved-requires-3 c κs = let s = c .before .before .before .before .before .before .before .before .before in (s .pre .0, (s .pre .1 .0, rw (c .before .before .enum-told4 .given .1) refl))
+place-resolved-requires-3 c κs = let s = c .before .before .before .before .before .before .before .before .before in (
+  s .pre .0,
+  (s .pre .1 .0, rw (c .before .before .enum-told4 .given .1) refl),
+)
 
 same-length : tie.Need-same-length
 same-length c = search needs
@@ -49,17 +58,23 @@ same-length-2 c = search needs
 returns : tie.Need-returns
 unfolding phandleRead
 returns c =
-    let a = c .before .before .before .before .before .before .before .before .before .before .before .before .before .before .before .args in
+    let a = c .before .before .before .before .before .before .before .before .before .before .before .before .before .before .before .args
+    in
     λ parent.
-    read-nowhere _ (phandleRead (a .words .now) (a .text .now) (a .reference) (c .before .before .before .before .before .before .before .before .before .before .lower-phandle .result)) (c .before .before .before .before .before .before .before .before .before .before .lower-phandle .ensures) (rw (c .before .before .before .before .before .before .before .before .read .given .1) refl)
-    (rw (c .before .before .before .before .before .before .before .before .read .given .1) (c .before .before .before .before .undefined-macro .ensures))
+    read-nowhere _ (phandleRead (a .words .now) (a .text .now) (a .reference)
+    (c .before .before .before .before .before .before .before .before .before .before .lower-phandle .result))
+    (c .before .before .before .before .before .before .before .before .before .before .lower-phandle .ensures)
+    (rw (c .before .before .before .before .before .before .before .before .read .given .1) refl)
+    (rw (c .before .before .before .before .before .before .before .before .read .given .1)
+    (c .before .before .before .before .undefined-macro .ensures))
 
 returns-2 : tie.Need-returns-2
 unfolding phandleRead
 returns-2 c =
     let a = c .before .before .before .before .before .before .before .args in
     λ parent.
-    read-nowhere _ (phandleRead (a .words .now) (a .text .now) (a .reference) (c .before .before .lower-phandle .result)) (c .before .before .lower-phandle .ensures) (rw (c .enum-told .given .1) refl)
+    read-nowhere _ (phandleRead (a .words .now) (a .text .now) (a .reference) (c .before .before .lower-phandle .result))
+    (c .before .before .lower-phandle .ensures) (rw (c .enum-told .given .1) refl)
     (rw (c .enum-told .given .1) reports-none)
 
 same-length-3 : tie.Need-same-length-3
@@ -72,7 +87,11 @@ returns-3 : tie.Need-returns-3
 unfolding phandleRead
 returns-3 c =
     let a = c .before .before .before .before .before .before .before .before .before .before .before .before .before .before .args in
-    λ parent. read-named _ (phandleRead (a .words .now) (a .text .now) (a .reference) (c .before .before .before .before .before .before .before .before .before .lower-phandle .result)) (c .before .before .before .before .before .before .before .before .before .lower-phandle .ensures) _ (rw (c .before .before .before .before .before .before .before .enum-told2 .given .1) refl) (c .before .before .before .before .place-resolved .ensures parent)
+    λ parent. read-named _ (phandleRead (a .words .now) (a .text .now) (a .reference)
+    (c .before .before .before .before .before .before .before .before .before .lower-phandle .result))
+    (c .before .before .before .before .before .before .before .before .before .lower-phandle .ensures) _
+    (rw (c .before .before .before .before .before .before .before .enum-told2 .given .1) refl)
+    (c .before .before .before .before .place-resolved .ensures parent)
 
 same-length-5 : tie.Need-same-length-5
 same-length-5 c = search needs
@@ -84,7 +103,11 @@ returns-4 : tie.Need-returns-4
 unfolding phandleRead
 returns-4 c =
     let a = c .before .before .before .before .before .before .before .before .before .before .before .before .before .before .args in
-    λ parent. read-named _ (phandleRead (a .words .now) (a .text .now) (a .reference) (c .before .before .before .before .before .before .before .before .before .lower-phandle .result)) (c .before .before .before .before .before .before .before .before .before .lower-phandle .ensures) _ (rw (c .before .before .before .before .before .before .before .enum-told3 .given .1) refl) (c .before .before .before .before .place-resolved2 .ensures parent)
+    λ parent. read-named _ (phandleRead (a .words .now) (a .text .now) (a .reference)
+    (c .before .before .before .before .before .before .before .before .before .lower-phandle .result))
+    (c .before .before .before .before .before .before .before .before .before .lower-phandle .ensures) _
+    (rw (c .before .before .before .before .before .before .before .enum-told3 .given .1) refl)
+    (c .before .before .before .before .place-resolved2 .ensures parent)
 
 same-length-7 : tie.Need-same-length-7
 same-length-7 c = search needs
@@ -96,7 +119,11 @@ returns-5 : tie.Need-returns-5
 unfolding phandleRead
 returns-5 c =
     let a = c .before .before .before .before .before .before .before .before .before .before .before .before .before .before .args in
-    λ parent. read-named _ (phandleRead (a .words .now) (a .text .now) (a .reference) (c .before .before .before .before .before .before .before .before .before .lower-phandle .result)) (c .before .before .before .before .before .before .before .before .before .lower-phandle .ensures) _ (rw (c .before .before .before .before .before .before .before .enum-told4 .given .1) refl) (c .before .before .before .before .place-resolved3 .ensures parent)
+    λ parent. read-named _ (phandleRead (a .words .now) (a .text .now) (a .reference)
+    (c .before .before .before .before .before .before .before .before .before .lower-phandle .result))
+    (c .before .before .before .before .before .before .before .before .before .lower-phandle .ensures) _
+    (rw (c .before .before .before .before .before .before .before .enum-told4 .given .1) refl)
+    (c .before .before .before .before .place-resolved3 .ensures parent)
 
 pub place-by-reference-spec : {M : Type 1} → statement M
 place-by-reference-spec =

@@ -19,7 +19,13 @@ child-at-requires : tie.Need-child-at-requires
 child-at-requires c κs = search needs
 
 open-node-requires : tie.Need-open-node-requires
-open-node-requires c κs = let s = c .before .before .before .before .before .before .before .before .before .before .before .before .before .before .before .before .before .before .before in (s .pre .0, child-there _ (s .pre .0) (s .args .r) (s .pre .1 .0) _ (c .before .before .child-at .ensures))
+open-node-requires c
+    κs = let s = c .before .before .before .before .before .before .before .before .before .before .before .before .before .before .before
+    .before .before .before .before in (
+      s .pre .0,
+      child-there _ (s .pre .0) (s .args .r) (s .pre .1 .0) _
+          (c .before .before .child-at .ensures),
+    )
 
 same-length : tie.Need-same-length
 same-length c = search needs
@@ -29,12 +35,23 @@ same-length-2 c = search needs
 
 returns : tie.Need-returns
 returns c =
-    let s = c .before .before .before .before .before .before .before .before .before .before .before .before .before .before .before .before .before .before .before .before .before .before .before .before .before .before in
+    let s = c .before .before .before .before .before .before .before .before .before .before .before .before .before .before .before
+    .before .before .before .before .before .before .before .before .before .before .before in
     let a = s .args in
-    let f = c .before .before .before .before .before .before .before .before .before .before .before .before .before .before .before .before .before .before .before .resolve-phandle .ensures in
+    let f = c .before .before .before .before .before .before .before .before .before .before .before .before .before .before .before
+    .before .before .before .before .resolve-phandle .ensures in
     λ parent.
-    place-found (a .ctx) (a .out .now) (a .bytes .now) _ _ _ (c .before .before .before .before .before .before .before .before .before .before .before .before .before .before .before .before .before .before .before .resolve-phandle .result) (f .1) (f .0 _ (s .pre .1 .1)) _ (sym (c .before .before .before .before .before .before .before .before .before .before .before .before .before .before .before .before .before .before .leads-on .ensures) ∙ c .before .before .before .before .before .before .before .before .before .before .before .before .before .before .before .before .before .if1 .taken) (c .before .before .before .before .before .before .before .before .before .before .before .before .before .before .define-leading .ensures)
-    (rw (c .before .before .before .before .before .before .before .before .before .child-at .ensures) at (c .before .before .before .before .before .before .open-node .ensures))
+    place-found (a .ctx) (a .out .now) (a .bytes .now) _ _ _
+    (c .before .before .before .before .before .before .before .before .before .before .before .before .before .before .before .before
+    .before .before .before .resolve-phandle .result) (f .1) (f .0 _ (s .pre .1 .1)) _
+    (sym (c .before .before .before .before .before .before .before .before .before .before .before .before .before .before .before
+    .before .before .before .leads-on .ensures)
+    ∙ c .before .before .before .before .before .before .before .before .before .before .before .before .before .before .before .before
+    .before .if1 .taken)
+    (c .before .before .before .before .before .before .before .before .before .before .before .before .before .before .define-leading
+    .ensures)
+    (rw (c .before .before .before .before .before .before .before .before .before .child-at .ensures) at
+    (c .before .before .before .before .before .before .open-node .ensures))
 
 sets-overlay-in-requires : tie.Need-sets-overlay-in-requires
 sets-overlay-in-requires c κs = search needs
@@ -59,13 +76,24 @@ same-length-4 c = search needs
 
 returns-2 : tie.Need-returns-2
 returns-2 c =
-    let s = c .before .before .before .before .before .before .before .before .before .before .before .before .before .before .before .before .before .before .before .before .before in
+    let s = c .before .before .before .before .before .before .before .before .before .before .before .before .before .before .before
+    .before .before .before .before .before .before in
     let a = s .args in
-    let f = c .before .before .before .before .before .before .before .before .before .before .before .before .before .before .resolve-phandle .ensures in
+    let f = c .before .before .before .before .before .before .before .before .before .before .before .before .before .before
+    .resolve-phandle .ensures in
     λ parent.
-    place-missing (a .ctx) (a .out .now) (a .bytes .now) (c .before .before .before .before .before .before .before .before .before .before .before .before .before .before .resolve-phandle .result) (a .words .now) (a .text .now) (a .reference) (a .kind) (f .1) (f .0 _ (s .pre .1 .1))
-    (sym (c .before .before .before .before .before .before .before .before .before .before .before .before .before .leads-on .ensures) ∙ c .before .before .before .before .before .before .before .before .before .before .before .before .if1 .left) (c .before .before .before .before .before .before .before .before .before .before .sets-overlay-in .ensures (a .bytes .now))
-    (rw (c .before .before .before .before .before .before .before .before .before .phandle-label-at .ensures, c .before .before .before .before .before .before .before .before .phandle-path-at .ensures, c .before .before .before .before .before .before .before .span-at .ensures) at (c .before .before .before .before .report-unresolved .ensures))
+    place-missing (a .ctx) (a .out .now) (a .bytes .now)
+    (c .before .before .before .before .before .before .before .before .before .before .before .before .before .before .resolve-phandle
+    .result) (a .words .now) (a .text .now) (a .reference) (a .kind) (f .1) (f .0 _ (s .pre .1 .1))
+    (sym (c .before .before .before .before .before .before .before .before .before .before .before .before .before .leads-on .ensures)
+    ∙ c .before .before .before .before .before .before .before .before .before .before .before .before .if1 .left)
+    (c .before .before .before .before .before .before .before .before .before .before .sets-overlay-in .ensures (a .bytes .now))
+    (rw (
+      c .before .before .before .before .before .before .before .before .before .phandle-label-at .ensures,
+      c .before .before .before .before .before .before .before .before .phandle-path-at .ensures,
+      c .before .before .before .before .before .before .before .span-at .ensures,
+    ) at
+    (c .before .before .before .before .report-unresolved .ensures))
 
 pub place-resolved-spec : {M : Type 1} → statement M
 place-resolved-spec =

@@ -4,12 +4,12 @@ use mathlib.Core.Bool.{true, false}
 use borrow.Author.Tests.{not-true, not-false}
 use mathlib.Core.List.{List, [], _∷_}
 use Prim.Native.Nat.{ℕ}
-use Rattle.paths_numbers.specs.Path.{root, join, joined}
+use Rattle.paths_numbers.specs.meaning.Path.{root, join, joined}
 use Rattle.paths_numbers.proofs.Good.{plain-not-root}
-use Rattle.input.specs.Report.{report}
-use Rattle.input.specs.Name.{nodeNameSpan}
-use Rattle.items.specs.Lower.{at, Placed, placedAs}
-use Rattle.input.specs.Input.{childAt, spanAt, chainAt}
+use Rattle.input.specs.meaning.Report.{report}
+use Rattle.input.specs.meaning.Name.{nodeNameSpan}
+use Rattle.items.specs.meaning.Lower.{at, Placed, placedAs}
+use Rattle.input.specs.meaning.Input.{childAt, spanAt, chainAt}
 use Rattle.input.proofs.GoodNames.{full-plain}
 use Rattle.input.proofs.NameRead.{full-joined}
 use Rattle.items.proofs.NodePlaced.{places-at, places-nowhere, named-outside, named-below, root-inside, root-on-top}
@@ -35,7 +35,9 @@ returns c =
     let words = s .args .words .now in
     let text = s .args .text .now in
     let nameSpan = nodeNameSpan (chainAt words text (childAt words (s .args .r))) (spanAt words (s .args .r)) in
-    places-nowhere (λ p. placedAs p root nameSpan []) (report 6 [] nameSpan ∷ []) false (sym (c .before .before .before .before .before .before .before .before .is-top .ensures) ∙ not-true _ (c .before .before .before .before .before .before .before .if1 .taken))
+    places-nowhere (λ p. placedAs p root nameSpan []) (report 6 [] nameSpan ∷ []) false
+    (sym (c .before .before .before .before .before .before .before .before .is-top .ensures)
+    ∙ not-true _ (c .before .before .before .before .before .before .before .if1 .taken))
     (λ p q. root-inside nameSpan p q) (c .before .before .before .before .refuse-node .ensures text)
 
 slice-aggregate-define-there : tie.Need-slice-aggregate-define-there
@@ -52,11 +54,14 @@ same-length-4 c = search needs
 
 returns-2 : tie.Need-returns-2
 returns-2 c =
-    let s = c .before .before .before .before .before .before .before .before .before .before .before .before .before .before .before .before in
+    let s = c .before .before .before .before .before .before .before .before .before .before .before .before .before .before .before
+    .before in
     let words = s .args .words .now in
     let text = s .args .text .now in
     let nameSpan = nodeNameSpan (chainAt words text (childAt words (s .args .r))) (spanAt words (s .args .r)) in
-    places-at (λ p. placedAs p root nameSpan []) true (sym (c .before .before .before .before .before .before .before .before .before .before .before .is-top .ensures) ∙ not-false _ (c .before .before .before .before .before .before .before .before .before .before .if1 .left))
+    places-at (λ p. placedAs p root nameSpan []) true (sym
+    (c .before .before .before .before .before .before .before .before .before .before .before .is-top .ensures)
+    ∙ not-false _ (c .before .before .before .before .before .before .before .before .before .before .if1 .left))
     (λ p q. root-on-top nameSpan p q) (c .before .before .before .before .before .before .define-there .ensures (s .args .parent))
 
 pub place-root-spec : {M : Type 1} → statement M

@@ -14,7 +14,11 @@ span-at-requires : tie.Need-span-at-requires
 span-at-requires c κs = search needs
 
 node-name-span-requires : tie.Need-node-name-span-requires
-node-name-span-requires c κs = let s = c .before .before .before .before .before in (s .pre .0, child-there _ (s .pre .0) (s .args .r) (s .pre .1) _ (c .before .child-at .ensures))
+node-name-span-requires c κs = let s = c .before .before .before .before .before in (
+  s .pre .0,
+  child-there _ (s .pre .0) (s .args .r)
+      (s .pre .1) _ (c .before .child-at .ensures),
+)
 
 slice-aggregate-emit : tie.Need-slice-aggregate-emit
 slice-aggregate-emit c = search needs
@@ -29,7 +33,12 @@ same-length-2 : tie.Need-same-length-2
 same-length-2 c = search needs
 
 returns : tie.Need-returns
-returns c = λ text. reported _ [] _ (c .before .before .before .before .before .before .before .before .node-name-span .ensures text ∙ rw (c .before .before .before .before .before .before .before .before .before .before .child-at .ensures, c .before .before .before .before .before .before .before .before .before .span-at .ensures) refl) (c .before .before .before .before .emit .ensures)
+returns c = λ text. reported _ [] _ (c .before .before .before .before .before .before .before .before .node-name-span .ensures text
+    ∙ rw (
+      c .before .before .before .before .before .before .before .before .before .before .child-at .ensures,
+      c .before .before .before .before .before .before .before .before .before .span-at .ensures,
+    ) refl)
+    (c .before .before .before .before .emit .ensures)
 
 pub refuse-node-spec : {M : Type 1} → statement M
 refuse-node-spec =

@@ -26,7 +26,14 @@ same-length-2 : tie.Need-same-length-2
 same-length-2 c = search needs
 
 returns : tie.Need-returns
-returns c = settles-kept _ _ _ _ (c .before .before .before .before .before .before .before .before .before .before .before .if1 .taken) (rw (c .before .before .before .before .before .before .before .before .phandle-label-at .ensures, c .before .before .before .before .before .before .before .phandle-path-at .ensures, c .before .before .before .before .before .before .before .before .before .before .span-at .ensures, c .before .before .before .before .before .before .before .before .before .span-at2 .ensures) at (c .before .before .before .before .leave-kept .ensures))
+returns c = settles-kept _ _ _ _ (c .before .before .before .before .before .before .before .before .before .before .before .if1 .taken)
+    (rw (
+      c .before .before .before .before .before .before .before .before .phandle-label-at .ensures,
+      c .before .before .before .before .before .before .before .phandle-path-at .ensures,
+      c .before .before .before .before .before .before .before .before .before .before .span-at .ensures,
+      c .before .before .before .before .before .before .before .before .before .span-at2 .ensures,
+    ) at
+    (c .before .before .before .before .leave-kept .ensures))
 
 leave-dropped-requires : tie.Need-leave-dropped-requires
 leave-dropped-requires c κs = search needs
@@ -38,7 +45,8 @@ same-length-4 : tie.Need-same-length-4
 same-length-4 c = search needs
 
 returns-2 : tie.Need-returns-2
-returns-2 c = settles-dropped _ _ _ _ (c .before .before .before .before .before .before .before .if1 .left) (c .before .before .before .before .leave-dropped .ensures)
+returns-2 c = settles-dropped _ _ _ _ (c .before .before .before .before .before .before .before .if1 .left)
+    (c .before .before .before .before .leave-dropped .ensures)
 
 pub settle-aside-spec : {M : Type 1} → statement M
 settle-aside-spec =

@@ -6,7 +6,8 @@ use Rattle.items.proofs.dt_property.define_property.Statement.{statemen
 use Rattle.items.proofs.dt_property.define_property.Tie as tie
 
 returns : tie.Need-returns
-returns c = let a = c .before .before .before .before .before .args in property-dropped-at (a .words .now) (a .text .now) (a .r) (a .f) (a .keep) (not-true _ (c .if1 .taken))
+returns c = let a = c .before .before .before .before .before .args in property-dropped-at (a .words .now) (a .text .now) (a .r) (a .f)
+    (a .keep) (not-true _ (c .if1 .taken))
 
 span-at-requires : tie.Need-span-at-requires
 span-at-requires c κs = search needs
@@ -15,7 +16,11 @@ child-at-requires : tie.Need-child-at-requires
 child-at-requires c κs = search needs
 
 property-name-span-requires : tie.Need-property-name-span-requires
-property-name-span-requires c κs = let s = c .before .before .before .before .before .before .before in (s .pre .0, rw (c .child-at .ensures) (s .pre .1))
+property-name-span-requires c κs = let s = c .before .before .before .before .before .before .before in (
+  s .pre .0,
+  rw
+      (c .child-at .ensures) (s .pre .1),
+)
 
 name-text-requires : tie.Need-name-text-requires
 name-text-requires c κs = search needs
@@ -33,9 +38,16 @@ same-length-2 : tie.Need-same-length-2
 same-length-2 c = search needs
 
 returns-2 : tie.Need-returns-2
-returns-2 c = let a = c .before .before .before .before .before .before .before .before .before .before .before .before .before .before .before .before .before .args in
-    property-kept-at (a .words .now) (a .text .now) (a .r) (a .f) (a .keep) (not-false _ (c .before .before .before .before .before .before .before .before .before .before .before .before .if1 .left)) (c .before .before .before .before .before .before .before .before .before .before .before .span-at .ensures)
-    (rw (c .before .before .before .before .before .before .before .before .before .before .child-at .ensures) at (c .before .before .before .before .before .before .before .before .before .property-name-span .ensures (a .text .now))) (c .before .before .before .before .before .before .name-text .ensures) (c .before .before .before .before .before .name-text2 .ensures) (c .before .before .before .before .define .ensures)
+returns-2
+    c = let a = c .before .before .before .before .before .before .before .before .before .before .before .before .before .before .before
+    .before .before .args in
+    property-kept-at (a .words .now) (a .text .now) (a .r) (a .f) (a .keep)
+    (not-false _ (c .before .before .before .before .before .before .before .before .before .before .before .before .if1 .left))
+    (c .before .before .before .before .before .before .before .before .before .before .before .span-at .ensures)
+    (rw (c .before .before .before .before .before .before .before .before .before .before .child-at .ensures) at
+    (c .before .before .before .before .before .before .before .before .before .property-name-span .ensures (a .text .now)))
+    (c .before .before .before .before .before .before .name-text .ensures)
+    (c .before .before .before .before .before .name-text2 .ensures) (c .before .before .before .before .define .ensures)
 
 pub define-property-spec : {M : Type 1} → statement M
 define-property-spec =

@@ -1,6 +1,6 @@
 -- By the cases of what was read (Filled).
 use Rattle.items.proofs.Filled.{adding-cells, fills-reports, same-fills}
-use Rattle.input.specs.ValueRead.{cellMade}
+use Rattle.input.specs.machine.ValueRead.{cellMade}
 use mathlib.Core.Path.{sym, ap, _∙_}
 use borrow.Author.Needs.{needs}
 use Rattle.items.proofs.dt_property.lower_cell.Statement.{statement}
@@ -34,8 +34,12 @@ same-length-2 : tie.Need-same-length-2
 same-length-2 c = search needs
 
 returns : tie.Need-returns
-returns c = let a = c .before .before .before .before .before .before .before .before .before .before .before .before .before .before .before .args in
-    same-fills (sym (ap (cellMade (a .words .now) (a .text .now) (a .r)) (c .before .before .before .before .before .before .before .before .n .given .1)) ∙ c .before .before .before .before .before .before .before .before .before .before .read-cell .ensures) (c .before .before .before .before .push-number .ensures)
+returns c = let a = c .before .before .before .before .before .before .before .before .before .before .before .before .before .before
+    .before .args in
+    same-fills (sym (ap (cellMade (a .words .now) (a .text .now) (a .r))
+    (c .before .before .before .before .before .before .before .before .n .given .1))
+    ∙ c .before .before .before .before .before .before .before .before .before .before .read-cell .ensures)
+    (c .before .before .before .before .push-number .ensures)
 
 same-length-3 : tie.Need-same-length-3
 same-length-3 c = search needs
@@ -44,8 +48,13 @@ same-length-4 : tie.Need-same-length-4
 same-length-4 c = search needs
 
 returns-2 : tie.Need-returns-2
-returns-2 c = let a = c .before .before .before .before .before .before .before .before .before .before .before .before .before .before .before .args in
-    same-fills (sym (ap (cellMade (a .words .now) (a .text .now) (a .r)) (c .before .before .before .before .before .before .before .before .kind .given .1)) ∙ c .before .before .before .before .before .before .before .before .before .before .read-cell .ensures) (c .before .before .before .before .push-reference .ensures)
+returns-2
+    c = let a = c .before .before .before .before .before .before .before .before .before .before .before .before .before .before .before
+    .args in
+    same-fills (sym (ap (cellMade (a .words .now) (a .text .now) (a .r))
+    (c .before .before .before .before .before .before .before .before .kind .given .1))
+    ∙ c .before .before .before .before .before .before .before .before .before .before .read-cell .ensures)
+    (c .before .before .before .before .push-reference .ensures)
 
 same-length-5 : tie.Need-same-length-5
 same-length-5 c = search needs
@@ -54,8 +63,12 @@ same-length-6 : tie.Need-same-length-6
 same-length-6 c = search needs
 
 returns-3 : tie.Need-returns-3
-returns-3 c = let a = c .before .before .before .before .before .before .before .before .before .before .before .before .before .before .before .args in
-    same-fills (sym (ap (cellMade (a .words .now) (a .text .now) (a .r)) (c .before .before .before .before .before .before .before .before .report .given .1)) ∙ c .before .before .before .before .before .before .before .before .before .before .read-cell .ensures)
+returns-3
+    c = let a = c .before .before .before .before .before .before .before .before .before .before .before .before .before .before .before
+    .args in
+    same-fills (sym (ap (cellMade (a .words .now) (a .text .now) (a .r))
+    (c .before .before .before .before .before .before .before .before .report .given .1))
+    ∙ c .before .before .before .before .before .before .before .before .before .before .read-cell .ensures)
     (fills-reports adding-cells (a .keep) _ (c .before .before .before .before .emit-report .ensures))
 
 pub lower-cell-spec : {M : Type 1} → statement M

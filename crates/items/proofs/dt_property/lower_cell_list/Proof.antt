@@ -1,7 +1,7 @@
--- The list, and then its cells (Filled); the level suffices for them (Read).
+-- The list, and then its cells (Filled); the nesting suffices for them (Read).
 use Rattle.items.proofs.Filled.{list-then}
-use Rattle.input.proofs.Read.{some-level, children-in}
-use Rattle.paths_numbers.specs.Cell.{bitsOf}
+use Rattle.input.proofs.Read.{some-nesting, children-in}
+use Rattle.paths_numbers.specs.meaning.Cell.{bitsOf}
 use native.Mathlib.Omega.{arith}
 use borrow.Author.Needs.{needs}
 use Rattle.items.proofs.dt_property.lower_cell_list.Statement.{statement}
@@ -14,11 +14,16 @@ child-at-requires : tie.Need-child-at-requires
 child-at-requires c κs = search needs
 
 sub-lower-cells : tie.Need-sub-lower-cells
-sub-lower-cells c = let s = c .before .before .before .before .before .before .before .before .before .before .before .before in omega (arith, some-level (s .args .words .now) (s .args .text .now) (s .pre .0) (s .args .r) (s .args .level) (s .pre .1))
+sub-lower-cells c = let s = c .before .before .before .before .before .before .before .before .before .before .before .before in omega
+    (arith, some-nesting (s .args .words .now) (s .args .text .now) (s .pre .0) (s .args .r) (s .args .nesting) (s .pre .1))
 
 lower-cells-requires : tie.Need-lower-cells-requires
-lower-cells-requires c κs = let s = c .before .before .before .before .before .before .before .before .before .before .before .before .before .before in
-    (s .pre .0, rw (c .before .before .child-at .ensures) (children-in (s .args .words .now) (s .args .text .now) (s .pre .0) (s .args .r) (s .args .level) (s .pre .1)))
+lower-cells-requires c
+    κs = let s = c .before .before .before .before .before .before .before .before .before .before .before .before .before .before in (
+      s .pre .0,
+      rw (c .before .before .child-at .ensures) (children-in (s .args .words .now) (s .args .text .now) (s .pre .0) (s .args .r)
+          (s .args .nesting) (s .pre .1)),
+    )
 
 same-length : tie.Need-same-length
 same-length c = search needs
@@ -27,8 +32,12 @@ same-length-2 : tie.Need-same-length-2
 same-length-2 c = search needs
 
 returns : tie.Need-returns
-returns c = let a = c .before .before .before .before .before .before .before .before .before .before .before .before .before .before .before .before .before .before .before .args in
-    list-then (a .keep) (bitsOf (a .size)) _ (c .before .before .before .before .before .before .before .before .before .before .before .before .push-cell-list .ensures) (rw (c .before .before .before .before .before .before .before .child-at .ensures) at (c .before .before .before .before .lower-cells .ensures))
+returns c = let a = c .before .before .before .before .before .before .before .before .before .before .before .before .before .before
+    .before .before .before .before .before .args in
+    list-then (a .keep) (bitsOf (a .size)) _
+    (c .before .before .before .before .before .before .before .before .before .before .before .before .push-cell-list .ensures)
+    (rw (c .before .before .before .before .before .before .before .child-at .ensures) at
+    (c .before .before .before .before .lower-cells .ensures))
 
 pub lower-cell-list-spec : {M : Type 1} → statement M
 lower-cell-list-spec =

@@ -2,10 +2,10 @@
 use Rattle.input.proofs.ValueRead.{values-end, values-more}
 use Rattle.items.proofs.Filled.{adding-values, fills-none, fills-then, same-fills}
 use Rattle.input.proofs.Read.{rank, rank-less, chain-first, chain-next}
-use Rattle.items.specs.Filled.{FillsProperty}
-use Rattle.input.specs.Linked.{ChainIn}
-use Rattle.input.specs.Input.{chainAt}
-use Rattle.input.specs.Property.{lowerValues}
+use Rattle.items.specs.machine.Filled.{FillsProperty}
+use Rattle.input.specs.machine.Linked.{ChainIn}
+use Rattle.input.specs.meaning.Input.{chainAt}
+use Rattle.input.specs.meaning.Property.{lowerValues}
 use Rattle.making.specs.declared.ctx.LowerCtx.{LowerCtx}
 use lib.ListN.{length}
 use mathlib.Core.List.{List}
@@ -16,33 +16,47 @@ use Rattle.items.proofs.dt_property.lower_prop_values.Statement.{statem
 use Rattle.items.proofs.dt_property.lower_prop_values.Tie as tie
 
 abbrev Inv-loop : tie.InvT-loop
-Inv-loop words text first keep level out₀ bytes₀ r₀ next₀ out bytes r next = ChainIn words text r level × (length out ≡ length out₀) × (length bytes ≡ length bytes₀) × ((d : LowerCtx) (w b : List ℕ) → FillsProperty keep next d out bytes w b (lowerValues (chainAt words text r)) → FillsProperty keep next₀ d out₀ bytes₀ w b (lowerValues (chainAt words text r₀)))
+Inv-loop words text first keep nesting out₀ bytes₀ r₀ next₀ out bytes r next = ChainIn words text r nesting × (length out ≡ length out₀)
+    × (length bytes ≡ length bytes₀) × ((d : LowerCtx) (w b : List ℕ)
+    → FillsProperty keep next d out bytes w b (lowerValues (chainAt words text r))
+    → FillsProperty keep next₀ d out₀ bytes₀ w b (lowerValues (chainAt words text r₀)))
 
 abbrev μ-loop : tie.MeasureT-loop
-μ-loop words text first keep level out₀ bytes₀ r₀ next₀ out bytes r next = rank words r
+μ-loop words text first keep nesting out₀ bytes₀ r₀ next₀ out bytes r next = rank words r
 
 loop-holds : tie.Need-loop-holds Inv-loop μ-loop
 loop-holds c = (c .before .before .before .before .pre .1, refl, refl, λ d w b h. h)
 
 lower-prop-value-requires : tie.Need-lower-prop-value-requires Inv-loop μ-loop
-lower-prop-value-requires c κs = let s = c .before .before .before .before .before .before .before .before in let l = c .before .before .before .loop in
-    (s .pre .0, chain-first (s .args .words .now) (s .args .text .now) (s .pre .0) (l .r) (s .args .level) (l .inv .0) (c .before .before .loop-test .taken))
+lower-prop-value-requires c
+    κs = let s = c .before .before .before .before .before .before .before .before in let l = c .before .before .before .loop in (
+      s .pre .0,
+      chain-first (s .args .words .now) (s .args .text .now) (s .pre .0) (l .r) (s .args .nesting) (l .inv .0)
+          (c .before .before .loop-test .taken),
+    )
 
 next-at-requires : tie.Need-next-at-requires Inv-loop μ-loop
 next-at-requires c κs = search needs
 
 loop-less : tie.Need-loop-less Inv-loop μ-loop
-loop-less c = let s = c .before .before .before .before .before .before .before .before .before .before .before .before .before .before in let l = c .before .before .before .before .before .before .before .before .before .loop in let n = c .before .before .before .before .before .before .before .before .loop-test .taken in
+loop-less
+    c = let s = c .before .before .before .before .before .before .before .before .before .before .before .before .before
+    .before in let l = c .before .before .before .before .before .before .before .before .before .loop in let n = c .before .before .before
+    .before .before .before .before .before .loop-test .taken in
     rw (c .next-at .ensures) (rank-less (s .args .words .now) (l .r) _ n (l .inv .0 .at n) (s .pre .0 .all (l .r) (l .inv .0 .at n) .next))
 
 loop-again : tie.Need-loop-again Inv-loop μ-loop
-loop-again c = let s = c .before .before .before .before .before .before .before .before .before .before .before .before .before .before in let l = c .before .before .before .before .before .before .before .before .before .loop in let n = c .before .before .before .before .before .before .before .before .loop-test .taken in
+loop-again
+    c = let s = c .before .before .before .before .before .before .before .before .before .before .before .before .before
+    .before in let l = c .before .before .before .before .before .before .before .before .before .loop in let n = c .before .before .before
+    .before .before .before .before .before .loop-test .taken in
     rw (c .next-at .ensures) (
-      chain-next (s .args .words .now) (s .args .text .now) (s .pre .0) (l .r) (s .args .level) (l .inv .0) n,
+      chain-next (s .args .words .now) (s .args .text .now) (s .pre .0) (l .r) (s .args .nesting) (l .inv .0) n,
       c .before .before .before .before .before .lower-prop-value .kept .1 .1 .1 .1 .1 .0 ∙ l .inv .1,
       c .before .before .before .before .before .lower-prop-value .kept .1 .1 .1 .1 .1 .1 .0 ∙ l .inv .2,
       λ d w b h. l .inv .3 d w b
-          (same-fills (values-more (s .args .words .now) (s .args .text .now) (l .r) (s .pre .0) n (l .inv .0 .at n)) (fills-then adding-values (s .args .keep) _ _ (c .before .before .before .before .before .lower-prop-value .ensures) h)),
+          (same-fills (values-more (s .args .words .now) (s .args .text .now) (l .r) (s .pre .0) n (l .inv .0 .at n))
+          (fills-then adding-values (s .args .keep) _ _ (c .before .before .before .before .before .lower-prop-value .ensures) h)),
     )
 
 same-length : tie.Need-same-length Inv-loop μ-loop
@@ -53,7 +67,8 @@ same-length-2 c = c .before .loop .inv .2
 
 returns : tie.Need-returns Inv-loop μ-loop
 returns c = let s = c .before .before .before .before .before .before in let l = c .before .loop in
-    l .inv .3 _ _ _ (same-fills (values-end (s .args .words .now) (s .args .text .now) (l .r) (c .loop-test .left)) (fills-none adding-values (s .args .keep)))
+    l .inv .3 _ _ _ (same-fills (values-end (s .args .words .now) (s .args .text .now) (l .r) (c .loop-test .left))
+    (fills-none adding-values (s .args .keep)))
 
 pub lower-prop-values-spec : {M : Type 1} → statement M
 lower-prop-values-spec =

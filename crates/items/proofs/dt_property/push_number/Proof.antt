@@ -2,9 +2,9 @@
 use borrow.Author.Tests.{not-true, not-false}
 use Rattle.input.proofs.ValueRead.{number-whole}
 use Rattle.items.proofs.Filled.{adding-cells, cell-added, fills-dropped, fills-one, same-fills}
-use Rattle.post_checks.proofs.Lowers.{part-grows}
-use Rattle.input.specs.Report.{one}
-use Rattle.log.specs.Meaning.{number}
+use Rattle.resolving.proofs.Lowers.{part-grows}
+use Rattle.input.specs.meaning.Report.{one}
+use Rattle.log.specs.meaning.Contents.{number}
 use Prim.Native.Nat.{ℕ}
 use mathlib.Core.Path.{refl, ap}
 use borrow.Author.Needs.{needs}
@@ -12,7 +12,8 @@ use Rattle.items.proofs.dt_property.push_number.Statement.{statement}
 use Rattle.items.proofs.dt_property.push_number.Tie as tie
 
 returns : tie.Need-returns
-returns c = let a = c .before .before .before .args in fills-dropped adding-cells (a .keep) (one (number (a .n))) (not-true _ (c .if1 .taken)) refl
+returns c = let a = c .before .before .before .args in fills-dropped adding-cells (a .keep) (one (number (a .n)))
+    (not-true _ (c .if1 .taken)) refl
 
 cast-low : tie.Need-cast-low
 cast-low c = search needs
@@ -32,7 +33,8 @@ same-length-2 c = search needs
 returns-2 : tie.Need-returns-2
 returns-2 c = let a = c .before .before .before .before .before .before .before .before .before .before .args in
     same-fills (ap (λ (n : ℕ). one (number n)) (number-whole (a .n)))
-    (fills-one adding-cells (a .keep) _ _ (not-false _ (c .before .before .before .before .before .before .before .if1 .left)) (part-grows _ _) (cell-added _) (c .before .before .before .before .add-number .ensures))
+    (fills-one adding-cells (a .keep) _ _ (not-false _ (c .before .before .before .before .before .before .before .if1 .left))
+    (part-grows _ _) (cell-added _) (c .before .before .before .before .add-number .ensures))
 
 pub push-number-spec : {M : Type 1} → statement M
 push-number-spec =

@@ -1,12 +1,12 @@
 -- A value more, where it is kept (Filled).
-use Rattle.paths_numbers.specs.Reference.{Target}
+use Rattle.paths_numbers.specs.meaning.Reference.{Target}
 use borrow.Author.Tests.{not-true, not-false}
 use Rattle.input.proofs.ValueRead.{same-target, plain-reports}
 use Rattle.items.proofs.Filled.{adding-values, value-one, fills-dropped, fills-one, same-fills, bytes-fill}
-use Rattle.post_checks.proofs.Lowers.{part-grows}
-use Rattle.input.specs.ValueRead.{plainMade}
-use Rattle.input.specs.Report.{one}
-use Rattle.log.specs.Meaning.{string, phandle}
+use Rattle.resolving.proofs.Lowers.{part-grows}
+use Rattle.input.specs.machine.ValueRead.{plainMade}
+use Rattle.input.specs.meaning.Report.{one}
+use Rattle.log.specs.meaning.Contents.{string, phandle}
 use mathlib.Core.List.{List}
 use Prim.Native.Nat.{ℕ}
 use mathlib.Core.Path.{refl, sym, ap, _∙_}
@@ -16,7 +16,8 @@ use Rattle.items.proofs.dt_property.push_value.Tie as tie
 
 returns : tie.Need-returns
 returns c = let a = c .before .before .before .before .before .args in
-    fills-dropped adding-values (a .keep) (plainMade (a .words .now) (a .text .now) (a .r) (a .value)) (not-true _ (c .if1 .taken)) (plain-reports (a .words .now) (a .text .now) (a .r) (a .value))
+    fills-dropped adding-values (a .keep) (plainMade (a .words .now) (a .text .now) (a .r) (a .value)) (not-true _ (c .if1 .taken))
+    (plain-reports (a .words .now) (a .text .now) (a .r) (a .value))
 
 enum-told : tie.Need-enum-told
 enum-told c = search needs
@@ -55,10 +56,16 @@ same-length-2 : tie.Need-same-length-2
 same-length-2 c = search needs
 
 returns-2 : tie.Need-returns-2
-returns-2 c = let a = c .before .before .before .before .before .before .before .before .before .before .before .before .before .before .before .args in
+returns-2
+    c = let a = c .before .before .before .before .before .before .before .before .before .before .before .before .before .before .before
+    .args in
     same-fills
-    (ap (λ (t : List ℕ). one (string t)) (c .before .before .before .before .before .text-at .ensures) ∙ sym (ap (plainMade (a .words .now) (a .text .now) (a .r)) (c .before .before .before .before .before .before .before .before .enum-told .given .1)))
-    (fills-one adding-values (a .keep) _ _ (not-false _ (c .before .before .before .before .before .before .before .before .before .before .if1 .left)) (part-grows _ _) (value-one (string _) refl) (c .before .before .before .before .add-string .ensures))
+    (ap (λ (t : List ℕ). one (string t)) (c .before .before .before .before .before .text-at .ensures)
+    ∙ sym (ap (plainMade (a .words .now) (a .text .now) (a .r))
+    (c .before .before .before .before .before .before .before .before .enum-told .given .1)))
+    (fills-one adding-values (a .keep) _ _ (not-false _
+    (c .before .before .before .before .before .before .before .before .before .before .if1 .left)) (part-grows _ _)
+    (value-one (string _) refl) (c .before .before .before .before .add-string .ensures))
 
 same-length-3 : tie.Need-same-length-3
 same-length-3 c = search needs
@@ -67,9 +74,13 @@ same-length-4 : tie.Need-same-length-4
 same-length-4 c = search needs
 
 returns-3 : tie.Need-returns-3
-returns-3 c = let a = c .before .before .before .before .before .before .before .before .before .before .before .before .before .before .before .args in
-    same-fills (sym (ap (plainMade (a .words .now) (a .text .now) (a .r)) (c .before .before .before .before .before .before .before .before .enum-told2 .given .1)))
-    (bytes-fill (a .keep) _ (not-false _ (c .before .before .before .before .before .before .before .before .before .before .if1 .left)) (rw (c .before .before .before .before .before .text-at2 .ensures) at (c .before .before .before .before .add-bytestring .ensures)))
+returns-3
+    c = let a = c .before .before .before .before .before .before .before .before .before .before .before .before .before .before .before
+    .args in
+    same-fills (sym (ap (plainMade (a .words .now) (a .text .now) (a .r))
+    (c .before .before .before .before .before .before .before .before .enum-told2 .given .1)))
+    (bytes-fill (a .keep) _ (not-false _ (c .before .before .before .before .before .before .before .before .before .before .if1 .left))
+    (rw (c .before .before .before .before .before .text-at2 .ensures) at (c .before .before .before .before .add-bytestring .ensures)))
 
 same-length-5 : tie.Need-same-length-5
 same-length-5 c = search needs
@@ -78,11 +89,19 @@ same-length-6 : tie.Need-same-length-6
 same-length-6 c = search needs
 
 returns-4 : tie.Need-returns-4
-returns-4 c = let a = c .before .before .before .before .before .before .before .before .before .before .before .before .before .before .before .before .before .args in
+returns-4
+    c = let a = c .before .before .before .before .before .before .before .before .before .before .before .before .before .before .before
+    .before .before .args in
     same-fills
-    (ap (λ (t : Target). one (phandle t)) (same-target (c .before .before .before .before .before .before .before .before .before .before .value .given .0 .0) (c .before .before .before .before .before .before .phandle-label-at .ensures) (c .before .before .before .before .before .phandle-path-at .ensures))
-    ∙ sym (ap (plainMade (a .words .now) (a .text .now) (a .r)) (c .before .before .before .before .before .before .before .before .before .before .value .given .1)))
-    (fills-one adding-values (a .keep) _ _ (not-false _ (c .before .before .before .before .before .before .before .before .before .before .before .before .if1 .left)) (part-grows _ _) (value-one (phandle _) refl) (c .before .before .before .before .add-phandle .ensures))
+    (ap (λ (t : Target). one (phandle t)) (same-target
+    (c .before .before .before .before .before .before .before .before .before .before .value .given .0 .0)
+    (c .before .before .before .before .before .before .phandle-label-at .ensures)
+    (c .before .before .before .before .before .phandle-path-at .ensures))
+    ∙ sym (ap (plainMade (a .words .now) (a .text .now) (a .r))
+    (c .before .before .before .before .before .before .before .before .before .before .value .given .1)))
+    (fills-one adding-values (a .keep) _ _ (not-false _
+    (c .before .before .before .before .before .before .before .before .before .before .before .before .if1 .left)) (part-grows _ _)
+    (value-one (phandle _) refl) (c .before .before .before .before .add-phandle .ensures))
 
 pub push-value-spec : {M : Type 1} → statement M
 push-value-spec =

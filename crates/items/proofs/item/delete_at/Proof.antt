@@ -11,20 +11,28 @@ unbind-all-requires c κs = search needs
 first-with-requires : tie.Need-first-with-requires
 first-with-requires c κs = search needs
 
-definition-path-requires : tie.Need-definition-path-requires
-definition-path-requires c κs = search needs
+first-place-requires : tie.Need-first-place-requires
+first-place-requires c κs = search needs
 
 define-at-requires : tie.Need-define-at-requires
 define-at-requires c κs = search needs
 
 same-length : tie.Need-same-length
-same-length c = c .before .before .before .before .define-at .kept .1 .0 ∙ c .before .before .before .before .before .before .before .before .before .before .before .before .before .before .before .before .unbind-all .kept .1 .0
+same-length c = c .before .before .before .before .define-at .kept .1 .0
+    ∙ c .before .before .before .before .before .before .before .before .before .before .before .before .before .before .before .before
+    .unbind-all .kept .1 .0
 
 same-length-2 : tie.Need-same-length-2
 same-length-2 c = search needs
 
 returns : tie.Need-returns
-returns c = deletes-at (c .before .before .before .before .before .before .before .before .before .before .before .before .before .before .before .before .before .before .before .before .before .before .args .span) (c .before .before .before .before .before .before .before .before .before .before .before .before .before .before .before .before .unbind-all .ensures) (c .before .before .before .before .before .before .before .before .before .first-with .ensures) (rw (c .before .before .before .before .before .before .before .definition-path .ensures) at (c .before .before .before .before .define-at .ensures))
+returns c = deletes-at
+    (c .before .before .before .before .before .before .before .before .before .before .before .before .before .before .before .before
+    .before .before .before .before .before .before .args .span)
+    (c .before .before .before .before .before .before .before .before .before .before .before .before .before .before .before .before
+    .unbind-all .ensures) (c .before .before .before .before .before .before .before .before .before .first-with .ensures)
+    (rw (c .before .before .before .before .before .before .before .first-place .ensures) at
+    (c .before .before .before .before .define-at .ensures))
 
 pub delete-at-spec : {M : Type 1} → statement M
 delete-at-spec =
@@ -32,7 +40,7 @@ delete-at-spec =
     (tie.spec
     unbind-all-requires
     first-with-requires
-    definition-path-requires
+    first-place-requires
     define-at-requires
     same-length
     same-length-2

@@ -27,15 +27,37 @@ unlink-first-requires : tie.Need-unlink-first-requires
 unlink-first-requires c κs = search needs
 
 same-length : tie.Need-same-length
-same-length c = c .before .before .before .before .unlink-first .kept .1 .0 ∙ c .before .before .before .before .before .before .before .before .before .before .before .before .define-bound .kept .1 .0 ∙ c .before .before .before .before .before .before .before .before .before .before .before .before .before .before .before .before .before .before .before .unbind-others .kept .1 .0
+same-length c = c .before .before .before .before .unlink-first .kept .1 .0
+    ∙ c .before .before .before .before .before .before .before .before .before .before .before .before .define-bound .kept .1 .0
+    ∙ c .before .before .before .before .before .before .before .before .before .before .before .before .before .before .before .before
+    .before .before .before .unbind-others .kept .1 .0
 
 same-length-2 : tie.Need-same-length-2
 same-length-2 c = search needs
 
 returns : tie.Need-returns
 returns c =
-    let a = c .before .before .before .before .before .before .before .before .before .before .before .before .before .before .before .before .before .before .before .before .before .before .before .before .before .before .before .before .before .before .before .before .before .before .args in
-    deletes-first (a .span) (a .below) (c .before .before .before .before .before .before .before .before .before .before .before .before .before .before .before .before .before .before .before .before .before .before .before .before .before .before .first-with .ensures) (rw (c .before .before .before .before .before .before .before .before .before .before .before .before .before .before .before .before .before .before .before .before .before .before .before .before .before .before .before .before .before .no-text .ensures) at (c .before .before .before .before .before .before .before .before .before .before .before .before .before .before .before .before .before .before .before .unbind-others .ensures)) (c .before .before .before .before .before .before .before .before .before .before .before .before .define-bound .ensures) (c .before .before .before .before .unlink-first .ensures) (rw (c .before .before .before .before .before .before .before .before .before .before .before .before .before .before .before .before .before .before .before .before .before .before .before .before .before .bound-base .ensures, c .before .before .before .before .before .before .before .before .before .before .before .before .before .before .before .before .before .before .before .before .before .before .before .before .before .before .before .before .before .no-text .ensures) at (sym (c .before .before .before .before .before .before .before .before .before .before .before .before .before .before .before .before .before .before .before .before .before .before .goes-with .ensures) ∙ c .before .before .before .before .before .before .before .if1 .taken))
+    let a = c .before .before .before .before .before .before .before .before .before .before .before .before .before .before .before
+    .before .before .before .before .before .before .before .before .before .before .before .before .before .before .before .before
+    .before .before .before .args in
+    deletes-first (a .span) (a .below)
+    (c .before .before .before .before .before .before .before .before .before .before .before .before .before .before .before .before
+    .before .before .before .before .before .before .before .before .before .before .first-with .ensures)
+    (rw (c .before .before .before .before .before .before .before .before .before .before .before .before .before .before .before
+    .before .before .before .before .before .before .before .before .before .before .before .before .before .before .no-text .ensures)
+    at (c .before .before .before .before .before .before .before .before .before .before .before .before .before .before .before
+    .before .before .before .before .unbind-others .ensures))
+    (c .before .before .before .before .before .before .before .before .before .before .before .before .define-bound .ensures)
+    (c .before .before .before .before .unlink-first .ensures)
+    (rw (
+      c .before .before .before .before .before .before .before .before .before .before .before .before .before .before .before
+          .before .before .before .before .before .before .before .before .before .before .bound-base .ensures,
+      c .before .before .before .before .before .before .before .before .before .before .before .before .before .before .before .before
+          .before .before .before .before .before .before .before .before .before .before .before .before .before .no-text .ensures,
+    ) at
+    (sym (c .before .before .before .before .before .before .before .before .before .before .before .before .before .before .before
+    .before .before .before .before .before .before .before .goes-with .ensures)
+    ∙ c .before .before .before .before .before .before .before .if1 .taken))
 
 same-length-3 : tie.Need-same-length-3
 same-length-3 c = search needs
@@ -45,8 +67,23 @@ same-length-4 c = search needs
 
 returns-2 : tie.Need-returns-2
 returns-2 c =
-    let a = c .before .before .before .before .before .before .before .before .before .before .before .before .before .before .before .before .before .before .before .before .before .before .before .before .before .before .before .args in
-    deletes-left (a .span) (a .below) (c .before .before .before .before .before .before .before .before .before .before .before .before .before .before .before .before .before .before .before .first-with .ensures) (rw (c .before .before .before .before .before .before .before .before .before .before .before .before .before .before .before .before .before .before .before .before .before .before .no-text .ensures) at (c .before .before .before .before .before .before .before .before .before .before .before .before .unbind-others .ensures)) (c .before .before .before .before .before .define-bound .ensures) (rw (c .before .before .before .before .before .before .before .before .before .before .before .before .before .before .before .before .before .before .bound-base .ensures, c .before .before .before .before .before .before .before .before .before .before .before .before .before .before .before .before .before .before .before .before .before .before .no-text .ensures) at (sym (c .before .before .before .before .before .before .before .before .before .before .before .before .before .before .before .goes-with .ensures) ∙ c .if1 .left))
+    let a = c .before .before .before .before .before .before .before .before .before .before .before .before .before .before .before
+    .before .before .before .before .before .before .before .before .before .before .before .before .args in
+    deletes-left (a .span) (a .below)
+    (c .before .before .before .before .before .before .before .before .before .before .before .before .before .before .before .before
+    .before .before .before .first-with .ensures) (rw
+    (c .before .before .before .before .before .before .before .before .before .before .before .before .before .before .before .before
+    .before .before .before .before .before .before .no-text .ensures) at
+    (c .before .before .before .before .before .before .before .before .before .before .before .before .unbind-others .ensures))
+    (c .before .before .before .before .before .define-bound .ensures)
+    (rw (
+      c .before .before .before .before .before .before .before .before .before .before .before .before .before .before .before
+          .before .before .before .bound-base .ensures,
+      c .before .before .before .before .before .before .before .before .before .before .before .before .before .before .before .before
+          .before .before .before .before .before .before .no-text .ensures,
+    ) at
+    (sym (c .before .before .before .before .before .before .before .before .before .before .before .before .before .before .before
+    .goes-with .ensures) ∙ c .if1 .left))
 
 pub delete-bound-spec : {M : Type 1} → statement M
 delete-bound-spec =

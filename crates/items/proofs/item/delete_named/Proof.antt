@@ -1,6 +1,6 @@
 -- In a state that ran short nothing; else the bindings out, then the deletion (Deleting).
-use Rattle.paths_numbers.specs.Path.{joined}
-use Rattle.making.specs.Recs.{meant}
+use Rattle.paths_numbers.specs.meaning.Path.{joined}
+use Rattle.log.specs.machine.Parts.{meant}
 use Rattle.items.proofs.Deleting.{short-under, delete-grows, deletes-named}
 use borrow.Author.Needs.{needs}
 use Rattle.items.proofs.item.delete_named.Statement.{statement}
@@ -24,7 +24,12 @@ same-length-2 : tie.Need-same-length-2
 same-length-2 c = search needs
 
 returns-2 : tie.Need-returns-2
-returns-2 c = deletes-named (c .before .before .before .before .before .before .before .before .before .before .before .before .before .before .before .before .before .before .before .args .span) (c .before .before .before .before .before .before .before .before .before .before .before .before .before .before .if1 .left) (c .before .before .before .before .before .before .before .before .before .before .before .unbind-all .ensures) (c .before .before .before .before .define .ensures)
+returns-2 c = deletes-named
+    (c .before .before .before .before .before .before .before .before .before .before .before .before .before .before .before .before
+    .before .before .before .args .span)
+    (c .before .before .before .before .before .before .before .before .before .before .before .before .before .before .if1 .left)
+    (c .before .before .before .before .before .before .before .before .before .before .before .unbind-all .ensures)
+    (c .before .before .before .before .define .ensures)
 
 pub delete-named-spec : {M : Type 1} → statement M
 delete-named-spec =

@@ -1,5 +1,5 @@
 -- By what the reference was read as (Directives).
-use Rattle.making.specs.Recs.{meant}
+use Rattle.log.specs.machine.Parts.{meant}
 use Rattle.items.proofs.Directives.{delete-macro, delete-unread, delete-label, delete-below, delete-path}
 use borrow.Author.Needs.{needs}
 use Rattle.items.proofs.item.delete_read.Statement.{statement}
@@ -41,7 +41,9 @@ same-length-2 c = search needs
 returns : tie.Need-returns
 returns c =
     let a = c .before .before .before .before .before .before .before .before .before .before .before .before .before .before .args in
-    delete-macro (a .words .now) (a .text .now) (a .r) (a .read) (meant (a .span)) _ (c .before .before .before .before .before .before .before .before .read .given .1) (c .before .before .before .before .undefined-macro .ensures)
+    delete-macro (a .words .now) (a .text .now) (a .r) (a .read) (meant (a .span)) _
+    (c .before .before .before .before .before .before .before .before .read .given .1)
+    (c .before .before .before .before .undefined-macro .ensures)
 
 returns-2 : tie.Need-returns-2
 returns-2 c =
@@ -57,7 +59,9 @@ same-length-4 c = search needs
 returns-3 : tie.Need-returns-3
 returns-3 c =
     let a = c .before .before .before .before .before .before .before .before .before .before .before .before .before .args in
-    delete-label (a .words .now) (a .text .now) (a .r) (a .read) (meant (a .span)) (c .before .before .before .before .delete-target .ensures) (c .before .before .before .before .before .before .before .enum-told2 .given .1)
+    delete-label (a .words .now) (a .text .now) (a .r) (a .read) (meant (a .span))
+    (c .before .before .before .before .delete-target .ensures)
+    (c .before .before .before .before .before .before .before .enum-told2 .given .1)
 
 same-length-5 : tie.Need-same-length-5
 same-length-5 c = search needs
@@ -68,7 +72,9 @@ same-length-6 c = search needs
 returns-4 : tie.Need-returns-4
 returns-4 c =
     let a = c .before .before .before .before .before .before .before .before .before .before .before .before .before .args in
-    delete-below (a .words .now) (a .text .now) (a .r) (a .read) (meant (a .span)) (c .before .before .before .before .delete-target2 .ensures) (c .before .before .before .before .before .before .before .enum-told3 .given .1)
+    delete-below (a .words .now) (a .text .now) (a .r) (a .read) (meant (a .span))
+    (c .before .before .before .before .delete-target2 .ensures)
+    (c .before .before .before .before .before .before .before .enum-told3 .given .1)
 
 same-length-7 : tie.Need-same-length-7
 same-length-7 c = search needs
@@ -79,7 +85,9 @@ same-length-8 c = search needs
 returns-5 : tie.Need-returns-5
 returns-5 c =
     let a = c .before .before .before .before .before .before .before .before .before .before .before .before .before .args in
-    delete-path (a .words .now) (a .text .now) (a .r) (a .read) (meant (a .span)) (c .before .before .before .before .delete-target3 .ensures) (c .before .before .before .before .before .before .before .enum-told4 .given .1)
+    delete-path (a .words .now) (a .text .now) (a .r) (a .read) (meant (a .span))
+    (c .before .before .before .before .delete-target3 .ensures)
+    (c .before .before .before .before .before .before .before .enum-told4 .given .1)
 
 pub delete-read-spec : {M : Type 1} → statement M
 delete-read-spec =

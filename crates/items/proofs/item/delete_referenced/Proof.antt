@@ -1,6 +1,6 @@
 -- By whether there is a reference; in a state that ran short nothing (Directives).
-use Rattle.making.specs.Recs.{meant}
-use Rattle.input.specs.Read.{optional}
+use Rattle.log.specs.machine.Parts.{meant}
+use Rattle.input.specs.machine.Read.{optional}
 use Rattle.items.proofs.Deleting.{short-lowers}
 use Rattle.items.proofs.Directives.{reference-grows, no-reference, a-reference}
 use borrow.Author.Needs.{needs}
@@ -13,7 +13,11 @@ returns c =
     no-reference (a .words .now) (a .text .now) (a .r) (meant (a .span)) (c .if1 .taken)
 
 lower-phandle-requires : tie.Need-lower-phandle-requires
-lower-phandle-requires c κs = (c .before .before .before .before .before .pre .0, c .before .before .before .before .before .pre .1 (c .if1 .left))
+lower-phandle-requires c κs = (
+  c .before .before .before .before .before .pre .0,
+  c .before .before .before .before .before .pre .1
+      (c .if1 .left),
+)
 
 returns-2 : tie.Need-returns-2
 returns-2 c =
@@ -32,7 +36,10 @@ same-length-2 c = search needs
 returns-3 : tie.Need-returns-3
 returns-3 c =
     let a = c .before .before .before .before .before .before .before .before .before .before .before .before .before .before .args in
-    a-reference (a .words .now) (a .text .now) (a .r) (meant (a .span)) _ (c .before .before .before .before .before .before .before .before .before .if1 .left) (c .before .before .before .before .before .before .before .before .lower-phandle .ensures) (c .before .before .before .before .delete-read .ensures)
+    a-reference (a .words .now) (a .text .now) (a .r) (meant (a .span)) _
+    (c .before .before .before .before .before .before .before .before .before .if1 .left)
+    (c .before .before .before .before .before .before .before .before .lower-phandle .ensures)
+    (c .before .before .before .before .delete-read .ensures)
 
 pub delete-referenced-spec : {M : Type 1} → statement M
 delete-referenced-spec =

@@ -1,6 +1,6 @@
 -- By where the reference leads (Directives).
-use Rattle.making.specs.Recs.{meant}
-use Rattle.input.specs.Input.{recordAt}
+use Rattle.log.specs.machine.Parts.{meant}
+use Rattle.input.specs.meaning.Input.{recordAt}
 use Rattle.items.proofs.Directives.{target-bound, target-below, target-at, target-label, target-node, target-nowhere}
 use borrow.Author.Needs.{needs}
 use Rattle.items.proofs.item.delete_target.Statement.{statement}
@@ -68,8 +68,19 @@ same-length-2 c = search needs
 
 returns : tie.Need-returns
 returns c =
-    let a = c .before .before .before .before .before .before .before .before .before .before .before .before .before .before .before .before .before .before .args in
-    λ t e. target-bound t (recordAt (a .words .now) (a .text .now) (a .r)) (meant (a .span)) (a .ctx) (c .before .before .before .before .before .before .before .before .before .before .before .before .before .before .before .before .before .before .pre) (c .before .before .before .before .before .before .before .before .before .resolve-phandle .ensures .0 t e) (c .before .before .before .before .before .before .before .before .before .resolve-phandle .ensures .1) _ (c .before .before .before .before .before .before .before .enum-told .given .1) (rw (c .before .before .before .before .before .before .before .before .before .before .before .before .before .phandle-label-at .ensures, c .before .before .before .before .before .before .before .before .before .before .before .before .phandle-path-at .ensures) at (c .before .before .before .before .delete-bound .ensures))
+    let a = c .before .before .before .before .before .before .before .before .before .before .before .before .before .before .before
+    .before .before .before .args in
+    λ t e. target-bound t (recordAt (a .words .now) (a .text .now) (a .r)) (meant (a .span)) (a .ctx)
+    (c .before .before .before .before .before .before .before .before .before .before .before .before .before .before .before .before
+    .before .before .pre) (c .before .before .before .before .before .before .before .before .before .resolve-phandle .ensures .0 t e)
+    (c .before .before .before .before .before .before .before .before .before .resolve-phandle .ensures .1) _
+    (c .before .before .before .before .before .before .before .enum-told .given .1)
+    (rw (
+      c .before .before .before .before .before .before .before .before .before .before .before .before .before .phandle-label-at
+          .ensures,
+      c .before .before .before .before .before .before .before .before .before .before .before .before .phandle-path-at .ensures,
+    ) at
+    (c .before .before .before .before .delete-bound .ensures))
 
 same-length-3 : tie.Need-same-length-3
 same-length-3 c = search needs
@@ -79,8 +90,19 @@ same-length-4 c = search needs
 
 returns-2 : tie.Need-returns-2
 returns-2 c =
-    let a = c .before .before .before .before .before .before .before .before .before .before .before .before .before .before .before .before .before .before .args in
-    λ t e. target-below t (recordAt (a .words .now) (a .text .now) (a .r)) (meant (a .span)) (a .ctx) (c .before .before .before .before .before .before .before .before .before .before .before .before .before .before .before .before .before .before .pre) (c .before .before .before .before .before .before .before .before .before .resolve-phandle .ensures .0 t e) (c .before .before .before .before .before .before .before .before .before .resolve-phandle .ensures .1) _ (c .before .before .before .before .before .before .before .enum-told2 .given .1) (rw (c .before .before .before .before .before .before .before .before .before .before .before .before .before .phandle-label-at .ensures, c .before .before .before .before .before .before .before .before .before .before .before .before .phandle-path-at .ensures) at (c .before .before .before .before .delete-bound2 .ensures))
+    let a = c .before .before .before .before .before .before .before .before .before .before .before .before .before .before .before
+    .before .before .before .args in
+    λ t e. target-below t (recordAt (a .words .now) (a .text .now) (a .r)) (meant (a .span)) (a .ctx)
+    (c .before .before .before .before .before .before .before .before .before .before .before .before .before .before .before .before
+    .before .before .pre) (c .before .before .before .before .before .before .before .before .before .resolve-phandle .ensures .0 t e)
+    (c .before .before .before .before .before .before .before .before .before .resolve-phandle .ensures .1) _
+    (c .before .before .before .before .before .before .before .enum-told2 .given .1)
+    (rw (
+      c .before .before .before .before .before .before .before .before .before .before .before .before .before .phandle-label-at
+          .ensures,
+      c .before .before .before .before .before .before .before .before .before .before .before .before .phandle-path-at .ensures,
+    ) at
+    (c .before .before .before .before .delete-bound2 .ensures))
 
 same-length-5 : tie.Need-same-length-5
 same-length-5 c = search needs
@@ -90,8 +112,15 @@ same-length-6 c = search needs
 
 returns-3 : tie.Need-returns-3
 returns-3 c =
-    let a = c .before .before .before .before .before .before .before .before .before .before .before .before .before .before .before .before .before .before .args in
-    λ t e. target-at t (recordAt (a .words .now) (a .text .now) (a .r)) (meant (a .span)) (a .ctx) (c .before .before .before .before .before .before .before .before .before .before .before .before .before .before .before .before .before .before .pre) (c .before .before .before .before .before .before .before .before .before .resolve-phandle .ensures .0 t e) (c .before .before .before .before .before .before .before .before .before .resolve-phandle .ensures .1) (c .before .before .before .before .before .before .before .enum-told3 .given .1) (rw (c .before .before .before .before .before .before .before .before .before .before .before .before .phandle-path-at .ensures) at (c .before .before .before .before .delete-at .ensures))
+    let a = c .before .before .before .before .before .before .before .before .before .before .before .before .before .before .before
+    .before .before .before .args in
+    λ t e. target-at t (recordAt (a .words .now) (a .text .now) (a .r)) (meant (a .span)) (a .ctx)
+    (c .before .before .before .before .before .before .before .before .before .before .before .before .before .before .before .before
+    .before .before .pre) (c .before .before .before .before .before .before .before .before .before .resolve-phandle .ensures .0 t e)
+    (c .before .before .before .before .before .before .before .before .before .resolve-phandle .ensures .1)
+    (c .before .before .before .before .before .before .before .enum-told3 .given .1)
+    (rw (c .before .before .before .before .before .before .before .before .before .before .before .before .phandle-path-at .ensures) at
+    (c .before .before .before .before .delete-at .ensures))
 
 same-length-7 : tie.Need-same-length-7
 same-length-7 c = search needs
@@ -102,8 +131,21 @@ same-length-8 c = search needs
 returns-4 : tie.Need-returns-4
 unfolding recordAt
 returns-4 c =
-    let a = c .before .before .before .before .before .before .before .before .before .before .before .before .before .before .before .before .before .before .before .args in
-    λ t e. target-label t (recordAt (a .words .now) (a .text .now) (a .r)) (meant (a .span)) (a .ctx) (c .before .before .before .before .before .before .before .before .before .before .before .before .before .before .before .before .before .before .before .pre) (c .before .before .before .before .before .before .before .before .before .before .resolve-phandle .ensures .0 t e) (c .before .before .before .before .before .before .before .before .before .before .resolve-phandle .ensures .1) (c .before .before .before .before .before .span-at .ensures) (rw (c .before .before .before .before .before .before .before .before .before .before .before .before .before .before .phandle-label-at .ensures, c .before .before .before .before .before .before .before .before .before .before .before .before .before .phandle-path-at .ensures) at (c .before .before .before .before .report-unresolved .ensures)) (c .before .before .before .before .before .before .before .before .enum-told4 .given .1)
+    let a = c .before .before .before .before .before .before .before .before .before .before .before .before .before .before .before
+    .before .before .before .before .args in
+    λ t e. target-label t (recordAt (a .words .now) (a .text .now) (a .r)) (meant (a .span)) (a .ctx)
+    (c .before .before .before .before .before .before .before .before .before .before .before .before .before .before .before .before
+    .before .before .before .pre)
+    (c .before .before .before .before .before .before .before .before .before .before .resolve-phandle .ensures .0 t e)
+    (c .before .before .before .before .before .before .before .before .before .before .resolve-phandle .ensures .1)
+    (c .before .before .before .before .before .span-at .ensures)
+    (rw (
+      c .before .before .before .before .before .before .before .before .before .before .before .before .before .before
+          .phandle-label-at .ensures,
+      c .before .before .before .before .before .before .before .before .before .before .before .before .before .phandle-path-at .ensures,
+    )
+    at (c .before .before .before .before .report-unresolved .ensures))
+    (c .before .before .before .before .before .before .before .before .enum-told4 .given .1)
 
 same-length-9 : tie.Need-same-length-9
 same-length-9 c = search needs
@@ -114,8 +156,21 @@ same-length-10 c = search needs
 returns-5 : tie.Need-returns-5
 unfolding recordAt
 returns-5 c =
-    let a = c .before .before .before .before .before .before .before .before .before .before .before .before .before .before .before .before .before .before .before .args in
-    λ t e. target-node t (recordAt (a .words .now) (a .text .now) (a .r)) (meant (a .span)) (a .ctx) (c .before .before .before .before .before .before .before .before .before .before .before .before .before .before .before .before .before .before .before .pre) (c .before .before .before .before .before .before .before .before .before .before .resolve-phandle .ensures .0 t e) (c .before .before .before .before .before .before .before .before .before .before .resolve-phandle .ensures .1) (c .before .before .before .before .before .span-at2 .ensures) (rw (c .before .before .before .before .before .before .before .before .before .before .before .before .before .before .phandle-label-at .ensures, c .before .before .before .before .before .before .before .before .before .before .before .before .before .phandle-path-at .ensures) at (c .before .before .before .before .report-unresolved2 .ensures)) (c .before .before .before .before .before .before .before .before .enum-told5 .given .1)
+    let a = c .before .before .before .before .before .before .before .before .before .before .before .before .before .before .before
+    .before .before .before .before .args in
+    λ t e. target-node t (recordAt (a .words .now) (a .text .now) (a .r)) (meant (a .span)) (a .ctx)
+    (c .before .before .before .before .before .before .before .before .before .before .before .before .before .before .before .before
+    .before .before .before .pre)
+    (c .before .before .before .before .before .before .before .before .before .before .resolve-phandle .ensures .0 t e)
+    (c .before .before .before .before .before .before .before .before .before .before .resolve-phandle .ensures .1)
+    (c .before .before .before .before .before .span-at2 .ensures)
+    (rw (
+      c .before .before .before .before .before .before .before .before .before .before .before .before .before .before
+          .phandle-label-at .ensures,
+      c .before .before .before .before .before .before .before .before .before .before .before .before .before .phandle-path-at .ensures,
+    )
+    at (c .before .before .before .before .report-unresolved2 .ensures))
+    (c .before .before .before .before .before .before .before .before .enum-told5 .given .1)
 
 same-length-11 : tie.Need-same-length-11
 same-length-11 c = search needs
@@ -126,8 +181,21 @@ same-length-12 c = search needs
 returns-6 : tie.Need-returns-6
 unfolding recordAt
 returns-6 c =
-    let a = c .before .before .before .before .before .before .before .before .before .before .before .before .before .before .before .before .before .before .before .args in
-    λ t e. target-nowhere t (recordAt (a .words .now) (a .text .now) (a .r)) (meant (a .span)) (a .ctx) (c .before .before .before .before .before .before .before .before .before .before .before .before .before .before .before .before .before .before .before .pre) (c .before .before .before .before .before .before .before .before .before .before .resolve-phandle .ensures .0 t e) (c .before .before .before .before .before .before .before .before .before .before .resolve-phandle .ensures .1) (c .before .before .before .before .before .span-at3 .ensures) (rw (c .before .before .before .before .before .before .before .before .before .before .before .before .before .before .phandle-label-at .ensures, c .before .before .before .before .before .before .before .before .before .before .before .before .before .phandle-path-at .ensures) at (c .before .before .before .before .report-unresolved3 .ensures)) _ (c .before .before .before .before .before .before .before .before .enum-told6 .given .1)
+    let a = c .before .before .before .before .before .before .before .before .before .before .before .before .before .before .before
+    .before .before .before .before .args in
+    λ t e. target-nowhere t (recordAt (a .words .now) (a .text .now) (a .r)) (meant (a .span)) (a .ctx)
+    (c .before .before .before .before .before .before .before .before .before .before .before .before .before .before .before .before
+    .before .before .before .pre)
+    (c .before .before .before .before .before .before .before .before .before .before .resolve-phandle .ensures .0 t e)
+    (c .before .before .before .before .before .before .before .before .before .before .resolve-phandle .ensures .1)
+    (c .before .before .before .before .before .span-at3 .ensures)
+    (rw (
+      c .before .before .before .before .before .before .before .before .before .before .before .before .before .before
+          .phandle-label-at .ensures,
+      c .before .before .before .before .before .before .before .before .before .before .before .before .before .phandle-path-at .ensures,
+    )
+    at (c .before .before .before .before .report-unresolved3 .ensures)) _
+    (c .before .before .before .before .before .before .before .before .enum-told6 .given .1)
 
 pub delete-target-spec : {M : Type 1} → statement M
 delete-target-spec =

@@ -3,13 +3,13 @@ use Prim.Native.Nat.{ℕ}
 use mathlib.Core.Path.{sym, ap, _∙_}
 use mathlib.Core.List.{List}
 use mathlib.Core.Option.{Option}
-use Rattle.making.specs.Recs.{meant}
-use Rattle.making.specs.State.{State, emit}
-use Rattle.input.specs.Tree.{Tree}
-use Rattle.items.specs.Lower.{deleteReferenced}
-use Rattle.input.specs.NameRead.{fullRead}
-use Rattle.post_checks.proofs.Lowers.{lowers-then}
-use Rattle.post_checks.proofs.Under.{lowers-under, under-then}
+use Rattle.log.specs.machine.Parts.{meant}
+use Rattle.making.specs.meaning.State.{State, emit}
+use Rattle.input.specs.meaning.Tree.{Tree}
+use Rattle.items.specs.meaning.Lower.{deleteReferenced}
+use Rattle.input.specs.machine.NameRead.{fullRead}
+use Rattle.resolving.proofs.Lowers.{lowers-then}
+use Rattle.resolving.proofs.Under.{lowers-under, under-then}
 use Rattle.items.proofs.Directives.{under-as, by-name, by-reference}
 use borrow.Author.Needs.{needs}
 use Rattle.items.proofs.item.emit_delete_node.Statement.{statement}
@@ -41,10 +41,21 @@ same-length-2 c = search needs
 
 returns : tie.Need-returns
 returns c =
-    let a = c .before .before .before .before .before .before .before .before .before .before .before .before .before .before .before .before .before .before .before .before .before .before .before .args in
-    let f = c .before .before .before .before .before .before .before .before .before .before .before .before .before .before .before .before .before .before .full-name in
-    under-as (by-name (a .words .now) (a .text .now) (a .parts) (f .result) (f .ensures) (meant (a .span)) (c .before .before .before .before .before .before .before .before .before .before .before .before .before .before .before .before .before .before .before .before .before .before .before .pre .1 .1) (sym (c .before .before .before .before .before .before .before .before .before .before .is-named .ensures (a .words .now) (a .text .now)) ∙ c .before .before .before .before .before .before .before .before .before .if1 .taken))
-    (under-then (lowers-under (c .before .before .before .before .before .before .before .before .before .before .before .before .before .before .before .emit-name .ensures)) (rw (c .before .before .before .before .before .before .name-text .ensures, c .before .before .before .before .before .name-text2 .ensures) at (c .before .before .before .before .delete-named .ensures)))
+    let a = c .before .before .before .before .before .before .before .before .before .before .before .before .before .before .before
+    .before .before .before .before .before .before .before .before .args in
+    let f = c .before .before .before .before .before .before .before .before .before .before .before .before .before .before .before
+    .before .before .before .full-name in
+    under-as (by-name (a .words .now) (a .text .now) (a .parts) (f .result) (f .ensures) (meant (a .span))
+    (c .before .before .before .before .before .before .before .before .before .before .before .before .before .before .before .before
+    .before .before .before .before .before .before .before .pre .1 .1)
+    (sym (c .before .before .before .before .before .before .before .before .before .before .is-named .ensures (a .words .now)
+    (a .text .now)) ∙ c .before .before .before .before .before .before .before .before .before .if1 .taken))
+    (under-then (lowers-under
+    (c .before .before .before .before .before .before .before .before .before .before .before .before .before .before .before
+    .emit-name .ensures)) (rw (
+      c .before .before .before .before .before .before .name-text .ensures,
+      c .before .before .before .before .before .name-text2 .ensures,
+    ) at (c .before .before .before .before .delete-named .ensures)))
 
 first-of-requires : tie.Need-first-of-requires
 first-of-requires c κs = search needs
@@ -60,11 +71,20 @@ same-length-4 c = search needs
 
 returns-2 : tie.Need-returns-2
 returns-2 c =
-    let a = c .before .before .before .before .before .before .before .before .before .before .before .before .before .before .before .before .before .before .before .before .before .before .args in
-    let f = c .before .before .before .before .before .before .before .before .before .before .before .before .before .before .before .before .before .full-name in
+    let a = c .before .before .before .before .before .before .before .before .before .before .before .before .before .before .before
+    .before .before .before .before .before .before .before .args in
+    let f = c .before .before .before .before .before .before .before .before .before .before .before .before .before .before .before
+    .before .before .full-name in
     under-as
-    (λ p s. by-reference (a .words .now) (a .text .now) (a .parts) (f .result) (f .ensures) (meant (a .span)) (sym (c .before .before .before .before .before .before .before .before .before .is-named .ensures (a .words .now) (a .text .now)) ∙ c .before .before .before .before .before .before .before .before .if1 .left) s p ∙ ap (λ (o : Option Tree). deleteReferenced (meant (a .span)) o (emit (fullRead (a .words .now) (a .text .now) (f .result) .reports) s)) (c .before .before .before .before .before .before .before .first-of .ensures .tree (a .text .now)))
-    (lowers-under (lowers-then (c .before .before .before .before .before .before .before .before .before .before .before .before .before .before .emit-name .ensures) (c .before .before .before .before .delete-referenced .ensures)))
+    (λ p s. by-reference (a .words .now) (a .text .now) (a .parts) (f .result) (f .ensures) (meant (a .span))
+    (sym (c .before .before .before .before .before .before .before .before .before .is-named .ensures (a .words .now) (a .text .now))
+    ∙ c .before .before .before .before .before .before .before .before .if1 .left) s p
+    ∙ ap (λ (o : Option Tree). deleteReferenced (meant (a .span)) o
+    (emit (fullRead (a .words .now) (a .text .now) (f .result) .reports) s))
+    (c .before .before .before .before .before .before .before .first-of .ensures .tree (a .text .now)))
+    (lowers-under (lowers-then
+    (c .before .before .before .before .before .before .before .before .before .before .before .before .before .before .emit-name
+    .ensures) (c .before .before .before .before .delete-referenced .ensures)))
 
 pub emit-delete-node-spec : {M : Type 1} → statement M
 emit-delete-node-spec =

@@ -29,8 +29,13 @@ same-length-2 c = search needs
 
 returns-2 : tie.Need-returns-2
 returns-2 c =
-    let a = c .before .before .before .before .before .before .before .before .before .before .before .before .before .before .before .args in
-    a-property (a .words .now) (a .text .now) (a .parts) _ (c .before .before .before .before .before .before .before .before .before .before .first-of .ensures) (a .span) (c .before .before .before .before .before .before .before .before .before .if1 .left) (c .before .before .before .before .before .before .text-at .ensures) (c .before .before .before .before .before .no-text .ensures) (c .before .before .before .before .define .ensures)
+    let a = c .before .before .before .before .before .before .before .before .before .before .before .before .before .before .before .args
+    in
+    a-property (a .words .now) (a .text .now) (a .parts) _
+    (c .before .before .before .before .before .before .before .before .before .before .first-of .ensures) (a .span)
+    (c .before .before .before .before .before .before .before .before .before .if1 .left)
+    (c .before .before .before .before .before .before .text-at .ensures) (c .before .before .before .before .before .no-text .ensures)
+    (c .before .before .before .before .define .ensures)
 
 pub emit-delete-property-spec : {M : Type 1} → statement M
 emit-delete-property-spec =

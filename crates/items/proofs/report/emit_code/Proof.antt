@@ -1,5 +1,5 @@
 -- A diagnostic of the log, at a record (Reported).
-use Rattle.input.specs.Input.{spanAt}
+use Rattle.input.specs.meaning.Input.{spanAt}
 use mathlib.Core.List.{[]}
 use Rattle.items.proofs.Reported.{reported}
 use borrow.Author.Needs.{needs}
@@ -22,7 +22,9 @@ same-length-2 : tie.Need-same-length-2
 same-length-2 c = search needs
 
 returns : tie.Need-returns
-returns c = let a = c .before .before .before .before .before .before .before .before .before .before .before .before .args in reported (a .code) [] (spanAt (a .words .now) (a .r)) (c .before .before .before .before .before .before .before .before .span-at .ensures) (c .before .before .before .before .emit .ensures)
+returns c = let a = c .before .before .before .before .before .before .before .before .before .before .before .before .args in reported
+    (a .code) [] (spanAt (a .words .now) (a .r)) (c .before .before .before .before .before .before .before .before .span-at .ensures)
+    (c .before .before .before .before .emit .ensures)
 
 pub emit-code-spec : {M : Type 1} → statement M
 emit-code-spec =

@@ -24,11 +24,17 @@ same-length-2 : tie.Need-same-length-2
 same-length-2 c = search needs
 
 returns : tie.Need-returns
-returns c = let a = c .before .before .before .before .before .before .before .before .before .before .before .before .before .before .before .before .before .before .before .before .before .args in
-    same-reports (full-reports (a .words .now) (a .text .now) (a .f) (c .before .before .before .before .before .before .before .before .if1 .taken))
+returns c = let a = c .before .before .before .before .before .before .before .before .before .before .before .before .before .before
+    .before .before .before .before .before .before .before .args in
+    same-reports (full-reports (a .words .now) (a .text .now) (a .f)
+    (c .before .before .before .before .before .before .before .before .if1 .taken))
     (reports-then _ _
-    (same-reports (c .before .before .before .before .before .before .before .before .before .before .before .before .before .before .before .before .name-report .ensures (a .words .now) (a .text .now)) (c .before .before .before .before .before .before .before .before .before .before .before .before .before .emit-report .ensures))
-    (same-reports (c .before .before .before .before .before .before .before .name-report2 .ensures (a .words .now) (a .text .now)) (c .before .before .before .before .emit-report2 .ensures)))
+    (same-reports
+    (c .before .before .before .before .before .before .before .before .before .before .before .before .before .before .before .before
+    .name-report .ensures (a .words .now) (a .text .now))
+    (c .before .before .before .before .before .before .before .before .before .before .before .before .before .emit-report .ensures))
+    (same-reports (c .before .before .before .before .before .before .before .name-report2 .ensures (a .words .now) (a .text .now))
+    (c .before .before .before .before .emit-report2 .ensures)))
 
 same-length-3 : tie.Need-same-length-3
 same-length-3 c = search needs
@@ -38,7 +44,9 @@ same-length-4 c = search needs
 
 returns-2 : tie.Need-returns-2
 returns-2 c = let a = c .before .before .before .before .before .before .before .before .before .before .before .before .before .args in
-    same-reports (c .before .before .before .before .before .before .before .before .name-report .ensures (a .words .now) (a .text .now) ∙ name-reports (a .words .now) (a .text .now) (a .f) (c .if1 .left)) (c .before .before .before .before .before .emit-report .ensures)
+    same-reports (c .before .before .before .before .before .before .before .before .name-report .ensures (a .words .now) (a .text .now)
+    ∙ name-reports (a .words .now) (a .text .now) (a .f) (c .if1 .left))
+    (c .before .before .before .before .before .emit-report .ensures)
 
 pub emit-name-spec : {M : Type 1} → statement M
 emit-name-spec =

@@ -1,5 +1,5 @@
 -- By the cases of a report (Reported).
-use Rattle.input.specs.Reported.{reportsOf}
+use Rattle.input.specs.machine.Reported.{reportsOf}
 use mathlib.Core.Path.{sym, ap}
 use Rattle.items.proofs.Reported.{same-reports, reports-none}
 use borrow.Author.Needs.{needs}
@@ -22,7 +22,8 @@ emit-code-requires : tie.Need-emit-code-requires
 emit-code-requires c κs = search needs
 
 returns : tie.Need-returns
-returns c = let a = c .before .before .before .before .before .before .args in same-reports (sym (ap (reportsOf (a .words .now) (a .text .now)) (c .enum-told .given .1))) reports-none
+returns c = let a = c .before .before .before .before .before .before .args in same-reports
+    (sym (ap (reportsOf (a .words .now) (a .text .now)) (c .enum-told .given .1))) reports-none
 
 same-length : tie.Need-same-length
 same-length c = search needs
@@ -31,7 +32,11 @@ same-length-2 : tie.Need-same-length-2
 same-length-2 c = search needs
 
 returns-2 : tie.Need-returns-2
-returns-2 c = let a = c .before .before .before .before .before .before .before .before .before .before .before .before .before .before .args in same-reports (sym (ap (reportsOf (a .words .now) (a .text .now)) (c .before .before .before .before .before .before .before .before .report .given .1))) (c .before .before .before .before .undefined-macro .ensures)
+returns-2
+    c = let a = c .before .before .before .before .before .before .before .before .before .before .before .before .before .before
+    .args in same-reports (sym (ap (reportsOf (a .words .now) (a .text .now))
+    (c .before .before .before .before .before .before .before .before .report .given .1)))
+    (c .before .before .before .before .undefined-macro .ensures)
 
 same-length-3 : tie.Need-same-length-3
 same-length-3 c = search needs
@@ -40,7 +45,11 @@ same-length-4 : tie.Need-same-length-4
 same-length-4 c = search needs
 
 returns-3 : tie.Need-returns-3
-returns-3 c = let a = c .before .before .before .before .before .before .before .before .before .before .before .before .before .before .args in same-reports (sym (ap (reportsOf (a .words .now) (a .text .now)) (c .before .before .before .before .before .before .before .before .report2 .given .1))) (c .before .before .before .before .emit-code .ensures)
+returns-3
+    c = let a = c .before .before .before .before .before .before .before .before .before .before .before .before .before .before
+    .args in same-reports (sym (ap (reportsOf (a .words .now) (a .text .now))
+    (c .before .before .before .before .before .before .before .before .report2 .given .1)))
+    (c .before .before .before .before .emit-code .ensures)
 
 pub emit-report-spec : {M : Type 1} → statement M
 emit-report-spec =

@@ -1,5 +1,5 @@
 -- By the cases of a name.
-use Rattle.input.specs.NameRead.{nameRead}
+use Rattle.input.specs.machine.NameRead.{nameRead}
 use mathlib.Core.Path.{sym, ap}
 use borrow.Author.Needs.{needs}
 use Rattle.items.proofs.report.name_report.Statement.{statement}

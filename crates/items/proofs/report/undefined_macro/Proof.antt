@@ -1,6 +1,6 @@
 -- A diagnostic of the log, with the macro's text (Reported).
-use Rattle.input.specs.Input.{spanAt, recordAt}
-use Rattle.input.specs.Report.{report}
+use Rattle.input.specs.meaning.Input.{spanAt, recordAt}
+use Rattle.input.specs.meaning.Report.{report}
 use mathlib.Core.List.{List, [], _∷_}
 use Prim.Native.Nat.{ℕ}
 use mathlib.Core.Path.{ap}
@@ -27,8 +27,10 @@ same-length-2 c = search needs
 returns : tie.Need-returns
 unfolding recordAt
 returns c = let a = c .before .before .before .before .before .before .before .before .before .before .before .before .before .args in
-    same-reports (ap (λ (t : List ℕ). report 10 t (spanAt (a .words .now) (a .m)) ∷ []) (c .before .before .before .before .before .before .before .text-at .ensures))
-    (reported 10 _ (spanAt (a .words .now) (a .m)) (c .before .before .before .before .before .before .before .before .span-at .ensures) (c .before .before .before .before .emit .ensures))
+    same-reports (ap (λ (t : List ℕ). report 10 t (spanAt (a .words .now) (a .m)) ∷ [])
+    (c .before .before .before .before .before .before .before .text-at .ensures))
+    (reported 10 _ (spanAt (a .words .now) (a .m)) (c .before .before .before .before .before .before .before .before .span-at .ensures)
+    (c .before .before .before .before .emit .ensures))
 
 pub undefined-macro-spec : {M : Type 1} → statement M
 undefined-macro-spec =

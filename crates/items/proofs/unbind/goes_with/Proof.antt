@@ -1,8 +1,8 @@
 -- By where the base is read.
 use Rattle.items.proofs.Unbinding.{goes-by, base-named, base-given, base-binding, base-below}
 use mathlib.Core.Path.{refl, sym, ap, _∙_}
-use Rattle.items.specs.Unbinding.{goesWith, baseOf}
-use Rattle.log.specs.ReadBack.{bindingAt}
+use Rattle.items.specs.machine.Unbinding.{goesWith, baseOf}
+use Rattle.log.specs.meaning.ReadBack.{bindingAt}
 use borrow.Author.Needs.{needs}
 use Rattle.items.proofs.unbind.goes_with.Statement.{statement}
 use Rattle.items.proofs.unbind.goes_with.Tie as tie
@@ -46,22 +46,36 @@ unbinds-path-requires c κs = search needs
 returns : tie.Need-returns
 returns c =
     let a = c .before .before .before .before .before .before .before .before .before .before .args in
-    goes-by (a .ctx .bytes) (a .out .now) (a .bytes .now) (a .name .now) (a .unit .now) (a .ctx .defs .first) (a .base) (a .r) (c .unbinds-named .ensures) (c .before .before .before .before .before .first-text .ensures) (c .before .before .before .before .second-text .ensures) (base-named (a .ctx .bytes) (a .out .now) (a .bytes .now) (a .name .now) (a .unit .now) (a .base) _ (c .before .before .base .given .1))
+    goes-by (a .ctx .bytes) (a .out .now) (a .bytes .now) (a .name .now) (a .unit .now) (a .ctx .defs .first) (a .base) (a .r)
+    (c .unbinds-named .ensures) (c .before .before .before .before .before .first-text .ensures)
+    (c .before .before .before .before .second-text .ensures)
+    (base-named (a .ctx .bytes) (a .out .now) (a .bytes .now) (a .name .now) (a .unit .now) (a .base) _
+    (c .before .before .base .given .1))
 
 returns-2 : tie.Need-returns-2
 returns-2 c =
     let a = c .before .before .before .before .before .before .before .before .before .args in
-    goes-by (a .ctx .bytes) (a .out .now) (a .bytes .now) (a .name .now) (a .unit .now) (a .ctx .defs .first) (a .base) (a .r) (c .unbinds .ensures) (c .before .before .before .before .first-text .ensures) (c .before .before .before .second-text .ensures) (base-given (a .ctx .bytes) (a .out .now) (a .bytes .now) (a .name .now) (a .unit .now) (a .base) (c .before .enum-told .given .1))
+    goes-by (a .ctx .bytes) (a .out .now) (a .bytes .now) (a .name .now) (a .unit .now) (a .ctx .defs .first) (a .base) (a .r)
+    (c .unbinds .ensures) (c .before .before .before .before .first-text .ensures) (c .before .before .before .second-text .ensures)
+    (base-given (a .ctx .bytes) (a .out .now) (a .bytes .now) (a .name .now) (a .unit .now) (a .base) (c .before .enum-told .given .1))
 
 returns-3 : tie.Need-returns-3
 returns-3 c =
     let a = c .before .before .before .before .before .before .before .before .before .before .before .args in
-    goes-by (a .ctx .bytes) (a .out .now) (a .bytes .now) (a .name .now) (a .unit .now) (a .ctx .defs .first) (a .base) (a .r) (c .unbinds2 .ensures) (c .before .before .before .before .before .before .first-text .ensures) (c .before .before .before .before .before .second-text .ensures) (base-binding (a .ctx .bytes) (a .out .now) (a .bytes .now) (a .name .now) (a .unit .now) (a .base) _ _ (c .before .second-text2 .ensures) (c .before .before .before .base2 .given .1))
+    goes-by (a .ctx .bytes) (a .out .now) (a .bytes .now) (a .name .now) (a .unit .now) (a .ctx .defs .first) (a .base) (a .r)
+    (c .unbinds2 .ensures) (c .before .before .before .before .before .before .first-text .ensures)
+    (c .before .before .before .before .before .second-text .ensures)
+    (base-binding (a .ctx .bytes) (a .out .now) (a .bytes .now) (a .name .now) (a .unit .now) (a .base) _ _
+    (c .before .second-text2 .ensures) (c .before .before .before .base2 .given .1))
 
 returns-4 : tie.Need-returns-4
 returns-4 c =
     let a = c .before .before .before .before .before .before .before .before .before .before .before .args in
-    goes-by (a .ctx .bytes) (a .out .now) (a .bytes .now) (a .name .now) (a .unit .now) (a .ctx .defs .first) (a .base) (a .r) (c .unbinds-path .ensures) (c .before .before .before .before .before .before .first-text .ensures) (c .before .before .before .before .before .second-text .ensures) (base-below (a .ctx .bytes) (a .out .now) (a .bytes .now) (a .name .now) (a .unit .now) (a .base) _ _ (c .before .second-text3 .ensures) (c .before .before .before .base3 .given .1))
+    goes-by (a .ctx .bytes) (a .out .now) (a .bytes .now) (a .name .now) (a .unit .now) (a .ctx .defs .first) (a .base) (a .r)
+    (c .unbinds-path .ensures) (c .before .before .before .before .before .before .first-text .ensures)
+    (c .before .before .before .before .before .second-text .ensures)
+    (base-below (a .ctx .bytes) (a .out .now) (a .bytes .now) (a .name .now) (a .unit .now) (a .base) _ _
+    (c .before .second-text3 .ensures) (c .before .before .before .base3 .given .1))
 
 pub goes-with-spec : {M : Type 1} → statement M
 goes-with-spec =

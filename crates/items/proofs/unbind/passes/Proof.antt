@@ -1,6 +1,6 @@
 -- By the tests, in order.
 use mathlib.Core.Path.{refl, sym, _∙_}
-use Rattle.items.specs.Unbinding.{passesAt}
+use Rattle.items.specs.machine.Unbinding.{passesAt}
 use borrow.Author.Needs.{needs}
 use Rattle.items.proofs.unbind.passes.Statement.{statement}
 use Rattle.items.proofs.unbind.passes.Tie as tie

@@ -1,7 +1,7 @@
 -- By where the place ends (PathPlaces).
 use mathlib.Core.Path.{ap, _∙_}
 use native.Mathlib.Omega.{arith}
-use Rattle.making.specs.PathPlaces.{pathOf}
+use Rattle.making.specs.machine.PathPlaces.{pathOf}
 use Rattle.log.proofs.Texts.{text-within}
 use Rattle.making.proofs.PathPlaces.{path-bytes, settled-behind, settled-outside, settled-there}
 use borrow.Author.Needs.{needs}
@@ -29,7 +29,8 @@ part-result-end c = search needs
 returns : tie.Need-returns
 returns c =
     let a = c .before .before .before .before .args in
-    λ e. path-bytes (a .bytes .now) (record { root = a .place .root; start = 0; size = 0 }) e ∙ ap (pathOf (a .bytes .now)) (settled-behind (a .used) (a .bytes .now) (a .place) (c .before .if1 .taken))
+    λ e. path-bytes (a .bytes .now) (record { root = a .place .root; start = 0; size = 0 }) e
+    ∙ ap (pathOf (a .bytes .now)) (settled-behind (a .used) (a .bytes .now) (a .place) (c .before .if1 .taken))
 
 sub-result-2 : tie.Need-sub-result-2
 sub-result-2 c = search needs
@@ -43,7 +44,8 @@ part-result-end-2 c = search needs
 returns-2 : tie.Need-returns-2
 returns-2 c =
     let a = c .before .before .before .before .before .args in
-    λ e. path-bytes (a .bytes .now) (record { root = a .place .root; start = 0; size = 0 }) e ∙ ap (pathOf (a .bytes .now)) (settled-outside (a .used) (a .bytes .now) (a .place) (omega arith) (c .before .if2 .taken))
+    λ e. path-bytes (a .bytes .now) (record { root = a .place .root; start = 0; size = 0 }) e
+    ∙ ap (pathOf (a .bytes .now)) (settled-outside (a .used) (a .bytes .now) (a .place) (omega arith) (c .before .if2 .taken))
 
 sub-result-3 : tie.Need-sub-result-3
 sub-result-3 c = search needs
@@ -57,7 +59,8 @@ part-result-end-3 c = search needs
 returns-3 : tie.Need-returns-3
 returns-3 c =
     let a = c .before .before .before .before .before .args in
-    λ e. text-within (a .bytes .now) (a .place .start) (a .place .size) ∙ path-bytes (a .bytes .now) (a .place) e ∙ ap (pathOf (a .bytes .now)) (settled-there (a .used) (a .bytes .now) (a .place) (omega arith) (omega arith))
+    λ e. text-within (a .bytes .now) (a .place .start) (a .place .size) ∙ path-bytes (a .bytes .now) (a .place) e
+    ∙ ap (pathOf (a .bytes .now)) (settled-there (a .used) (a .bytes .now) (a .place) (omega arith) (omega arith))
 
 pub place-text-spec : {M : Type 1} → statement M
 place-text-spec =

@@ -20,7 +20,14 @@ same-length-2 c = search needs
 returns : tie.Need-returns
 returns c =
     let u = c .before .before .before .before .before .unbind .ensures in
-    record { unbinds = λ k s p h n at. let o = u .walks k s [] p (walk-start h n (c .before .before .before .before .before .before .before .before .log-count .ensures) at) in (unbinds-all o (u .ends), o .going) }
+    record {
+      unbinds = λ k s p h n at. let o = u .walks k s [] p
+          (walk-start h n (c .before .before .before .before .before .before .before .before .log-count .ensures) at) in (
+            unbinds-all o
+                (u .ends),
+            o .going,
+          );
+    }
 
 pub unbind-all-spec : {M : Type 1} → statement M
 unbind-all-spec =

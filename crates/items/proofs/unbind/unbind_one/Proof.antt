@@ -1,6 +1,6 @@
 -- By whether the binding goes.
 use mathlib.Core.Path.{refl, sym, _∙_}
-use Rattle.items.specs.Unbinding.{takes, leaves}
+use Rattle.items.specs.machine.Unbinding.{takes, leaves}
 use borrow.Author.Needs.{needs}
 use Rattle.items.proofs.unbind.unbind_one.Statement.{statement}
 use Rattle.items.proofs.unbind.unbind_one.Tie as tie
@@ -18,7 +18,8 @@ same-length-2 : tie.Need-same-length-2
 same-length-2 c = search needs
 
 returns : tie.Need-returns
-returns c = takes (sym (c .before .before .before .before .before .before .before .before .goes-with .ensures) ∙ c .before .before .before .before .before .before .before .if1 .taken) (c .before .before .before .before .unlink-binding .ensures)
+returns c = takes (sym (c .before .before .before .before .before .before .before .before .goes-with .ensures)
+    ∙ c .before .before .before .before .before .before .before .if1 .taken) (c .before .before .before .before .unlink-binding .ensures)
 
 same-length-3 : tie.Need-same-length-3
 same-length-3 c = search needs

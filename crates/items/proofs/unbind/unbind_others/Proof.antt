@@ -23,7 +23,13 @@ same-length-2 : tie.Need-same-length-2
 same-length-2 c = search needs
 
 returns : tie.Need-returns
-returns c = others-none (c .before .before .before .before .before .before .before .before .before .before .before .before .before .before .before .before .before .before .before .before .args .below) (c .before .before .before .before .before .before .before .before .before .before .before .before .first-with .ensures) (c .before .before .before .before .before .before .before .before .before .before .log-count .ensures) (c .before .before .before .before .before .before .before .before .before .bound-base .ensures) (c .before .before .before .before .before .before .unbind .ensures) (c .before .if1 .taken)
+returns c = others-none
+    (c .before .before .before .before .before .before .before .before .before .before .before .before .before .before .before .before
+    .before .before .before .before .args .below)
+    (c .before .before .before .before .before .before .before .before .before .before .before .before .first-with .ensures)
+    (c .before .before .before .before .before .before .before .before .before .before .log-count .ensures)
+    (c .before .before .before .before .before .before .before .before .before .bound-base .ensures)
+    (c .before .before .before .before .before .before .unbind .ensures) (c .before .if1 .taken)
 
 next-of-requires : tie.Need-next-of-requires
 next-of-requires c κs = search needs
@@ -44,7 +50,18 @@ same-length-4 : tie.Need-same-length-4
 same-length-4 c = search needs
 
 returns-2 : tie.Need-returns-2
-returns-2 c = others-all (c .before .before .before .before .before .before .before .before .before .before .before .before .before .before .before .before .before .before .before .before .before .before .before .before .before .before .before .before .before .before .args .below) (c .before .before .before .before .before .before .before .before .before .before .before .before .before .before .before .before .before .before .before .before .before .before .first-with .ensures) (c .before .before .before .before .before .before .before .before .before .before .before .before .before .before .before .before .before .before .before .before .log-count .ensures) (c .before .before .before .before .before .before .before .before .before .before .before .before .before .before .before .before .before .before .before .bound-base .ensures) (c .before .before .before .before .before .before .before .before .before .before .before .before .before .before .before .before .unbind .ensures) (c .before .before .before .before .before .before .before .before .before .next-of .ensures) (c .before .before .before .before .before .before .bound-base2 .ensures) (c .before .before .before .before .before .unbind2 .ensures)
+returns-2 c = others-all
+    (c .before .before .before .before .before .before .before .before .before .before .before .before .before .before .before .before
+    .before .before .before .before .before .before .before .before .before .before .before .before .before .before .args .below)
+    (c .before .before .before .before .before .before .before .before .before .before .before .before .before .before .before .before
+    .before .before .before .before .before .before .first-with .ensures)
+    (c .before .before .before .before .before .before .before .before .before .before .before .before .before .before .before .before
+    .before .before .before .before .log-count .ensures)
+    (c .before .before .before .before .before .before .before .before .before .before .before .before .before .before .before .before
+    .before .before .before .bound-base .ensures)
+    (c .before .before .before .before .before .before .before .before .before .before .before .before .before .before .before .before
+    .unbind .ensures) (c .before .before .before .before .before .before .before .before .before .next-of .ensures)
+    (c .before .before .before .before .before .before .bound-base2 .ensures) (c .before .before .before .before .before .unbind2 .ensures)
 
 pub unbind-others-spec : {M : Type 1} → statement M
 unbind-others-spec =

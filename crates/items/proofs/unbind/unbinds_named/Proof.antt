@@ -12,7 +12,10 @@ unbinds-path-requires : tie.Need-unbinds-path-requires
 unbinds-path-requires c κs = search needs
 
 returns : tie.Need-returns
-returns c = c .unbinds-path .ensures ∙ rw (root-read (c .before .before .before .before .before .before .before .before .before .args .ctx .bytes) (c .before .before .before .before .before .before .before .before .before .args .bytes .now) (c .before .before .before .before .before .before .before .before .before .args .place) (c .before .before .if1 .taken)) refl
+returns c = c .unbinds-path .ensures ∙ rw (root-read
+    (c .before .before .before .before .before .before .before .before .before .args .ctx .bytes)
+    (c .before .before .before .before .before .before .before .before .before .args .bytes .now)
+    (c .before .before .before .before .before .before .before .before .before .args .place) (c .before .before .if1 .taken)) refl
 
 place-text-requires : tie.Need-place-text-requires
 place-text-requires c κs = search needs

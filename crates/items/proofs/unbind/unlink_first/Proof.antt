@@ -17,7 +17,8 @@ same-length-2 : tie.Need-same-length-2
 same-length-2 c = search needs
 
 returns : tie.Need-returns
-returns c = unlinks-first (c .before .before .before .before .before .before .before .first-with .ensures) (c .before .before .before .before .unlink-binding .ensures)
+returns c = unlinks-first (c .before .before .before .before .before .before .before .first-with .ensures)
+    (c .before .before .before .before .unlink-binding .ensures)
 
 pub unlink-first-spec : {M : Type 1} → statement M
 unlink-first-spec =

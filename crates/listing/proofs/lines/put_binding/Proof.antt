@@ -1,8 +1,8 @@
 -- Its parts, one behind the other, each read from the record.
 use Rattle.listing.proofs.Pages.{puts-same, then-puts}
-use Rattle.listing.specs.Listing.{ascii, spanField, bindingLine}
+use Rattle.listing.specs.meaning.Listing.{ascii, spanField, bindingLine}
 use mathlib.Core.Path.{ap}
-use Rattle.log.specs.ReadBack.{bindingAt}
+use Rattle.log.specs.meaning.ReadBack.{bindingAt}
 use borrow.Author.Needs.{needs}
 use Rattle.listing.proofs.lines.put_binding.Statement.{statement}
 use Rattle.listing.proofs.lines.put_binding.Tie as tie
@@ -42,11 +42,22 @@ same-length c = search needs
 
 returns : tie.Need-returns
 unfolding bindingLine bindingAt ascii
-returns c = let label = puts-same (c .before .before .before .before .before .before .before .before .before .before .before .before .before .before .before .before .before .before .before .before .before .first-text .ensures) (c .before .before .before .before .before .before .before .before .before .before .before .before .before .before .before .before .before .before .before .before .put-text2 .ensures) in
-    let path = puts-same (c .before .before .before .before .before .before .before .before .before .before .before .before .second-text .ensures) (c .before .before .before .before .before .before .before .before .before .before .before .put-text3 .ensures) in
-    let span = puts-same (ap spanField (c .before .before .before .before .before .before .before .span-of .ensures)) (c .before .before .before .before .before .before .put-span .ensures) in
+returns c = let label = puts-same
+    (c .before .before .before .before .before .before .before .before .before .before .before .before .before .before .before .before
+    .before .before .before .before .before .first-text .ensures)
+    (c .before .before .before .before .before .before .before .before .before .before .before .before .before .before .before .before
+    .before .before .before .before .put-text2 .ensures) in
+    let path = puts-same
+    (c .before .before .before .before .before .before .before .before .before .before .before .before .second-text .ensures)
+    (c .before .before .before .before .before .before .before .before .before .before .before .put-text3 .ensures) in
+    let span = puts-same (ap spanField (c .before .before .before .before .before .before .before .span-of .ensures))
+    (c .before .before .before .before .before .before .put-span .ensures) in
     then-puts
-    (then-puts (then-puts (then-puts (then-puts (c .before .before .before .before .before .before .before .before .before .before .before .before .before .before .before .before .before .before .before .before .before .before .before .before .before .put-text .ensures) label) (c .before .before .before .before .before .before .before .before .before .before .before .before .before .before .before .before .put-byte .ensures)) path) span)
+    (then-puts (then-puts (then-puts (then-puts
+    (c .before .before .before .before .before .before .before .before .before .before .before .before .before .before .before .before
+    .before .before .before .before .before .before .before .before .before .put-text .ensures) label)
+    (c .before .before .before .before .before .before .before .before .before .before .before .before .before .before .before .before
+    .put-byte .ensures)) path) span)
     (c .before .before .put-byte2 .ensures)
 
 pub put-binding-spec : {M : Type 1} → statement M

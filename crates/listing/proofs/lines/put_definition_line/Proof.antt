@@ -1,11 +1,11 @@
 -- Its parts, one behind the other, each read from the record.
 use Rattle.listing.proofs.Pages.{puts-same, then-puts}
-use Rattle.listing.specs.Listing.{spanField, pathField, definitionLine}
+use Rattle.listing.specs.meaning.Listing.{spanField, pathField, definitionLine}
 use Prim.Native.Nat.{ℕ}
 use Prim.Native.Char.{code}
 use mathlib.Core.List.{[], _∷_}
 use mathlib.Core.Path.{ap}
-use Rattle.log.specs.ReadBack.{defAt}
+use Rattle.log.specs.meaning.ReadBack.{defAt}
 use borrow.Author.Needs.{needs}
 use Rattle.listing.proofs.lines.put_definition_line.Statement.{statement}
 use Rattle.listing.proofs.lines.put_definition_line.Tie as tie
@@ -45,10 +45,23 @@ same-length c = search needs
 
 returns : tie.Need-returns
 unfolding definitionLine defAt
-returns c = let head = puts-same (ap (λ (l : ℕ). code "D" ∷ code " " ∷ l ∷ code " " ∷ []) (c .before .before .before .before .before .before .before .before .before .before .before .before .before .before .before .before .before .before .before .before .before .before .before .before .letter-of .ensures (c .before .before .before .before .before .before .before .before .before .before .before .before .before .before .before .before .before .before .before .before .before .before .before .before .before .before .before .before .args .bytes .now))) (c .before .before .before .before .before .before .before .before .before .before .before .before .before .before .before .before .before .before .before .before .before .put-text .ensures) in
-    let path = puts-same (ap pathField (c .before .before .before .before .before .before .before .before .before .before .before .before .before .before .before .before .before .first-text .ensures)) (c .before .before .before .before .before .before .before .before .before .before .before .before .before .before .before .before .put-path .ensures) in
-    let span = puts-same (ap spanField (c .before .before .before .before .before .before .before .before .before .before .before .before .span-of .ensures)) (c .before .before .before .before .before .before .before .before .before .before .before .put-span .ensures) in
-    let name = puts-same (ap spanField (c .before .before .before .before .before .before .before .name-span-of .ensures)) (c .before .before .before .before .before .before .put-span2 .ensures) in
+returns c = let head = puts-same (ap (λ (l : ℕ). code "D" ∷ code " " ∷ l ∷ code " " ∷ [])
+    (c .before .before .before .before .before .before .before .before .before .before .before .before .before .before .before .before
+    .before .before .before .before .before .before .before .before .letter-of .ensures
+    (c .before .before .before .before .before .before .before .before .before .before .before .before .before .before .before .before
+    .before .before .before .before .before .before .before .before .before .before .before .before .args .bytes .now)))
+    (c .before .before .before .before .before .before .before .before .before .before .before .before .before .before .before .before
+    .before .before .before .before .before .put-text .ensures) in
+    let path = puts-same (ap pathField
+    (c .before .before .before .before .before .before .before .before .before .before .before .before .before .before .before
+    .before .before .first-text .ensures))
+    (c .before .before .before .before .before .before .before .before .before .before .before .before .before .before .before
+    .before .put-path .ensures) in
+    let span = puts-same (ap spanField
+    (c .before .before .before .before .before .before .before .before .before .before .before .before .span-of .ensures))
+    (c .before .before .before .before .before .before .before .before .before .before .before .put-span .ensures) in
+    let name = puts-same (ap spanField (c .before .before .before .before .before .before .before .name-span-of .ensures))
+    (c .before .before .before .before .before .before .put-span2 .ensures) in
     then-puts (then-puts (then-puts (then-puts head path) span) name) (c .before .before .put-byte .ensures)
 
 pub put-definition-line-spec : {M : Type 1} → statement M

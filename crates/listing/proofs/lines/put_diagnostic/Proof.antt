@@ -1,8 +1,8 @@
 -- Its parts, one behind the other, each read from the record; its text is not among them.
 use Rattle.listing.proofs.Pages.{puts-same, then-puts}
-use Rattle.listing.specs.Listing.{ascii, decimal, spanField, diagnosticLine}
+use Rattle.listing.specs.meaning.Listing.{ascii, decimal, spanField, diagnosticLine}
 use mathlib.Core.Path.{ap}
-use Rattle.log.specs.ReadBack.{diagAt}
+use Rattle.log.specs.meaning.ReadBack.{diagAt}
 use borrow.Author.Needs.{needs}
 use Rattle.listing.proofs.lines.put_diagnostic.Statement.{statement}
 use Rattle.listing.proofs.lines.put_diagnostic.Tie as tie
@@ -34,9 +34,14 @@ same-length c = search needs
 returns : tie.Need-returns
 unfolding diagnosticLine diagAt ascii
 returns c = λ bytes.
-    let code = puts-same (ap decimal (c .before .before .before .before .before .before .before .before .before .before .before .before .out-field .ensures)) (c .before .before .before .before .before .before .before .before .before .before .before .put-number .ensures) in
-    let span = puts-same (ap spanField (c .before .before .before .before .before .before .before .span-of .ensures)) (c .before .before .before .before .before .before .put-span .ensures) in
-    then-puts (then-puts (then-puts (c .before .before .before .before .before .before .before .before .before .before .before .before .before .before .before .before .put-text .ensures) code) span) (c .before .before .put-byte .ensures)
+    let code = puts-same (ap decimal
+    (c .before .before .before .before .before .before .before .before .before .before .before .before .out-field .ensures))
+    (c .before .before .before .before .before .before .before .before .before .before .before .put-number .ensures) in
+    let span = puts-same (ap spanField (c .before .before .before .before .before .before .before .span-of .ensures))
+    (c .before .before .before .before .before .before .put-span .ensures) in
+    then-puts (then-puts (then-puts
+    (c .before .before .before .before .before .before .before .before .before .before .before .before .before .before .before .before
+    .put-text .ensures) code) span) (c .before .before .put-byte .ensures)
 
 pub put-diagnostic-spec : {M : Type 1} → statement M
 put-diagnostic-spec =

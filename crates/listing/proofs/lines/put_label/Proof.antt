@@ -1,6 +1,6 @@
 -- Its parts, one behind the other.
 use Rattle.listing.proofs.Pages.{then-puts}
-use Rattle.listing.specs.Listing.{ascii, labelLine}
+use Rattle.listing.specs.meaning.Listing.{ascii, labelLine}
 use borrow.Author.Needs.{needs}
 use Rattle.listing.proofs.lines.put_label.Statement.{statement}
 use Rattle.listing.proofs.lines.put_label.Tie as tie
@@ -22,7 +22,8 @@ same-length c = search needs
 
 returns : tie.Need-returns
 unfolding labelLine ascii
-returns c = then-puts (then-puts (c .before .before .before .before .before .before .before .before .before .before .put-text .ensures) (c .before .before .before .before .before .before .put-text2 .ensures)) (c .before .before .put-byte .ensures)
+returns c = then-puts (then-puts (c .before .before .before .before .before .before .before .before .before .before .put-text .ensures)
+    (c .before .before .before .before .before .before .put-text2 .ensures)) (c .before .before .put-byte .ensures)
 
 pub put-label-spec : {M : Type 1} → statement M
 put-label-spec =

@@ -1,6 +1,6 @@
 -- Its parts, one behind the other.
 use Rattle.listing.proofs.Pages.{then-puts}
-use Rattle.listing.specs.Listing.{ascii, refusalLine}
+use Rattle.listing.specs.meaning.Listing.{ascii, refusalLine}
 use borrow.Author.Needs.{needs}
 use Rattle.listing.proofs.lines.put_refusal.Statement.{statement}
 use Rattle.listing.proofs.lines.put_refusal.Tie as tie
@@ -29,7 +29,12 @@ same-length c = search needs
 returns : tie.Need-returns
 unfolding refusalLine ascii
 returns c = then-puts
-    (then-puts (then-puts (then-puts (c .before .before .before .before .before .before .before .before .before .before .before .before .before .before .before .before .before .before .put-text .ensures) (c .before .before .before .before .before .before .before .before .before .before .before .before .before .before .put-number .ensures)) (c .before .before .before .before .before .before .before .before .before .before .put-byte .ensures)) (c .before .before .before .before .before .before .put-number2 .ensures))
+    (then-puts (then-puts (then-puts
+    (c .before .before .before .before .before .before .before .before .before .before .before .before .before .before .before .before
+    .before .before .put-text .ensures)
+    (c .before .before .before .before .before .before .before .before .before .before .before .before .before .before .put-number
+    .ensures)) (c .before .before .before .before .before .before .before .before .before .before .put-byte .ensures))
+    (c .before .before .before .before .before .before .put-number2 .ensures))
     (c .before .before .put-byte2 .ensures)
 
 pub put-refusal-spec : {M : Type 1} → statement M

@@ -3,10 +3,10 @@ use mathlib.Core.Path.{_≡_, refl, sym, _∙_}
 use mathlib.Core.List.{map, flatMap}
 use native.Mathlib.Omega.{arith}
 use lib.ListN.{length}
-use Rattle.log.specs.ReadBack.{chainFrom, chainOf, readDefs, defAt}
+use Rattle.log.specs.meaning.ReadBack.{chainFrom, chainOf, readDefs, defAt}
 use Rattle.queries.proofs.Chain.{goes-left}
-use Rattle.listing.specs.Listing.{definitionLines}
-use Rattle.listing.specs.Page.{pageAt, put}
+use Rattle.listing.specs.meaning.Listing.{definitionLines}
+use Rattle.listing.specs.machine.Page.{pageAt, put}
 use Rattle.listing.proofs.Pages.{puts-length}
 use Rattle.listing.proofs.Walks.{lines-next, lines-end}
 use borrow.Author.Needs.{needs}
@@ -14,7 +14,9 @@ use Rattle.listing.proofs.listing.put_definitions.Statement.{statement}
 use Rattle.listing.proofs.listing.put_definitions.Tie as tie
 
 abbrev Inv-loop : tie.InvT-loop
-Inv-loop words bytes first page₀ at to₀ r₀ left₀ page to r left = (length page ≡ length page₀) × (put (flatMap definitionLines (readDefs words bytes first)) (pageAt page₀ at) ≡ put (flatMap definitionLines (map (defAt words bytes) (chainFrom left words r))) (pageAt page to))
+Inv-loop words bytes first page₀ at to₀ r₀ left₀ page to r left = (length page ≡ length page₀)
+    × (put (flatMap definitionLines (readDefs words bytes first)) (pageAt page₀ at) ≡ put
+    (flatMap definitionLines (map (defAt words bytes) (chainFrom left words r))) (pageAt page to))
 
 abbrev μ-loop : tie.MeasureT-loop
 μ-loop words bytes first page₀ at to₀ r₀ left₀ page to r left = left
@@ -37,16 +39,29 @@ next-of-requires c κs = search needs
 
 sub-left : tie.Need-sub-left Inv-loop μ-loop
 sub-left c = let l = c .before .before .before .before .before .before .before .loop in
-    goes-left (c .before .before .before .before .before .before .before .before .before .before .before .before .args .words .now) (l .r) (l .left) (sym (c .before .before .before .before .before .before .goes-on .ensures) ∙ c .before .before .before .before .before .if1 .taken)
+    goes-left (c .before .before .before .before .before .before .before .before .before .before .before .before .args .words .now) (l .r)
+    (l .left) (sym (c .before .before .before .before .before .before .goes-on .ensures)
+    ∙ c .before .before .before .before .before .if1 .taken)
 
 loop-less : tie.Need-loop-less Inv-loop μ-loop
 loop-less c = let l = c .before .before .before .before .before .before .before .loop in
-    omega (arith, goes-left (c .before .before .before .before .before .before .before .before .before .before .before .before .args .words .now) (l .r) (l .left) (sym (c .before .before .before .before .before .before .goes-on .ensures) ∙ c .before .before .before .before .before .if1 .taken))
+    omega (
+      arith,
+      goes-left
+          (c .before .before .before .before .before .before .before .before .before .before .before .before .args .words .now) (l .r)
+          (l .left) (sym (c .before .before .before .before .before .before .goes-on .ensures)
+          ∙ c .before .before .before .before .before .if1 .taken),
+    )
 
 loop-again : tie.Need-loop-again Inv-loop μ-loop
 loop-again c = let a = c .before .before .before .before .before .before .before .before .before .before .before .before .args in
-    let l = c .before .before .before .before .before .before .before .loop in
-    (puts-length (c .before .before .before .put-definition .ensures) ∙ l .inv .0, lines-next definitionLines (defAt (a .words .now) (a .bytes .now)) (a .words .now) (l .r) (l .left) _ _ (l .inv .1) (sym (c .before .before .before .before .before .before .goes-on .ensures) ∙ c .before .before .before .before .before .if1 .taken) _ _ (c .before .before .before .put-definition .ensures) _ (c .next-of .ensures))
+    let l = c .before .before .before .before .before .before .before .loop in (
+      puts-length (c .before .before .before .put-definition .ensures)
+          ∙ l .inv .0,
+      lines-next definitionLines (defAt (a .words .now) (a .bytes .now)) (a .words .now) (l .r) (l .left) _ _ (l .inv .1)
+          (sym (c .before .before .before .before .before .before .goes-on .ensures) ∙ c .before .before .before .before .before .if1 .taken)
+          _ _ (c .before .before .before .put-definition .ensures) _ (c .next-of .ensures),
+    )
 
 same-length : tie.Need-same-length Inv-loop μ-loop
 same-length c = search needs
@@ -54,7 +69,10 @@ same-length c = search needs
 returns : tie.Need-returns Inv-loop μ-loop
 returns c = let a = c .before .before .before .before .before .before .before .args in
     let l = c .before .before .loop in
-    record { gives = lines-end definitionLines (defAt (a .words .now) (a .bytes .now)) (a .words .now) (l .r) (l .left) _ _ (l .inv .1) (sym (c .before .goes-on .ensures) ∙ c .if1 .left) }
+    record {
+      gives = lines-end definitionLines (defAt (a .words .now) (a .bytes .now)) (a .words .now) (l .r) (l .left) _ _ (l .inv .1)
+          (sym (c .before .goes-on .ensures) ∙ c .if1 .left);
+    }
 
 pub put-definitions-spec : {M : Type 1} → statement M
 put-definitions-spec =

@@ -2,8 +2,8 @@
 use Prim.Native.Nat.{ℕ}
 use mathlib.Core.Path.{ap}
 use mathlib.Core.List.{flatMap}
-use Rattle.log.specs.ReadBack.{readDefs, readBindings, readDiags, readLog}
-use Rattle.listing.specs.Listing.{ascii, definitionLines, bindingLine, diagnosticLine, listing}
+use Rattle.log.specs.meaning.ReadBack.{readDefs, readBindings, readDiags, readLog}
+use Rattle.listing.specs.meaning.Listing.{ascii, definitionLines, bindingLine, diagnosticLine, listing}
 use Rattle.listing.proofs.Pages.{puts-same, then-puts, puts-filled}
 use borrow.Author.Needs.{needs}
 use Rattle.listing.proofs.listing.write_listing.Statement.{statement}
@@ -44,11 +44,26 @@ same-length c = search needs
 
 returns : tie.Need-returns
 unfolding listing readLog ascii
-returns c = let a = c .before .before .before .before .before .before .before .before .before .before .before .before .before .before .before .before .before .before .before .before .before .before .before .before .before .before .before .before .args in
-    let defs = puts-same (ap (λ (first : ℕ). flatMap definitionLines (readDefs (a .words .now) (a .bytes .now) first)) (c .before .before .before .before .before .before .before .before .before .before .before .before .before .before .before .before .before .before .before .before .before .before .before .before .out-field .ensures)) (c .before .before .before .before .before .before .before .before .before .before .before .before .before .before .before .before .before .before .before .before .before .before .put-definitions .ensures) in
-    let binds = puts-same (ap (λ (first : ℕ). flatMap bindingLine (readBindings (a .words .now) (a .bytes .now) first)) (c .before .before .before .before .before .before .before .before .before .before .before .before .before .before .before .before .before .before .before .out-field2 .ensures)) (c .before .before .before .before .before .before .before .before .before .before .before .before .before .before .before .before .before .put-bindings .ensures) in
-    let diags = puts-same (ap (λ (first : ℕ). flatMap diagnosticLine (readDiags (a .words .now) (a .bytes .now) first)) (c .before .before .before .before .before .before .before .before .before .before .before .before .before .before .out-field3 .ensures)) (c .before .before .before .before .before .before .before .before .before .before .before .before .put-diagnostics .ensures (a .bytes .now)) in
-    let post = puts-same (ap (λ (first : ℕ). flatMap diagnosticLine (readDiags (a .words .now) (a .bytes .now) first)) (c .before .before .before .before .before .before .before .before .before .out-field4 .ensures)) (c .before .before .before .before .before .before .before .put-diagnostics2 .ensures (a .bytes .now)) in
+returns c = let a = c .before .before .before .before .before .before .before .before .before .before .before .before .before .before
+    .before .before .before .before .before .before .before .before .before .before .before .before .before .before .args in
+    let defs = puts-same (ap (λ (first : ℕ). flatMap definitionLines (readDefs (a .words .now) (a .bytes .now) first))
+    (c .before .before .before .before .before .before .before .before .before .before .before .before .before .before .before
+    .before .before .before .before .before .before .before .before .before .out-field .ensures))
+    (c .before .before .before .before .before .before .before .before .before .before .before .before .before .before .before
+    .before .before .before .before .before .before .before .put-definitions .ensures) in
+    let binds = puts-same (ap (λ (first : ℕ). flatMap bindingLine (readBindings (a .words .now) (a .bytes .now) first))
+    (c .before .before .before .before .before .before .before .before .before .before .before .before .before .before .before
+    .before .before .before .before .out-field2 .ensures))
+    (c .before .before .before .before .before .before .before .before .before .before .before .before .before .before .before
+    .before .before .put-bindings .ensures) in
+    let diags = puts-same (ap (λ (first : ℕ). flatMap diagnosticLine (readDiags (a .words .now) (a .bytes .now) first))
+    (c .before .before .before .before .before .before .before .before .before .before .before .before .before .before .out-field3
+    .ensures))
+    (c .before .before .before .before .before .before .before .before .before .before .before .before .put-diagnostics .ensures
+    (a .bytes .now)) in
+    let post = puts-same (ap (λ (first : ℕ). flatMap diagnosticLine (readDiags (a .words .now) (a .bytes .now) first))
+    (c .before .before .before .before .before .before .before .before .before .out-field4 .ensures))
+    (c .before .before .before .before .before .before .before .put-diagnostics2 .ensures (a .bytes .now)) in
     puts-filled (then-puts (then-puts (then-puts (then-puts defs binds) diags) post) (c .before .before .put-text .ensures))
 
 pub write-listing-spec : {M : Type 1} → statement M

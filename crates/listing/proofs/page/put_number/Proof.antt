@@ -24,7 +24,8 @@ same-length c = search needs
 
 returns : tie.Need-returns
 returns c = let d = c .before .before .before .before .before .decimal in
-    puts-same (d .ensures .1 .1 ∙ decimal-digits (d .result) (c .before .before .before .before .before .before .before .before .args .n) (omega arith) (d .ensures .1 .0)) (c .before .before .put-text .ensures)
+    puts-same (d .ensures .1 .1 ∙ decimal-digits (d .result) (c .before .before .before .before .before .before .before .before .args .n)
+    (omega arith) (d .ensures .1 .0)) (c .before .before .put-text .ensures)
 
 pub put-number-spec : {M : Type 1} → statement M
 put-number-spec =

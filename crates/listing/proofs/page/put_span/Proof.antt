@@ -1,6 +1,6 @@
 -- Its parts, one behind the other.
 use Rattle.listing.proofs.Pages.{then-puts}
-use Rattle.listing.specs.Listing.{spanField}
+use Rattle.listing.specs.meaning.Listing.{spanField}
 use borrow.Author.Needs.{needs}
 use Rattle.listing.proofs.page.put_span.Statement.{statement}
 use Rattle.listing.proofs.page.put_span.Tie as tie
@@ -22,7 +22,10 @@ same-length c = search needs
 
 returns : tie.Need-returns
 unfolding spanField
-returns c = then-puts (then-puts (then-puts (c .before .before .before .before .before .before .before .before .before .before .before .before .before .before .put-byte .ensures) (c .before .before .before .before .before .before .before .before .before .before .put-number .ensures)) (c .before .before .before .before .before .before .put-byte2 .ensures)) (c .before .before .put-number2 .ensures)
+returns c = then-puts (then-puts (then-puts
+    (c .before .before .before .before .before .before .before .before .before .before .before .before .before .before .put-byte .ensures)
+    (c .before .before .before .before .before .before .before .before .before .before .put-number .ensures))
+    (c .before .before .before .before .before .before .put-byte2 .ensures)) (c .before .before .put-number2 .ensures)
 
 pub put-span-spec : {M : Type 1} → statement M
 put-span-spec =

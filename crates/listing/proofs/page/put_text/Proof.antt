@@ -4,7 +4,7 @@ use Prim.Native.Nat.{_≤_, _-_}
 use mathlib.Core.Path.{_≡_, _∙_}
 use native.Mathlib.Omega.{arith}
 use lib.ListN.{length, drop}
-use Rattle.listing.specs.Page.{pageAt, put}
+use Rattle.listing.specs.machine.Page.{pageAt, put}
 use Rattle.listing.proofs.Pages.{puts-length, put-next, put-all}
 use Rattle.listing.proofs.page.put_text.Statement.{statement}
 use Rattle.listing.proofs.page.put_text.Tie as tie
@@ -13,7 +13,8 @@ use Rattle.listing.proofs.page.put_text.Lts as lts
 use Rattle.listing.proofs.page.put_byte.Reads as put-byte-reads
 
 abbrev Inv-loop : tie.InvT-loop
-Inv-loop page₀ at text to₀ i₀ page to i = (i ≤ length text) × (length page ≡ length page₀) × (put text (pageAt page₀ at) ≡ put (drop i text) (pageAt page to))
+Inv-loop page₀ at text to₀ i₀ page to i = (i ≤ length text) × (length page ≡ length page₀)
+    × (put text (pageAt page₀ at) ≡ put (drop i text) (pageAt page to))
 
 abbrev μ-loop : tie.MeasureT-loop
 μ-loop page₀ at text to₀ i₀ page to i = length text - i
@@ -42,8 +43,12 @@ loop-less c = search needs
 loop-again : tie.Need-loop-again Inv-loop μ-loop
 loop-again c =
     let a = c .before .before .before .before .before .before .before .before .before .args in
-    let l = c .before .before .before .before .before .before .loop in
-    (omega arith, puts-length (c .before .before .put-byte .ensures) ∙ l .inv .1, put-next (a .text .now) (l .i) _ _ (l .inv .2) (omega arith) _ _ (c .before .before .put-byte .ensures))
+    let l = c .before .before .before .before .before .before .loop in (
+      omega arith,
+      puts-length (c .before .before .put-byte .ensures)
+          ∙ l .inv .1,
+      put-next (a .text .now) (l .i) _ _ (l .inv .2) (omega arith) _ _ (c .before .before .put-byte .ensures),
+    )
 
 -- src/page.rt:21:1
 same-length : tie.Need-same-length Inv-loop μ-loop

@@ -4,14 +4,15 @@ use borrow.Author.Needs.{needs}
 use Prim.Native.Nat.{_≤_, _-_, _*_}
 use mathlib.Core.Path.{_≡_, refl}
 use lib.ListN.{length, drop, length-set}
-use Rattle.paths_numbers.specs.Text.{written}
-use Rattle.listing.specs.Program.{wordsOf}
+use Rattle.paths_numbers.specs.meaning.Text.{written}
+use Rattle.listing.specs.meaning.Program.{wordsOf}
 use Rattle.listing.proofs.InputWords.{word-next, words-end}
 use Rattle.listing.proofs.reading.read_words.Statement.{statement}
 use Rattle.listing.proofs.reading.read_words.Tie as tie
 
 abbrev Inv-loop : tie.InvT-loop
-Inv-loop s n words₀ i₀ words i = (i ≤ n) × (length words ≡ length words₀) × (written words₀ 0 (wordsOf n s) ≡ written words i (wordsOf (n - i) (drop (i * 4) s)))
+Inv-loop s n words₀ i₀ words i = (i ≤ n) × (length words ≡ length words₀)
+    × (written words₀ 0 (wordsOf n s) ≡ written words i (wordsOf (n - i) (drop (i * 4) s)))
 
 abbrev μ-loop : tie.MeasureT-loop
 μ-loop s n words₀ i₀ words i = n - i
@@ -41,8 +42,12 @@ loop-less c = search needs
 
 loop-again : tie.Need-loop-again Inv-loop μ-loop
 loop-again c = let a = c .before .before .before .before .before .args in
-    let l = c .before .before .loop in
-    (omega arith, simp length-set (l .inv .1), word-next (l .words) (a .s .now) (l .i) (a .n) _ (l .inv .2) (omega arith) (omega arith) _ (c .word-at .ensures))
+    let l = c .before .before .loop in (
+      omega arith,
+      simp length-set (l .inv .1),
+      word-next (l .words) (a .s .now) (l .i) (a .n) _ (l .inv .2) (omega arith) (omega arith) _
+          (c .word-at .ensures),
+    )
 
 same-length : tie.Need-same-length Inv-loop μ-loop
 same-length c = search needs

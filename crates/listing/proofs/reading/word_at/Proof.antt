@@ -28,7 +28,12 @@ mul-high : tie.Need-mul-high
 mul-high c = omega (arith, c .shared-slice-known2 .given (c .before .before .args .at + 3))
 
 add-high-3 : tie.Need-add-high-3
-add-high-3 c = omega (arith, c .shared-slice-known2 .given (c .before .before .args .at + 2), c .shared-slice-known2 .given (c .before .before .args .at + 3))
+add-high-3 c = omega (
+  arith,
+  c .shared-slice-known2 .given (c .before .before .args .at + 2),
+  c .shared-slice-known2 .given
+      (c .before .before .args .at + 3),
+)
 
 shared-slice-read-result : tie.Need-shared-slice-read-result
 shared-slice-read-result c = search needs
@@ -46,16 +51,40 @@ cast-result-2 : tie.Need-cast-result-2
 cast-result-2 c = omega (arith, c .shared-slice-known4 .given (c .before .before .before .before .args .at + 1))
 
 mul-result : tie.Need-mul-result
-mul-result c = omega (arith, c .shared-slice-known4 .given (c .before .before .before .before .args .at + 2), c .shared-slice-known4 .given (c .before .before .before .before .args .at + 3))
+mul-result c = omega (
+  arith,
+  c .shared-slice-known4 .given (c .before .before .before .before .args .at + 2),
+  c .shared-slice-known4 .given
+      (c .before .before .before .before .args .at + 3),
+)
 
 add-result-2 : tie.Need-add-result-2
-add-result-2 c = omega (arith, c .shared-slice-known4 .given (c .before .before .before .before .args .at + 1), c .shared-slice-known4 .given (c .before .before .before .before .args .at + 2), c .shared-slice-known4 .given (c .before .before .before .before .args .at + 3))
+add-result-2 c = omega (
+  arith,
+  c .shared-slice-known4 .given (c .before .before .before .before .args .at + 1),
+  c .shared-slice-known4 .given (c .before .before .before .before .args .at + 2),
+  c .shared-slice-known4 .given
+      (c .before .before .before .before .args .at + 3),
+)
 
 mul-result-2 : tie.Need-mul-result-2
-mul-result-2 c = omega (arith, c .shared-slice-known4 .given (c .before .before .before .before .args .at + 1), c .shared-slice-known4 .given (c .before .before .before .before .args .at + 2), c .shared-slice-known4 .given (c .before .before .before .before .args .at + 3))
+mul-result-2 c = omega (
+  arith,
+  c .shared-slice-known4 .given (c .before .before .before .before .args .at + 1),
+  c .shared-slice-known4 .given (c .before .before .before .before .args .at + 2),
+  c .shared-slice-known4 .given
+      (c .before .before .before .before .args .at + 3),
+)
 
 add-result-3 : tie.Need-add-result-3
-add-result-3 c = omega (arith, c .shared-slice-known4 .given (c .before .before .before .before .args .at), c .shared-slice-known4 .given (c .before .before .before .before .args .at + 1), c .shared-slice-known4 .given (c .before .before .before .before .args .at + 2), c .shared-slice-known4 .given (c .before .before .before .before .args .at + 3))
+add-result-3 c = omega (
+  arith,
+  c .shared-slice-known4 .given (c .before .before .before .before .args .at),
+  c .shared-slice-known4 .given
+      (c .before .before .before .before .args .at + 1),
+  c .shared-slice-known4 .given (c .before .before .before .before .args .at + 2),
+  c .shared-slice-known4 .given (c .before .before .before .before .args .at + 3),
+)
 
 returns : tie.Need-returns
 returns c = word-bytes (c .before .before .before .before .args .s .now) (c .before .before .before .before .args .at)

@@ -1,7 +1,7 @@
 -- A word outside the log reads as 0.
 use lib.ListN.{List·getD-eq-default}
 use mathlib.Core.Path.{refl, sym}
-use Rattle.log.specs.Record.{outField}
+use Rattle.log.specs.meaning.Record.{outField}
 use borrow.Author.Needs.{needs}
 use Rattle.log.proofs.record.out_field.Statement.{statement}
 use Rattle.log.proofs.record.out_field.Tie as tie

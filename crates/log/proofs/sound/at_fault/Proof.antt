@@ -1,7 +1,7 @@
 -- By the record and its mark.
 use borrow.Author.Tests.{eq-eqb, ne-eqb}
 use mathlib.Core.Path.{refl, _∙_}
-use Rattle.log.specs.Walk.{faultBy}
+use Rattle.log.specs.machine.Walk.{faultBy}
 use borrow.Author.Needs.{needs}
 use Rattle.log.proofs.sound.at_fault.Statement.{statement}
 use Rattle.log.proofs.sound.at_fault.Tie as tie
@@ -28,7 +28,8 @@ returns-4 : tie.Need-returns-4
 unfolding faultBy
 returns-4 c =
     let k = c .before in
-    c .record-wrong .ensures ∙ rw (ne-eqb _ _ (k .before .before .if1 .left), ne-eqb _ _ (k .before .if2 .left), ne-eqb _ _ (k .if3 .left)) refl
+    c .record-wrong .ensures ∙ rw (ne-eqb _ _ (k .before .before .if1 .left), ne-eqb _ _ (k .before .if2 .left), ne-eqb _ _ (k .if3 .left))
+    refl
 
 pub at-fault-spec : {M : Type 1} → statement M
 at-fault-spec =

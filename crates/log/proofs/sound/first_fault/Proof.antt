@@ -4,7 +4,7 @@ use Prim.Native.Nat.{ℕ, _-_, _≤_}
 use mathlib.Core.Path.{_≡_, sym, ap, _∙_}
 use native.Mathlib.Omega.{arith}
 use native.Mathlib.Nat.{sub-zero}
-use Rattle.log.specs.Walk.{faultBy, firstBy}
+use Rattle.log.specs.machine.Walk.{faultBy, firstBy}
 use Rattle.log.proofs.Search.{fault-here, fault-later, fault-none}
 use Rattle.log.proofs.sound.first_fault.Statement.{statement}
 use Rattle.log.proofs.sound.first_fault.Tie as tie
@@ -33,8 +33,10 @@ returns : tie.Need-returns Inv-loop μ-loop
 returns c =
     let l = c .before .before .before .before in
     let a = l .before .before .before .before .before .args in
-    fault-here (a .words .now) (a .bytes .now) (a .marks .now) _ (l .loop .r) _ (l .loop .inv .1) (c .before .before .before .loop-test .taken)
-    (ap (λ (m : ℕ). faultBy (a .words .now) (a .bytes .now) m (l .loop .r)) (sym (c .before .before .mark-at .ensures)) ∙ sym (c .before .at-fault .ensures) ∙ c .if1 .taken)
+    fault-here (a .words .now) (a .bytes .now) (a .marks .now) _ (l .loop .r) _ (l .loop .inv .1)
+    (c .before .before .before .loop-test .taken)
+    (ap (λ (m : ℕ). faultBy (a .words .now) (a .bytes .now) m (l .loop .r)) (sym (c .before .before .mark-at .ensures))
+    ∙ sym (c .before .at-fault .ensures) ∙ c .if1 .taken)
     ∙ ap (λ (k : ℕ). firstBy k (a .words .now) (a .bytes .now) (a .marks .now) 0) (l .before .log-count .ensures)
 
 add-r : tie.Need-add-r Inv-loop μ-loop
@@ -48,8 +50,10 @@ loop-again c =
     let l = c .before .before .before .before in
     let a = l .before .before .before .before .before .args in (
       omega arith,
-      fault-later (a .words .now) (a .bytes .now) (a .marks .now) _ (l .loop .r) _ (l .loop .inv .1) (c .before .before .before .loop-test .taken)
-          (ap (λ (m : ℕ). faultBy (a .words .now) (a .bytes .now) m (l .loop .r)) (sym (c .before .before .mark-at .ensures)) ∙ sym (c .before .at-fault .ensures) ∙ c .if1 .left),
+      fault-later (a .words .now) (a .bytes .now) (a .marks .now) _ (l .loop .r) _ (l .loop .inv .1)
+          (c .before .before .before .loop-test .taken)
+          (ap (λ (m : ℕ). faultBy (a .words .now) (a .bytes .now) m (l .loop .r)) (sym (c .before .before .mark-at .ensures))
+          ∙ sym (c .before .at-fault .ensures) ∙ c .if1 .left),
     )
 
 returns-2 : tie.Need-returns-2 Inv-loop μ-loop

@@ -1,6 +1,6 @@
 -- By whether the kind fits.
 use mathlib.Core.Path.{refl, sym, _∙_}
-use Rattle.log.specs.Walk.{firstMark}
+use Rattle.log.specs.machine.Walk.{firstMark}
 use borrow.Author.Needs.{needs}
 use Rattle.log.proofs.sound.first_mark.Statement.{statement}
 use Rattle.log.proofs.sound.first_mark.Tie as tie

@@ -15,7 +15,8 @@ leads-to-requires c κs = search needs
 returns : tie.Need-returns
 returns c =
     let a = c .before .before .before .before .before .args in
-    no-link (a .words .now) (a .marks .now) (a .queue .now) (a .n) (a .r) (a .place) (sym (c .before .leads-to .ensures) ∙ not-true _ (c .if1 .taken))
+    no-link (a .words .now) (a .marks .now) (a .queue .now) (a .n) (a .r) (a .place)
+    (sym (c .before .leads-to .ensures) ∙ not-true _ (c .if1 .taken))
 
 mark-at-requires : tie.Need-mark-at-requires
 mark-at-requires c κs = search needs
@@ -60,13 +61,24 @@ mul-queue : tie.Need-mul-queue
 mul-queue c =
     let i = c .before .before .before .before .before .before .before .before .before in
     let a = i .before .before .before .before .before .args in
-    omega (arith, leads-below (a .words .now) (a .r) (sym (i .before .leads-to .ensures) ∙ not-false _ (i .if1 .left)) .1, count-most (a .words .now))
+    omega (
+      arith,
+      leads-below (a .words .now) (a .r) (sym (i .before .leads-to .ensures) ∙ not-false _ (i .if1 .left)) .1,
+      count-most
+          (a .words .now),
+    )
 
 add-queue : tie.Need-add-queue
 add-queue c =
     let i = c .before .before .before .before .before .before .before .before .before in
     let a = i .before .before .before .before .before .args in
-    omega (arith, leads-below (a .words .now) (a .r) (sym (i .before .leads-to .ensures) ∙ not-false _ (i .if1 .left)) .1, count-most (a .words .now), i .before .before .before .before .before .pre)
+    omega (
+      arith,
+      leads-below (a .words .now) (a .r) (sym (i .before .leads-to .ensures) ∙ not-false _ (i .if1 .left)) .1,
+      count-most
+          (a .words .now),
+      i .before .before .before .before .before .pre,
+    )
 
 mul-queue-2 : tie.Need-mul-queue-2
 mul-queue-2 c = search needs

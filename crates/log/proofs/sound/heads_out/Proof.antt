@@ -1,6 +1,6 @@
 -- By each of the five links in turn.
 use mathlib.Core.Path.{refl, sym, _∙_}
-use Rattle.log.specs.Sound.{headsOut, anyOf}
+use Rattle.log.specs.meaning.Sound.{headsOut, anyOf}
 use Rattle.log.proofs.Tests.{last-test}
 use borrow.Author.Needs.{needs}
 use Rattle.log.proofs.sound.heads_out.Statement.{statement}
@@ -30,7 +30,12 @@ unfolding headsOut anyOf
 returns-3 c =
     let d = c .before .before in
     let b = d .before .before in
-    rw (sym (b .before .leads-out .ensures) ∙ b .if1 .left, sym (d .before .leads-out2 .ensures) ∙ d .if2 .left, sym (c .before .leads-out3 .ensures) ∙ c .if3 .taken) refl
+    rw (
+      sym (b .before .leads-out .ensures) ∙ b .if1 .left,
+      sym (d .before .leads-out2 .ensures)
+          ∙ d .if2 .left,
+      sym (c .before .leads-out3 .ensures) ∙ c .if3 .taken,
+    ) refl
 
 leads-out-requires-4 : tie.Need-leads-out-requires-4
 leads-out-requires-4 c κs = search needs
@@ -41,7 +46,13 @@ returns-4 c =
     let e = c .before .before in
     let d = e .before .before in
     let b = d .before .before in
-    rw (sym (b .before .leads-out .ensures) ∙ b .if1 .left, sym (d .before .leads-out2 .ensures) ∙ d .if2 .left, sym (e .before .leads-out3 .ensures) ∙ e .if3 .left, sym (c .before .leads-out4 .ensures) ∙ c .if4 .taken) refl
+    rw (
+      sym (b .before .leads-out .ensures) ∙ b .if1 .left,
+      sym (d .before .leads-out2 .ensures)
+          ∙ d .if2 .left,
+      sym (e .before .leads-out3 .ensures) ∙ e .if3 .left,
+      sym (c .before .leads-out4 .ensures) ∙ c .if4 .taken,
+    ) refl
 
 leads-out-requires-5 : tie.Need-leads-out-requires-5
 leads-out-requires-5 c κs = search needs
@@ -54,7 +65,13 @@ returns-5 c =
     let d = e .before .before in
     let b = d .before .before in
     c .leads-out5 .ensures
-    ∙ rw (sym (b .before .leads-out .ensures) ∙ b .if1 .left, sym (d .before .leads-out2 .ensures) ∙ d .if2 .left, sym (e .before .leads-out3 .ensures) ∙ e .if3 .left, sym (f .before .leads-out4 .ensures) ∙ f .if4 .left)
+    ∙ rw (
+      sym (b .before .leads-out .ensures) ∙ b .if1 .left,
+      sym (d .before .leads-out2 .ensures)
+          ∙ d .if2 .left,
+      sym (e .before .leads-out3 .ensures) ∙ e .if3 .left,
+      sym (f .before .leads-out4 .ensures) ∙ f .if4 .left,
+    )
     (sym (last-test _))
 
 pub heads-out-spec : {M : Type 1} → statement M

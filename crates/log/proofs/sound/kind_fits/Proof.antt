@@ -1,7 +1,7 @@
 -- By the chain's number in turn.
 use borrow.Author.Tests.{ne-eqb}
 use mathlib.Core.Path.{refl, _∙_}
-use Rattle.log.specs.Walk.{placeOf}
+use Rattle.log.specs.machine.Walk.{placeOf}
 use borrow.Author.Needs.{needs}
 use Rattle.log.proofs.sound.kind_fits.Statement.{statement}
 use Rattle.log.proofs.sound.kind_fits.Tie as tie
@@ -89,7 +89,16 @@ returns-8 c =
     let b = d .before in
     let a = b .before in
     c .one-of7 .ensures
-    ∙ rw (ne-eqb _ _ (a .before .if1 .left), ne-eqb _ _ (a .if2 .left), ne-eqb _ _ (b .if3 .left), ne-eqb _ _ (d .if4 .left), ne-eqb _ _ (e .if5 .left), ne-eqb _ _ (f .if6 .left), ne-eqb _ _ (g .if7 .left)) refl
+    ∙ rw (
+      ne-eqb _ _ (a .before .if1 .left),
+      ne-eqb _ _ (a .if2 .left),
+      ne-eqb _ _ (b .if3 .left),
+      ne-eqb _ _ (d .if4 .left),
+      ne-eqb _ _
+          (e .if5 .left),
+      ne-eqb _ _ (f .if6 .left),
+      ne-eqb _ _ (g .if7 .left),
+    ) refl
 
 pub kind-fits-spec : {M : Type 1} → statement M
 kind-fits-spec =

@@ -1,6 +1,6 @@
 -- By each of the three links in turn.
 use mathlib.Core.Path.{refl, sym, _∙_}
-use Rattle.log.specs.Sound.{linksOut, anyOf}
+use Rattle.log.specs.meaning.Sound.{linksOut, anyOf}
 use Rattle.log.proofs.Tests.{last-test}
 use borrow.Author.Needs.{needs}
 use Rattle.log.proofs.sound.links_out.Statement.{statement}

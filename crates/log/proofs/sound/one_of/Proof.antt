@@ -4,7 +4,7 @@ use Prim.Native.Nat.{_-_, _≤_}
 use mathlib.Core.Path.{_≡_, refl}
 use native.Mathlib.Omega.{arith}
 use lib.ListN.{length, drop}
-use Rattle.log.specs.Record.{oneOf}
+use Rattle.log.specs.meaning.Record.{oneOf}
 use Rattle.log.proofs.Tests.{found-at, not-at, not-in}
 use Rattle.log.proofs.sound.one_of.Statement.{statement}
 use Rattle.log.proofs.sound.one_of.Tie as tie

@@ -1,7 +1,7 @@
 -- By the kind in turn.
 use borrow.Author.Tests.{eq-eqb, ne-eqb}
 use mathlib.Core.Path.{refl, sym, _∙_}
-use Rattle.log.specs.Sound.{pathWrong}
+use Rattle.log.specs.meaning.Sound.{pathWrong}
 use borrow.Author.Needs.{needs}
 use Rattle.log.proofs.sound.path_wrong.Statement.{statement}
 use Rattle.log.proofs.sound.path_wrong.Tie as tie
@@ -25,7 +25,13 @@ returns : tie.Need-returns
 unfolding pathWrong
 returns c =
     let i = c .before .before in
-    rw (c .good-path .ensures, c .before .first-text .ensures, ← (i .before .before .before .kind-of .ensures), sym (i .before .one-of .ensures) ∙ i .if1 .taken) refl
+    rw (
+      c .good-path .ensures,
+      c .before .first-text .ensures,
+      ← (i .before .before .before .kind-of .ensures),
+      sym
+          (i .before .one-of .ensures) ∙ i .if1 .taken,
+    ) refl
 
 is-def-requires : tie.Need-is-def-requires
 is-def-requires c κs = search needs
@@ -41,7 +47,14 @@ unfolding pathWrong
 returns-2 c =
     let j = c .before .before in
     let i = j .before .before in
-    rw (c .nonempty-path .ensures, c .before .first-text2 .ensures, ← (i .before .before .before .kind-of .ensures), sym (i .before .one-of .ensures) ∙ i .if1 .left, sym (j .before .is-def .ensures) ∙ j .if2 .taken) refl
+    rw (
+      c .nonempty-path .ensures,
+      c .before .first-text2 .ensures,
+      ← (i .before .before .before .kind-of .ensures),
+      sym
+          (i .before .one-of .ensures) ∙ i .if1 .left,
+      sym (j .before .is-def .ensures) ∙ j .if2 .taken,
+    ) refl
 
 second-text-requires : tie.Need-second-text-requires
 second-text-requires c κs = search needs
@@ -55,14 +68,28 @@ returns-3 c =
     let k = c .before .before in
     let j = k .before in
     let i = j .before .before in
-    rw (c .nonempty-path2 .ensures, c .before .second-text .ensures, ← (i .before .before .before .kind-of .ensures), sym (i .before .one-of .ensures) ∙ i .if1 .left, sym (j .before .is-def .ensures) ∙ j .if2 .left, eq-eqb _ _ (k .if3 .taken)) refl
+    rw (
+      c .nonempty-path2 .ensures,
+      c .before .second-text .ensures,
+      ← (i .before .before .before .kind-of .ensures),
+      sym
+          (i .before .one-of .ensures) ∙ i .if1 .left,
+      sym (j .before .is-def .ensures) ∙ j .if2 .left,
+      eq-eqb _ _ (k .if3 .taken),
+    ) refl
 
 returns-4 : tie.Need-returns-4
 unfolding pathWrong
 returns-4 c =
     let j = c .before in
     let i = j .before .before in
-    rw (← (i .before .before .before .kind-of .ensures), sym (i .before .one-of .ensures) ∙ i .if1 .left, sym (j .before .is-def .ensures) ∙ j .if2 .left, ne-eqb _ _ (c .if3 .left)) refl
+    rw (
+      ← (i .before .before .before .kind-of .ensures),
+      sym (i .before .one-of .ensures) ∙ i .if1 .left,
+      sym (j .before .is-def .ensures)
+          ∙ j .if2 .left,
+      ne-eqb _ _ (c .if3 .left),
+    ) refl
 
 pub path-wrong-spec : {M : Type 1} → statement M
 path-wrong-spec =

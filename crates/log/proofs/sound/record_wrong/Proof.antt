@@ -1,7 +1,7 @@
 -- By each test in turn.
 use mathlib.Core.Path.{refl, sym, _∙_}
-use Rattle.log.specs.Sound.{anyOf}
-use Rattle.log.specs.Walk.{recordWrong}
+use Rattle.log.specs.meaning.Sound.{anyOf}
+use Rattle.log.specs.machine.Walk.{recordWrong}
 use Rattle.log.proofs.Tests.{last-test}
 use borrow.Author.Needs.{needs}
 use Rattle.log.proofs.sound.record_wrong.Statement.{statement}
@@ -31,7 +31,12 @@ unfolding recordWrong anyOf
 returns-3 c =
     let j = c .before .before in
     let i = j .before .before in
-    rw (sym (i .before .links-out .ensures) ∙ i .if1 .left, sym (j .before .texts-out .ensures) ∙ j .if2 .left, sym (c .before .spans-reversed .ensures) ∙ c .if3 .taken) refl
+    rw (
+      sym (i .before .links-out .ensures) ∙ i .if1 .left,
+      sym (j .before .texts-out .ensures)
+          ∙ j .if2 .left,
+      sym (c .before .spans-reversed .ensures) ∙ c .if3 .taken,
+    ) refl
 
 path-wrong-requires : tie.Need-path-wrong-requires
 path-wrong-requires c κs = search needs
@@ -43,7 +48,12 @@ returns-4 c =
     let j = k .before .before in
     let i = j .before .before in
     c .path-wrong .ensures
-    ∙ rw (sym (i .before .links-out .ensures) ∙ i .if1 .left, sym (j .before .texts-out .ensures) ∙ j .if2 .left, sym (k .before .spans-reversed .ensures) ∙ k .if3 .left) (sym (last-test _))
+    ∙ rw (
+      sym (i .before .links-out .ensures) ∙ i .if1 .left,
+      sym (j .before .texts-out .ensures)
+          ∙ j .if2 .left,
+      sym (k .before .spans-reversed .ensures) ∙ k .if3 .left,
+    ) (sym (last-test _))
 
 pub record-wrong-spec : {M : Type 1} → statement M
 record-wrong-spec =

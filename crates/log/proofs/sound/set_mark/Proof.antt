@@ -1,7 +1,7 @@
 -- A mark outside the marks is not set.
 use lib.Seq.{set-out}
 use mathlib.Core.Path.{refl, sym}
-use Rattle.log.specs.Walk.{stored}
+use Rattle.log.specs.machine.Walk.{stored}
 use borrow.Author.Needs.{needs}
 use Rattle.log.proofs.sound.set_mark.Statement.{statement}
 use Rattle.log.proofs.sound.set_mark.Tie as tie

@@ -1,6 +1,6 @@
 -- By each of the two spans in turn.
 use mathlib.Core.Path.{refl, sym, _∙_}
-use Rattle.log.specs.Sound.{spansReversed}
+use Rattle.log.specs.meaning.Sound.{spansReversed}
 use borrow.Author.Needs.{needs}
 use Rattle.log.proofs.sound.spans_reversed.Statement.{statement}
 use Rattle.log.proofs.sound.spans_reversed.Tie as tie

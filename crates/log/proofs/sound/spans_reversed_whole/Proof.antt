@@ -20,7 +20,8 @@ returns : tie.Need-returns
 returns c =
     let i = c .before .before in
     let h = i .before in
-    rw (c .before .out-field .ensures, c .out-field2 .ensures, ← (h .before .kind-of .ensures), sym (h .has-span .ensures) ∙ i .if1 .taken) refl
+    rw (c .before .out-field .ensures, c .out-field2 .ensures, ← (h .before .kind-of .ensures), sym (h .has-span .ensures) ∙ i .if1 .taken)
+    refl
 
 returns-2 : tie.Need-returns-2
 returns-2 c = rw (← (c .before .before .kind-of .ensures), sym (c .before .has-span .ensures) ∙ c .if1 .left) refl

@@ -1,6 +1,6 @@
 -- By each of the two texts in turn.
 use mathlib.Core.Path.{refl, sym, _∙_}
-use Rattle.log.specs.Sound.{textsOut}
+use Rattle.log.specs.meaning.Sound.{textsOut}
 use borrow.Author.Needs.{needs}
 use Rattle.log.proofs.sound.texts_out.Statement.{statement}
 use Rattle.log.proofs.sound.texts_out.Tie as tie
@@ -35,7 +35,14 @@ returns-2 c =
     let i = c .before .before .before in
     let t = i .before in
     c .text-out2 .ensures
-    ∙ rw (c .before .before .out-field3 .ensures, c .before .out-field4 .ensures, ← (t .before .before .out-field .ensures), ← (t .before .out-field2 .ensures), sym (t .text-out .ensures) ∙ i .if1 .left) refl
+    ∙ rw (
+      c .before .before .out-field3 .ensures,
+      c .before .out-field4 .ensures,
+      ← (t .before .before .out-field .ensures),
+      ←
+          (t .before .out-field2 .ensures),
+      sym (t .text-out .ensures) ∙ i .if1 .left,
+    ) refl
 
 pub texts-out-spec : {M : Type 1} → statement M
 texts-out-spec =

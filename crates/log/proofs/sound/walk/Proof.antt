@@ -5,12 +5,13 @@ use Prim.Native.Nat.{_-_, _≤_}
 use mathlib.Core.Path.{_≡_, refl, _∙_}
 use native.Mathlib.Omega.{arith}
 use lib.ListN.{length}
-use Rattle.log.specs.Walk.{held, expand}
+use Rattle.log.specs.machine.Walk.{held, expand}
 use Rattle.log.proofs.sound.walk.Statement.{statement}
 use Rattle.log.proofs.sound.walk.Tie as tie
 
 abbrev Inv-loop : tie.InvT-loop
-Inv-loop words marks₀ queue₀ n₀ i₀ marks queue n i = (i ≤ length queue) × (length marks ≡ length marks₀) × (length queue ≡ length queue₀) × (expand (length queue₀) words 0 (held marks₀ queue₀ n₀) .marks ≡ expand (length queue - i) words i (held marks queue n) .marks)
+Inv-loop words marks₀ queue₀ n₀ i₀ marks queue n i = (i ≤ length queue) × (length marks ≡ length marks₀) × (length queue ≡ length queue₀)
+    × (expand (length queue₀) words 0 (held marks₀ queue₀ n₀) .marks ≡ expand (length queue - i) words i (held marks queue n) .marks)
 
 abbrev μ-loop : tie.MeasureT-loop
 μ-loop words marks₀ queue₀ n₀ i₀ marks queue n i = length queue - i
@@ -21,8 +22,13 @@ walk-heads-requires c κs = search needs
 loop-holds : tie.Need-loop-holds Inv-loop μ-loop
 loop-holds c =
     let h = c .before .before .before .before in
-    let a = h .before .before .before .before .before .before .args in
-    (omega arith, refl, refl, walk-starts (a .words .now) (h .walk-heads .last .1 .0) (h .walk-heads .last .1 .1 .0) (h .walk-heads .result))
+    let a = h .before .before .before .before .before .before .args in (
+      omega arith,
+      refl,
+      refl,
+      walk-starts (a .words .now) (h .walk-heads .last .1 .0) (h .walk-heads .last .1 .1 .0)
+          (h .walk-heads .result),
+    )
 
 same-length : tie.Need-same-length Inv-loop μ-loop
 same-length c = search needs
@@ -35,7 +41,8 @@ returns c =
     let l = c .before .before in
     let h = l .before .before .before .before .before in
     let a = h .before .before .before .before .before .before .args in
-    walk-done (a .words .now) (l .loop .marks) (l .loop .queue) (l .loop .n) (l .loop .i) _ (l .loop .inv .3) (c .if1 .taken) (c .before .loop-test .taken)
+    walk-done (a .words .now) (l .loop .marks) (l .loop .queue) (l .loop .n) (l .loop .i) _ (l .loop .inv .3) (c .if1 .taken)
+    (c .before .loop-test .taken)
     ∙ walk-all (a .words .now) (a .marks .now) (a .queue .now) _ _ _ (h .walk-heads .kept .1 .1 .0) (h .walk-heads .ensures)
 
 mul-walk-record : tie.Need-mul-walk-record Inv-loop μ-loop
@@ -63,7 +70,8 @@ loop-again c =
       omega (arith, q),
       f .walk-record .kept .1 .1 .0 ∙ l .loop .inv .1,
       q ∙ l .loop .inv .2,
-      walk-next (a .words .now) (l .loop .marks) (l .loop .queue) (l .loop .n) (l .loop .i) _ (l .loop .inv .3) _ _ _ (i .if1 .left) (i .before .loop-test .taken) q (f .walk-record .ensures),
+      walk-next (a .words .now) (l .loop .marks) (l .loop .queue) (l .loop .n) (l .loop .i) _ (l .loop .inv .3) _ _ _ (i .if1 .left)
+          (i .before .loop-test .taken) q (f .walk-record .ensures),
     )
 
 same-length-3 : tie.Need-same-length-3 Inv-loop μ-loop

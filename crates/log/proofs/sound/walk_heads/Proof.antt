@@ -42,7 +42,8 @@ same-length c =
     let b = d .before .before .before .before .before .before .before .before in
     let a = b .before .before .before .before .before .before .before .before in
     let s = a .before .before .before .before .before .before .before .before in
-    e .follow5 .kept .1 .1 .1 .0 ∙ d .follow4 .kept .1 .1 .1 .0 ∙ b .follow3 .kept .1 .1 .1 .0 ∙ a .follow2 .kept .1 .1 .1 .0 ∙ s .follow .kept .1 .1 .1 .0
+    e .follow5 .kept .1 .1 .1 .0 ∙ d .follow4 .kept .1 .1 .1 .0 ∙ b .follow3 .kept .1 .1 .1 .0 ∙ a .follow2 .kept .1 .1 .1 .0
+    ∙ s .follow .kept .1 .1 .1 .0
 
 same-length-2 : tie.Need-same-length-2
 same-length-2 c =
@@ -51,7 +52,8 @@ same-length-2 c =
     let b = d .before .before .before .before .before .before .before .before in
     let a = b .before .before .before .before .before .before .before .before in
     let s = a .before .before .before .before .before .before .before .before in
-    e .follow5 .kept .1 .1 .1 .1 .0 ∙ d .follow4 .kept .1 .1 .1 .1 .0 ∙ b .follow3 .kept .1 .1 .1 .1 .0 ∙ a .follow2 .kept .1 .1 .1 .1 .0 ∙ s .follow .kept .1 .1 .1 .1 .0
+    e .follow5 .kept .1 .1 .1 .1 .0 ∙ d .follow4 .kept .1 .1 .1 .1 .0 ∙ b .follow3 .kept .1 .1 .1 .1 .0 ∙ a .follow2 .kept .1 .1 .1 .1 .0
+    ∙ s .follow .kept .1 .1 .1 .1 .0
 
 returns : tie.Need-returns
 returns c =
@@ -61,7 +63,8 @@ returns c =
     let a = b .before .before .before .before .before .before .before .before in
     let s = a .before .before .before .before .before .before .before .before in
     follow-heads _ _ _ _ _ _ _ _ _ _ _ _
-    (s .before .before .before .out-field .ensures) (a .before .before .before .out-field2 .ensures) (b .before .before .before .out-field3 .ensures)
+    (s .before .before .before .out-field .ensures) (a .before .before .before .out-field2 .ensures)
+    (b .before .before .before .out-field3 .ensures)
     (d .before .before .before .out-field4 .ensures) (e .before .before .before .out-field5 .ensures)
     (s .follow .ensures) (a .follow2 .ensures) (b .follow3 .ensures) (d .follow4 .ensures) (e .follow5 .ensures)
 

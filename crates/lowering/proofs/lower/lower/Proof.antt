@@ -1,7 +1,7 @@
 -- Rows 1 to 6 refuse, and all is left; or the accepted input is lowered. That words are below 2^32 is what is known of every lent slice.
 use mathlib.Core.Path.{refl, sym, ap, _∙_}
-use Rattle.input.specs.RowsAnswer.{told}
-use Rattle.lowering.specs.Lowered.{turnedDown}
+use Rattle.input.specs.meaning.RowsAnswer.{told}
+use Rattle.lowering.specs.meaning.Lowered.{turnedDown}
 use borrow.Author.Needs.{needs}
 use Rattle.lowering.proofs.lower.lower.Statement.{statement}
 use Rattle.lowering.proofs.lower.lower.Tie as tie
@@ -16,11 +16,15 @@ enum-told : tie.Need-enum-told
 enum-told c = search needs
 
 lower-accepted-requires : tie.Need-lower-accepted-requires
-lower-accepted-requires c κs = sym (c .before .before .before .before .check-input .ensures) ∙ ap told (c .before .before .enum-told .given .1)
+lower-accepted-requires c κs = sym (c .before .before .before .before .check-input .ensures)
+    ∙ ap told (c .before .before .enum-told .given .1)
 
 returns : tie.Need-returns
-returns c =
-    (turnedDown (sym (c .before .before .before .check-input .ensures) ∙ ap told (c .before .cause .given .1)) refl refl refl, record { below = λ i. c .before .before .before .before .before .slice-known .given i .fits })
+returns c = (
+  turnedDown (sym (c .before .before .before .check-input .ensures) ∙ ap told (c .before .cause .given .1)) refl refl refl,
+  record
+      { below = λ i. c .before .before .before .before .before .slice-known .given i .fits },
+)
 
 same-length : tie.Need-same-length
 same-length c = search needs
@@ -29,7 +33,11 @@ same-length-2 : tie.Need-same-length-2
 same-length-2 c = search needs
 
 returns-2 : tie.Need-returns-2
-returns-2 c = (c .before .before .before .before .lower-accepted .ensures, record { below = λ i. c .before .before .slice-known3 .given i .fits })
+returns-2 c = (
+  c .before .before .before .before .lower-accepted .ensures,
+  record
+      { below = λ i. c .before .before .slice-known3 .given i .fits },
+)
 
 pub lower-spec : {M : Type 1} → statement M
 lower-spec =

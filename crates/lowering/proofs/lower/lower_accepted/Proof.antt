@@ -25,11 +25,15 @@ same-length-2 c = search needs
 
 returns : tie.Need-returns
 returns c =
-    let s = c .before .before .before .before .before .before .before .before .before .before .before .before .before .before .before .before .before .before .before .before .before .before .before .before .before .before .before in
-    let made = c .before .before .before .before .before .before .before .before .before .before .before .before .before .before .before .before .before .before .before .before .lower-top in
+    let s = c .before .before .before .before .before .before .before .before .before .before .before .before .before .before .before
+    .before .before .before .before .before .before .before .before .before .before .before .before in
+    let made = c .before .before .before .before .before .before .before .before .before .before .before .before .before .before .before
+    .before .before .before .before .before .lower-top in
     let checks = c .before .before .before .before .before .before .before .before .before .before .before .before .check-mir-post in
     let zeros = c .before .before .before .before .clear .ensures in
-    lowered-short (s .args .words .now) (s .args .text .now) (made .ensures) (c .before .before .before .before .before .before .before .before .before .before .before .before .before .start-checks .ensures) (checks .ensures) (s .pre)
+    lowered-short (s .args .words .now) (s .args .text .now) (made .ensures)
+    (c .before .before .before .before .before .before .before .before .before .before .before .before .before .start-checks .ensures)
+    (checks .ensures) (s .pre)
     (checks .kept .0 ∙ made .kept .1 .1 .0)
     (checks .kept .1 .0 ∙ made .kept .1 .1 .1 .0)
     _ (c .before .before .before .before .before .before .before .if1 .taken) refl (zeros .0) (zeros .1)
@@ -45,10 +49,14 @@ same-length-4 c = search needs
 
 returns-2 : tie.Need-returns-2
 returns-2 c =
-    let s = c .before .before .before .before .before .before .before .before .before .before .before .before .before .before .before .before .before .before .before .before .before .before .before .before in
-    let made = c .before .before .before .before .before .before .before .before .before .before .before .before .before .before .before .before .before .lower-top in
+    let s = c .before .before .before .before .before .before .before .before .before .before .before .before .before .before .before
+    .before .before .before .before .before .before .before .before .before in
+    let made = c .before .before .before .before .before .before .before .before .before .before .before .before .before .before .before
+    .before .before .lower-top in
     let checks = c .before .before .before .before .before .before .before .before .before .check-mir-post in
-    lowered-done (s .args .words .now) (s .args .text .now) (made .ensures) (c .before .before .before .before .before .before .before .before .before .before .start-checks .ensures) (checks .ensures) (s .pre)
+    lowered-done (s .args .words .now) (s .args .text .now) (made .ensures)
+    (c .before .before .before .before .before .before .before .before .before .before .start-checks .ensures) (checks .ensures)
+    (s .pre)
     (checks .kept .0 ∙ made .kept .1 .1 .0)
     (checks .kept .1 .0 ∙ made .kept .1 .1 .1 .0)
     _ (c .before .before .before .before .if1 .left) refl (c .before .before .finish .ensures)

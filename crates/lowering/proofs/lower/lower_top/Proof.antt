@@ -1,5 +1,5 @@
 -- The empty log, then the top items under the empty path (LoweredWhole); what they ask of the input is what rows 1 to 6 leave (Rows).
-use Rattle.input.specs.Input.{description}
+use Rattle.input.specs.meaning.Input.{description}
 use Rattle.input.proofs.Rows.{accepted-names, accepted-linked, accepted-chain}
 use Rattle.lowering.proofs.LoweredWhole.{top-lowered}
 use borrow.Author.Needs.{needs}
@@ -29,9 +29,12 @@ same-length-2 c = search needs
 
 returns : tie.Need-returns
 returns c =
-    let a = c .before .before .before .before .before .before .before .before .before .before .before .before .before .before .before .before .before .before .before .args in
-    top-lowered (a .words .now) (a .text .now) (c .before .before .before .before .before .before .before .before .before .before .before .before .start .ensures)
-    (rw (c .before .before .before .before .before .before .before .child-at .ensures) at (c .before .before .before .before .lower-items .ensures))
+    let a = c .before .before .before .before .before .before .before .before .before .before .before .before .before .before .before
+    .before .before .before .before .args in
+    top-lowered (a .words .now) (a .text .now)
+    (c .before .before .before .before .before .before .before .before .before .before .before .before .start .ensures)
+    (rw (c .before .before .before .before .before .before .before .child-at .ensures) at
+    (c .before .before .before .before .lower-items .ensures))
 
 pub lower-top-spec : {M : Type 1} → statement M
 lower-top-spec =

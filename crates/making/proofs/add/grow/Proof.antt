@@ -1,6 +1,6 @@
 -- By whether the record was made, and whether it is the first.
 use borrow.Author.Tests.{eq-eqb, ne-eqb}
-use Rattle.making.specs.Made.{grown}
+use Rattle.making.specs.machine.Made.{grown}
 use Rattle.making.proofs.add.grow.Statement.{statement}
 use Rattle.making.proofs.add.grow.Tie as tie
 

@@ -34,7 +34,8 @@ same-length c = search needs
 returns : tie.Need-returns
 returns c =
     let a = c .before .before .before .before .before .before .before .before .before .args in
-    record-linked (a .words .now) _ (a .number) (a .at) (a .first) (a .second) (a .link) (a .rec) _ _ (c .before .before .before .write-words .ensures)
+    record-linked (a .words .now) _ (a .number) (a .at) (a .first) (a .second) (a .link) (a .rec) _ _
+    (c .before .before .before .write-words .ensures)
     (c .before .before .before .before .before .before .before .start-of .ensures)
     (c .before .before .before .before .before .before .start-of2 .ensures)
     (c .if1 .taken)
@@ -45,7 +46,8 @@ same-length-2 c = search needs
 returns-2 : tie.Need-returns-2
 returns-2 c =
     let a = c .before .before .before .before .before .before .before .before .before .args in
-    record-alone (a .words .now) _ (a .number) (a .at) (a .first) (a .second) (a .link) (a .rec) _ _ (c .before .before .before .write-words .ensures)
+    record-alone (a .words .now) _ (a .number) (a .at) (a .first) (a .second) (a .link) (a .rec) _ _
+    (c .before .before .before .write-words .ensures)
     (c .before .before .before .before .before .before .before .start-of .ensures)
     (c .before .before .before .before .before .before .start-of2 .ensures)
     (c .if1 .left)

@@ -2,8 +2,8 @@
 use mathlib.Core.Path.{_≡_, refl, sym, ap, _∙_}
 use mathlib.Core.Bool.{true, false}
 use Prim.Native.Nat.{ℕ}
-use Rattle.log.specs.Record.{kindOf}
-use Rattle.making.specs.Dropped.{staysKind, droppedWords, droppedBytes}
+use Rattle.log.specs.meaning.Record.{kindOf}
+use Rattle.making.specs.machine.Dropped.{staysKind, droppedWords, droppedBytes}
 use borrow.Author.Needs.{needs}
 use Rattle.making.proofs.drop.drop_record.Statement.{statement}
 use Rattle.making.proofs.drop.drop_record.Tie as tie
@@ -21,7 +21,8 @@ returns : tie.Need-returns
 unfolding droppedWords droppedBytes
 returns c =
     let a = c .before .before .before .before .before .before .args in
-    let t : staysKind (kindOf (a .words .now) (a .r)) ≡ true = ap (λ (k : ℕ). staysKind k) (sym (c .before .before .kind-of .ensures)) ∙ sym (c .before .stays .ensures) ∙ c .if1 .taken in
+    let t : staysKind (kindOf (a .words .now) (a .r)) ≡ true = ap (λ (k : ℕ). staysKind k) (sym (c .before .before .kind-of .ensures))
+    ∙ sym (c .before .stays .ensures) ∙ c .if1 .taken in
     rw t (refl, refl)
 
 clear-texts-requires : tie.Need-clear-texts-requires
@@ -39,8 +40,12 @@ same-length-3 c = search needs
 returns-2 : tie.Need-returns-2
 unfolding droppedWords droppedBytes
 returns-2 c =
-    let a = c .before .before .before .before .before .before .before .before .before .before .before .before .before .before .before .args in
-    let t : staysKind (kindOf (a .words .now) (a .r)) ≡ false = ap (λ (k : ℕ). staysKind k) (sym (c .before .before .before .before .before .before .before .before .before .before .before .kind-of .ensures)) ∙ sym (c .before .before .before .before .before .before .before .before .before .before .stays .ensures) ∙ c .before .before .before .before .before .before .before .before .before .if1 .left in
+    let a = c .before .before .before .before .before .before .before .before .before .before .before .before .before .before .before .args
+    in
+    let t : staysKind (kindOf (a .words .now) (a .r)) ≡ false = ap (λ (k : ℕ). staysKind k)
+    (sym (c .before .before .before .before .before .before .before .before .before .before .before .kind-of .ensures))
+    ∙ sym (c .before .before .before .before .before .before .before .before .before .before .stays .ensures)
+    ∙ c .before .before .before .before .before .before .before .before .before .if1 .left in
     rw t (c .before .before .clear-words .ensures, c .before .before .before .before .before .before .clear-texts .ensures)
 
 pub drop-record-spec : {M : Type 1} → statement M

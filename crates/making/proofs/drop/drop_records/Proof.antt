@@ -5,9 +5,9 @@ use mathlib.Core.Path.{_≡_, refl, sym, _∙_}
 use mathlib.Core.List.{List}
 use native.Mathlib.Omega.{arith}
 use lib.ListN.{length}
-use Rattle.making.specs.Events.{Event}
-use Rattle.making.specs.Buffers.{Layout}
-use Rattle.making.specs.Dropped.{droppedTo, Body}
+use Rattle.making.specs.machine.Events.{Event}
+use Rattle.making.specs.machine.Buffers.{Layout}
+use Rattle.making.specs.machine.Dropped.{droppedTo, Body}
 use Rattle.making.proofs.Dropping.{drop-start, drop-next, drop-end, length-words-left, length-bytes-left}
 use Rattle.making.proofs.drop.drop_records.Statement.{statement}
 use Rattle.making.proofs.drop.drop_records.Tie as tie
@@ -17,7 +17,8 @@ Inv-loop words₀ bytes₀ mark end r₀ words bytes r =
     (mark ≤ r)
     × (length words ≡ length words₀)
     × (length bytes ≡ length bytes₀)
-    × ((used : ℕ) (es : List Event) → 1 ≤ mark → Layout words₀ bytes₀ end used es → Body mark es → Layout words bytes end used (droppedTo mark r es))
+    × ((used : ℕ) (es : List Event) → 1 ≤ mark → Layout words₀ bytes₀ end used es → Body mark es
+    → Layout words bytes end used (droppedTo mark r es))
 
 abbrev μ-loop : tie.MeasureT-loop
 μ-loop words₀ bytes₀ mark end r₀ words bytes r = end - r
@@ -44,7 +45,8 @@ loop-again c =
       omega arith,
       rw (d .0) (length-words-left (l .words) (l .r) ∙ l .inv .1),
       rw (d .1) (length-bytes-left (l .words) (l .bytes) (l .r) ∙ l .inv .2),
-      λ used es p lay b. rw (d .0, d .1) (drop-next (a .mark) (l .r) es p (l .inv .0) (omega (arith, lay .recordsAre)) b (l .inv .3 used es p lay b)),
+      λ used es p lay b. rw (d .0, d .1) (drop-next (a .mark) (l .r) es p (l .inv .0) (omega (arith, lay .recordsAre)) b
+          (l .inv .3 used es p lay b)),
     )
 
 same-length : tie.Need-same-length Inv-loop μ-loop
@@ -57,7 +59,10 @@ returns : tie.Need-returns Inv-loop μ-loop
 returns c =
     let a = c .before .before .before .before .args in
     let l = c .before .loop in
-    record { layout = λ used es p lay b. rw (sym (drop-end (a .mark) (l .r) es (omega (arith, lay .recordsAre)))) (l .inv .3 used es p lay b) }
+    record {
+      layout = λ used es p lay b. rw (sym (drop-end (a .mark) (l .r) es (omega (arith, lay .recordsAre))))
+          (l .inv .3 used es p lay b);
+    }
 
 pub drop-records-spec : {M : Type 1} → statement M
 drop-records-spec =

@@ -6,7 +6,7 @@ use native.Mathlib.Nat.{add-zero}
 use native.Mathlib.Omega.{arith}
 use lib.ListN.{length, drop, getD, length-set}
 use lib.Seq.{getD-set-other}
-use Rattle.paths_numbers.specs.Text.{written}
+use Rattle.paths_numbers.specs.meaning.Text.{written}
 use Rattle.paths_numbers.proofs.Written.{written-byte, written-all}
 use Rattle.log.proofs.Texts.{part, part-length, part-at}
 use Rattle.making.proofs.fill.copy_bytes.Statement.{statement}
@@ -62,7 +62,8 @@ returns : tie.Need-returns Inv-loop μ-loop
 returns c =
     let l = c .before .loop in
     let a = c .before .before .args in
-    written-all (l .out) (a .at) (part (a .out .now) (a .from) (a .size)) (l .j) _ (l .inv .2) (omega (arith, part-length (a .out .now) (a .from) (a .size) (omega arith)))
+    written-all (l .out) (a .at) (part (a .out .now) (a .from) (a .size)) (l .j) _ (l .inv .2)
+    (omega (arith, part-length (a .out .now) (a .from) (a .size) (omega arith)))
 
 pub copy-bytes-spec : {M : Type 1} → statement M
 copy-bytes-spec =

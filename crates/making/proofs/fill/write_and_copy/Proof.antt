@@ -3,7 +3,7 @@ use mathlib.Core.Path.{ap, _∙_}
 use native.Mathlib.Omega.{arith}
 use lib.ListN.{length}
 use Rattle.paths_numbers.proofs.Written.{written-length}
-use Rattle.making.specs.PathPlaces.{pathOf}
+use Rattle.making.specs.machine.PathPlaces.{pathOf}
 use Rattle.log.proofs.Texts.{written-twice}
 use Rattle.making.proofs.PathPlaces.{path-written}
 use borrow.Author.Needs.{needs}

@@ -4,10 +4,10 @@ use mathlib.Core.List.{List}
 use Prim.Native.Nat.{ℕ}
 use native.Mathlib.Omega.{arith}
 use lib.ListN.{length}
-use Rattle.paths_numbers.specs.Text.{written}
-use Rattle.paths_numbers.specs.Path.{joined, largestUsize}
+use Rattle.paths_numbers.specs.meaning.Text.{written}
+use Rattle.paths_numbers.specs.meaning.Path.{joined, largestUsize}
 use Rattle.paths_numbers.proofs.Lengths.{kept}
-use Rattle.making.specs.PathPlaces.{pathOf}
+use Rattle.making.specs.machine.PathPlaces.{pathOf}
 use Rattle.making.proofs.PathPlaces.{path-root, path-bytes, built-fits}
 use borrow.Author.Needs.{needs}
 use Rattle.making.proofs.fill.write_joined.Statement.{statement}
@@ -28,7 +28,8 @@ returns c =
     let a = k .args in
     let r = path-root (a .out .now) (a .path) (c .before .before .before .before .before .if1 .taken) in
     let j = ap (λ (s : List ℕ). joined s (a .name .now) (a .unit .now)) r in
-    c .before .before .build-path .ensures .1 ∙ built-fits _ (a .out .now) (a .at) (omega (arith, ap length j, k .pre .1)) ∙ ap (λ (s : List ℕ). written (a .out .now) (a .at) s) j
+    c .before .before .build-path .ensures .1 ∙ built-fits _ (a .out .now) (a .at) (omega (arith, ap length j, k .pre .1))
+    ∙ ap (λ (s : List ℕ). written (a .out .now) (a .at) s) j
 
 joined-len-requires : tie.Need-joined-len-requires
 joined-len-requires c κs = search needs
@@ -45,7 +46,8 @@ write-joined-below-requires c κs =
     let a = k .args in
     let r = path-bytes (a .out .now) (a .path) (c .before .before .before .before .before .if1 .left) in
     let j = ap (λ (s : List ℕ). length (joined s (a .name .now) (a .unit .now))) r in
-    let n = c .before .before .before .joined-len .ensures ∙ kept largestUsize (length (joined (pathOf (a .out .now) (a .path)) (a .name .now) (a .unit .now))) (omega (arith, k .pre .1)) in
+    let n = c .before .before .before .joined-len .ensures ∙ kept largestUsize
+    (length (joined (pathOf (a .out .now) (a .path)) (a .name .now) (a .unit .now))) (omega (arith, k .pre .1)) in
     (k .pre .0, omega (arith, k .pre .1), n ∙ sym j)
 
 same-length-2 : tie.Need-same-length-2
@@ -55,7 +57,8 @@ returns-2 : tie.Need-returns-2
 returns-2 c =
     let a = c .before .before .before .before .before .before .before .before .before .before .before .before .args in
     let r = path-bytes (a .out .now) (a .path) (c .before .before .before .before .before .before .before .before .if1 .left) in
-    c .before .before .write-joined-below .ensures ∙ ap (λ (s : List ℕ). written (a .out .now) (a .at) (joined s (a .name .now) (a .unit .now))) r
+    c .before .before .write-joined-below .ensures ∙ ap (λ (s : List ℕ). written (a .out .now) (a .at)
+    (joined s (a .name .now) (a .unit .now))) r
 
 pub write-joined-spec : {M : Type 1} → statement M
 write-joined-spec =

@@ -7,10 +7,10 @@ use native.Mathlib.Nat.{add-zero}
 use native.Mathlib.Omega.{arith}
 use lib.ListN.{length, drop, getD, length-set}
 use lib.Seq.{getD-set-other}
-use Rattle.paths_numbers.specs.Text.{written}
-use Rattle.paths_numbers.specs.Path.{joined}
+use Rattle.paths_numbers.specs.meaning.Text.{written}
+use Rattle.paths_numbers.specs.meaning.Path.{joined}
 use Rattle.paths_numbers.proofs.Written.{written-byte, written-all}
-use Rattle.making.specs.PathPlaces.{pathOf}
+use Rattle.making.specs.machine.PathPlaces.{pathOf}
 use Rattle.making.proofs.PathPlaces.{path-same}
 use Rattle.making.proofs.fill.write_joined_at.Statement.{statement}
 use Rattle.making.proofs.fill.write_joined_at.Tie as tie
@@ -18,7 +18,8 @@ use Rattle.making.proofs.fill.write_joined_at.Tie as tie
 abbrev Inv-loop : tie.InvT-loop
 Inv-loop out₀ at path name n i₀ out i = (i ≤ n)
     × (length out ≡ length out₀)
-    × (written out₀ at (joined (pathOf out₀ path) (pathOf out₀ name) []) ≡ written out (at + i) (drop i (joined (pathOf out₀ path) (pathOf out₀ name) [])))
+    × (written out₀ at (joined (pathOf out₀ path) (pathOf out₀ name) []) ≡ written out (at + i)
+    (drop i (joined (pathOf out₀ path) (pathOf out₀ name) [])))
     × ((k : ℕ) → k < at → getD out k 0 ≡ getD out₀ k 0)
 
 abbrev μ-loop : tie.MeasureT-loop
@@ -61,7 +62,8 @@ same-length c = search needs
 returns : tie.Need-returns Inv-loop μ-loop
 returns c = let l = c .before .loop in
     let a = c .before .before .before .args in
-    written-all (l .out) (a .at) (joined (pathOf (a .out .now) (a .path)) (pathOf (a .out .now) (a .name)) []) (l .i) _ (l .inv .2) (omega arith)
+    written-all (l .out) (a .at) (joined (pathOf (a .out .now) (a .path)) (pathOf (a .out .now) (a .name)) []) (l .i) _ (l .inv .2)
+    (omega arith)
 
 pub write-joined-at-spec : {M : Type 1} → statement M
 write-joined-at-spec =

@@ -6,8 +6,8 @@ use native.Mathlib.Nat.{add-zero}
 use native.Mathlib.Omega.{arith}
 use lib.ListN.{length, drop, getD, length-set}
 use lib.Seq.{getD-set-other}
-use Rattle.paths_numbers.specs.Text.{written}
-use Rattle.paths_numbers.specs.Path.{joined}
+use Rattle.paths_numbers.specs.meaning.Text.{written}
+use Rattle.paths_numbers.specs.meaning.Path.{joined}
 use Rattle.paths_numbers.proofs.Written.{written-byte, written-all}
 use Rattle.log.proofs.Texts.{part}
 use Rattle.making.proofs.PathPlaces.{part-same, joined-byte}
@@ -62,7 +62,8 @@ loop-again c =
     let p = part-same (l .out) o (a .from) (a .size) (a .at) (omega arith) (omega arith) (l .inv .1) (l .inv .3) in (
       omega arith,
       simp length-set (l .inv .1),
-      written-byte (l .out) (a .at) (joined (part o (a .from) (a .size)) (a .name .now) (a .unit .now)) (l .i) _ _ (l .inv .2) (omega arith) (omega arith)
+      written-byte (l .out) (a .at) (joined (part o (a .from) (a .size)) (a .name .now) (a .unit .now)) (l .i) _ _ (l .inv .2) (omega arith)
+          (omega arith)
           (joined-byte (l .out) o (a .from) (a .size) (a .name .now) (a .unit .now) (l .i) _ (c .path-byte .ensures) p),
       λ k h. getD-set-other (l .out) (a .at + l .i) k _ 0 (λ e. omega arith) ∙ l .inv .3 k h,
     )
@@ -74,7 +75,8 @@ returns : tie.Need-returns Inv-loop μ-loop
 returns c =
     let l = c .before .loop in
     let a = c .before .before .before .before .before .args in
-    written-all (l .out) (a .at) (joined (part (a .out .now) (a .from) (a .size)) (a .name .now) (a .unit .now)) (l .i) _ (l .inv .2) (omega arith)
+    written-all (l .out) (a .at) (joined (part (a .out .now) (a .from) (a .size)) (a .name .now) (a .unit .now)) (l .i) _ (l .inv .2)
+    (omega arith)
 
 pub write-joined-below-spec : {M : Type 1} → statement M
 write-joined-below-spec =

@@ -4,7 +4,7 @@ use mathlib.Core.List.{List}
 use Prim.Native.Nat.{ℕ}
 use native.Mathlib.Omega.{arith}
 use lib.ListN.{length}
-use Rattle.paths_numbers.specs.Text.{written}
+use Rattle.paths_numbers.specs.meaning.Text.{written}
 use Rattle.log.proofs.Texts.{part-length}
 use Rattle.making.proofs.PathPlaces.{path-root, path-bytes, written-one}
 use borrow.Author.Needs.{needs}
@@ -23,7 +23,8 @@ returns : tie.Need-returns
 returns c =
     let a = c .before .before .args in
     let r = path-root (a .out .now) (a .path) (c .if1 .taken) in
-    written-one (a .out .now) (a .at) 47 (omega (arith, ap length r, c .before .before .pre .1)) ∙ ap (λ (s : List ℕ). written (a .out .now) (a .at) s) r
+    written-one (a .out .now) (a .at) 47 (omega (arith, ap length r, c .before .before .pre .1))
+    ∙ ap (λ (s : List ℕ). written (a .out .now) (a .at) s) r
 
 cast-copy-bytes : tie.Need-cast-copy-bytes
 cast-copy-bytes c = search needs
@@ -44,7 +45,8 @@ same-length-2 c = search needs
 returns-2 : tie.Need-returns-2
 returns-2 c =
     let a = c .before .before .before .before .before .before .before .before .args in
-    c .before .before .copy-bytes .ensures ∙ ap (λ (s : List ℕ). written (a .out .now) (a .at) s) (path-bytes (a .out .now) (a .path) (c .before .before .before .before .before .before .if1 .left))
+    c .before .before .copy-bytes .ensures ∙ ap (λ (s : List ℕ). written (a .out .now) (a .at) s)
+    (path-bytes (a .out .now) (a .path) (c .before .before .before .before .before .before .if1 .left))
 
 pub write-path-at-spec : {M : Type 1} → statement M
 write-path-at-spec =

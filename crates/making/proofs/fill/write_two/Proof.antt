@@ -21,7 +21,8 @@ same-length c = search needs
 returns : tie.Need-returns
 returns c =
     let a = c .before .before .before .before .before .before .before .before .before .before .before .args in
-    c .before .before .write-bytes2 .ensures ∙ rw (c .before .before .before .before .before .before .write-bytes .ensures) (written-twice (a .out .now) (a .at) (a .first .now) (a .second .now) (omega arith))
+    c .before .before .write-bytes2 .ensures ∙ rw (c .before .before .before .before .before .before .write-bytes .ensures)
+    (written-twice (a .out .now) (a .at) (a .first .now) (a .second .now) (omega arith))
 
 pub write-two-spec : {M : Type 1} → statement M
 write-two-spec =

@@ -5,7 +5,7 @@ use mathlib.Core.Path.{_≡_, refl}
 use native.Mathlib.Nat.{add-zero}
 use native.Mathlib.Omega.{arith}
 use lib.ListN.{length, drop, length-set}
-use Rattle.paths_numbers.specs.Text.{written}
+use Rattle.paths_numbers.specs.meaning.Text.{written}
 use Rattle.paths_numbers.proofs.Written.{written-byte, written-all}
 use Rattle.making.proofs.fill.write_words.Statement.{statement}
 use Rattle.making.proofs.fill.write_words.Tie as tie
@@ -44,8 +44,12 @@ loop-less c = search needs
 loop-again : tie.Need-loop-again Inv-loop μ-loop
 loop-again c =
     let l = c .before .before .loop in
-    let a = c .before .before .before .args in
-    (omega arith, simp length-set (l .inv .1), written-byte (l .out) (a .at) (a .src .now) (l .j) _ _ (l .inv .2) (omega arith) (omega arith) refl)
+    let a = c .before .before .before .args in (
+      omega arith,
+      simp length-set (l .inv .1),
+      written-byte (l .out) (a .at) (a .src .now) (l .j) _ _ (l .inv .2) (omega arith)
+          (omega arith) refl,
+    )
 
 same-length : tie.Need-same-length Inv-loop μ-loop
 same-length c = search needs

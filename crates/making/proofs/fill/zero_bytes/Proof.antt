@@ -5,7 +5,7 @@ use mathlib.Core.Path.{_≡_, refl, sym}
 use native.Mathlib.Nat.{add-zero}
 use native.Mathlib.Omega.{arith}
 use lib.ListN.{length, drop, replicate, length-set, length-replicate, getD-replicate}
-use Rattle.paths_numbers.specs.Text.{written}
+use Rattle.paths_numbers.specs.meaning.Text.{written}
 use Rattle.paths_numbers.proofs.Written.{written-byte, written-all}
 use Rattle.making.proofs.fill.zero_bytes.Statement.{statement}
 use Rattle.making.proofs.fill.zero_bytes.Tie as tie
@@ -36,8 +36,12 @@ loop-again : tie.Need-loop-again Inv-loop μ-loop
 loop-again c =
     let l = c .before .loop in
     let a = c .before .before .args in
-    let n = length-replicate {A = ℕ} (a .size) 0 in
-    (omega arith, simp length-set (l .inv .1), written-byte (l .out) (a .at) (replicate (a .size) 0) (l .j) 0 _ (l .inv .2) (omega arith) (omega arith) (sym (getD-replicate (a .size) (l .j) 0 0 (omega arith))))
+    let n = length-replicate {A = ℕ} (a .size) 0 in (
+      omega arith,
+      simp length-set (l .inv .1),
+      written-byte (l .out) (a .at) (replicate (a .size) 0) (l .j) 0 _ (l .inv .2) (omega arith)
+          (omega arith) (sym (getD-replicate (a .size) (l .j) 0 0 (omega arith))),
+    )
 
 same-length : tie.Need-same-length Inv-loop μ-loop
 same-length c = search needs

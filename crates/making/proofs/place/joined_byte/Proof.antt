@@ -3,7 +3,7 @@ use mathlib.Core.Path.{ap, _∙_}
 use mathlib.Core.List.{List, []}
 use Prim.Native.Nat.{ℕ}
 use lib.ListN.{getD}
-use Rattle.paths_numbers.specs.Path.{joined}
+use Rattle.paths_numbers.specs.meaning.Path.{joined}
 use Rattle.making.proofs.PathPlaces.{path-root, path-bytes}
 use borrow.Author.Needs.{needs}
 use Rattle.making.proofs.place.joined_byte.Statement.{statement}
@@ -26,7 +26,8 @@ path-byte-requires c κs = search needs
 
 returns : tie.Need-returns
 returns c = let a = c .before .before .before .before .before .before .args in
-    c .path-byte .ensures ∙ ap (λ (s : List ℕ). getD (joined s (a .name .now) []) (a .i) 0) (path-root (a .bytes .now) (a .path) (c .before .before .before .if1 .taken))
+    c .path-byte .ensures ∙ ap (λ (s : List ℕ). getD (joined s (a .name .now) []) (a .i) 0)
+    (path-root (a .bytes .now) (a .path) (c .before .before .before .if1 .taken))
 
 text-in-requires : tie.Need-text-in-requires
 text-in-requires c κs = search needs
@@ -45,7 +46,8 @@ path-byte-requires-2 c κs = search needs
 
 returns-2 : tie.Need-returns-2
 returns-2 c = let a = c .before .before .before .before .before .before .args in
-    c .path-byte2 .ensures ∙ ap (λ (s : List ℕ). getD (joined s (a .name .now) []) (a .i) 0) (c .before .before .text-in .ensures ∙ path-bytes (a .bytes .now) (a .path) (c .before .before .before .if1 .left))
+    c .path-byte2 .ensures ∙ ap (λ (s : List ℕ). getD (joined s (a .name .now) []) (a .i) 0)
+    (c .before .before .text-in .ensures ∙ path-bytes (a .bytes .now) (a .path) (c .before .before .before .if1 .left))
 
 pub joined-byte-spec : {M : Type 1} → statement M
 joined-byte-spec =

@@ -2,7 +2,7 @@
 use mathlib.Core.Path.{ap, _∙_}
 use mathlib.Core.List.{List}
 use Prim.Native.Nat.{ℕ}
-use Rattle.paths_numbers.specs.Path.{joinedLen}
+use Rattle.paths_numbers.specs.meaning.Path.{joinedLen}
 use Rattle.log.proofs.Texts.{text-within}
 use Rattle.making.proofs.PathPlaces.{path-root, path-bytes}
 use borrow.Author.Needs.{needs}
@@ -18,7 +18,8 @@ path-len-requires c κs = search needs
 returns : tie.Need-returns
 returns c =
     let a = c .before .before .before .before .before .before .args in
-    c .path-len .ensures ∙ ap (λ (s : List ℕ). joinedLen s (a .name .now) (a .unit .now)) (path-root (a .bytes .now) (a .path) (c .before .before .if1 .taken))
+    c .path-len .ensures ∙ ap (λ (s : List ℕ). joinedLen s (a .name .now) (a .unit .now))
+    (path-root (a .bytes .now) (a .path) (c .before .before .if1 .taken))
 
 cast-from : tie.Need-cast-from
 cast-from c = search needs
@@ -44,7 +45,9 @@ path-len-requires-2 c κs = search needs
 returns-2 : tie.Need-returns-2
 returns-2 c =
     let a = c .before .before .before .before .before .before .before .before .args in
-    c .path-len2 .ensures ∙ ap (λ (s : List ℕ). joinedLen s (a .name .now) (a .unit .now)) (text-within (a .bytes .now) (a .path .start) (a .path .size) ∙ path-bytes (a .bytes .now) (a .path) (c .before .before .before .before .if1 .left))
+    c .path-len2 .ensures ∙ ap (λ (s : List ℕ). joinedLen s (a .name .now) (a .unit .now))
+    (text-within (a .bytes .now) (a .path .start) (a .path .size)
+    ∙ path-bytes (a .bytes .now) (a .path) (c .before .before .before .before .if1 .left))
 
 pub joined-len-spec : {M : Type 1} → statement M
 joined-len-spec =

@@ -17,10 +17,12 @@ returns : tie.Need-returns
 returns c = let a = c .before .before .before .args in settled-behind (a .used) (a .bytes .now) (a .path) (c .if1 .taken)
 
 returns-2 : tie.Need-returns-2
-returns-2 c = let a = c .before .before .before .before .args in settled-outside (a .used) (a .bytes .now) (a .path) (c .before .if1 .left) (c .if2 .taken)
+returns-2 c = let a = c .before .before .before .before .args in settled-outside (a .used) (a .bytes .now) (a .path) (c .before .if1 .left)
+    (c .if2 .taken)
 
 returns-3 : tie.Need-returns-3
-returns-3 c = let a = c .before .before .before .before .args in settled-there (a .used) (a .bytes .now) (a .path) (c .before .if1 .left) (c .if2 .left)
+returns-3 c = let a = c .before .before .before .before .args in settled-there (a .used) (a .bytes .now) (a .path) (c .before .if1 .left)
+    (c .if2 .left)
 
 pub settle-spec : {M : Type 1} → statement M
 settle-spec = tie.close (tie.spec cast-end cast-end-2 add-end returns returns-2 returns-3)

@@ -1,7 +1,7 @@
 -- By whether the text lies in the bytes.
 use mathlib.Core.Path.{_∙_}
 use borrow.Author.Tests.{le-leb, lt-leb}
-use Rattle.making.specs.Removed.{clearedText}
+use Rattle.making.specs.machine.Removed.{clearedText}
 use borrow.Author.Needs.{needs}
 use Rattle.making.proofs.remove.clear_text.Statement.{statement}
 use Rattle.making.proofs.remove.clear_text.Tie as tie

@@ -1,6 +1,6 @@
 -- One text after the other.
 use mathlib.Core.Path.{refl, _∙_}
-use Rattle.making.specs.Removed.{clearedTexts}
+use Rattle.making.specs.machine.Removed.{clearedTexts}
 use borrow.Author.Needs.{needs}
 use Rattle.making.proofs.remove.clear_texts.Statement.{statement}
 use Rattle.making.proofs.remove.clear_texts.Tie as tie
@@ -28,7 +28,13 @@ same-length c = search needs
 
 returns : tie.Need-returns
 unfolding clearedTexts
-returns c = c .before .before .clear-text2 .ensures ∙ rw (c .before .before .before .before .before .before .before .before .clear-text .ensures, c .before .before .before .out-field4 .ensures, c .before .before .before .before .out-field3 .ensures, c .before .before .before .before .before .before .before .before .before .out-field2 .ensures, c .before .before .before .before .before .before .before .before .before .before .out-field .ensures) refl
+returns c = c .before .before .clear-text2 .ensures ∙ rw (
+  c .before .before .before .before .before .before .before .before .clear-text .ensures,
+  c .before .before .before .out-field4 .ensures,
+  c .before .before .before .before .out-field3 .ensures,
+  c .before .before .before .before .before .before .before .before .before .out-field2 .ensures,
+  c .before .before .before .before .before .before .before .before .before .before .out-field .ensures,
+) refl
 
 pub clear-texts-spec : {M : Type 1} → statement M
 clear-texts-spec =

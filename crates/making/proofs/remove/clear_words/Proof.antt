@@ -1,7 +1,7 @@
 -- By whether the record lies in the words.
 use mathlib.Core.Path.{_∙_}
 use borrow.Author.Tests.{le-leb, lt-leb}
-use Rattle.making.specs.Removed.{clearedWords}
+use Rattle.making.specs.machine.Removed.{clearedWords}
 use borrow.Author.Needs.{needs}
 use Rattle.making.proofs.remove.clear_words.Statement.{statement}
 use Rattle.making.proofs.remove.clear_words.Tie as tie

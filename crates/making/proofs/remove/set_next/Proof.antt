@@ -2,7 +2,7 @@
 use mathlib.Core.Path.{sym}
 use borrow.Author.Tests.{eq-eqb, ne-eqb}
 use lib.Seq.{set-out}
-use Rattle.making.specs.Removed.{setNext}
+use Rattle.making.specs.machine.Removed.{setNext}
 use borrow.Author.Needs.{needs}
 use Rattle.making.proofs.remove.set_next.Statement.{statement}
 use Rattle.making.proofs.remove.set_next.Tie as tie

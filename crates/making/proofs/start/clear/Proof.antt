@@ -18,7 +18,12 @@ same-length-2 : tie.Need-same-length-2
 same-length-2 c = search needs
 
 returns : tie.Need-returns
-returns c = let a = c .before .before .before .before .before .before .before .before .before .before .args in (c .before .before .before .before .before .before .zero-words .ensures ∙ written-zeros (a .words .now), c .before .before .zero-bytes .ensures ∙ written-zeros (a .bytes .now))
+returns c = let a = c .before .before .before .before .before .before .before .before .before .before
+    .args in (
+      c .before .before .before .before .before .before .zero-words .ensures
+          ∙ written-zeros (a .words .now),
+      c .before .before .zero-bytes .ensures ∙ written-zeros (a .bytes .now),
+    )
 
 pub clear-spec : {M : Type 1} → statement M
 clear-spec =

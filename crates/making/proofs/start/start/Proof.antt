@@ -18,7 +18,9 @@ same-length-2 : tie.Need-same-length-2
 same-length-2 c = search needs
 
 returns : tie.Need-returns
-returns c = let a = c .before .before .before .before .before .before .before .before .before .before .before .args in starts _ _ (length (a .words .now)) (length (a .bytes .now)) _ (c .before .before .before .before .before .before .clear .ensures .0) (c .before .before .before .before .before .before .clear .ensures .1) (c .log-count .ensures)
+returns c = let a = c .before .before .before .before .before .before .before .before .before .before .before .args in starts _ _
+    (length (a .words .now)) (length (a .bytes .now)) _ (c .before .before .before .before .before .before .clear .ensures .0)
+    (c .before .before .before .before .before .before .clear .ensures .1) (c .log-count .ensures)
 
 pub start-spec : {M : Type 1} → statement M
 start-spec =

@@ -3,7 +3,7 @@ use borrow.Author.Needs.{needs}
 use Prim.Native.Nat.{_+_}
 use mathlib.Core.Path.{sym}
 use native.Mathlib.Omega.{arith}
-use Rattle.paths_numbers.specs.Path.{largestUsize}
+use Rattle.paths_numbers.specs.meaning.Path.{largestUsize}
 use Rattle.paths_numbers.proofs.Lengths.{kept, cut}
 use Rattle.paths_numbers.proofs.dt_node.add_lens.Statement.{statement}
 use Rattle.paths_numbers.proofs.dt_node.add_lens.Tie as tie

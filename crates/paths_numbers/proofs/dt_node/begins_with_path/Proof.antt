@@ -1,11 +1,12 @@
--- A slice is shorter than a length that is cut, so that its bytes are compared with all of the path (Texts: differs, agrees, agreed; Lengths: uncut).
+-- A slice is shorter than a length that is cut, so that its bytes are compared with all of the path (Texts: differs, agrees, agreed;
+-- Lengths: uncut).
 use borrow.Author.Needs.{needs}
 use Prim.Native.Nat.{_-_, _≤_}
 use mathlib.Core.Path.{_≡_, refl, sym, _∙_}
 use native.Mathlib.Omega.{arith}
 use lib.ListN.{length, drop}
-use Rattle.paths_numbers.specs.Text.{begins}
-use Rattle.paths_numbers.specs.Path.{joined, largestUsize}
+use Rattle.paths_numbers.specs.meaning.Text.{begins}
+use Rattle.paths_numbers.specs.meaning.Path.{joined, largestUsize}
 use Rattle.paths_numbers.proofs.Texts.{begins-short, differs, agrees, agreed}
 use Rattle.paths_numbers.proofs.Lengths.{cut-le, uncut}
 use Rattle.paths_numbers.proofs.dt_node.begins_with_path.Statement.{statement}
@@ -59,8 +60,13 @@ loop-again : tie.Need-loop-again Inv-loop μ-loop
 loop-again c =
     let a = c .before .before .before .before .before .before .before .before .before .before .before .args in
     let l = c .before .before .before .before .loop in
-    let p = joined (a .parent .now) (a .name .now) (a .unit .now) in
-    (omega arith, omega arith, l .inv .2, agrees (a .this .now) p (l .i) _ (l .inv .3) (omega arith) (omega arith) (c .if2 .left ∙ c .before .path-byte .ensures))
+    let p = joined (a .parent .now) (a .name .now) (a .unit .now) in (
+      omega arith,
+      omega arith,
+      l .inv .2,
+      agrees (a .this .now) p (l .i) _ (l .inv .3) (omega arith) (omega arith)
+          (c .if2 .left ∙ c .before .path-byte .ensures),
+    )
 
 returns-3 : tie.Need-returns-3 Inv-loop μ-loop
 returns-3 c =

@@ -2,7 +2,7 @@
 use borrow.Author.Needs.{needs}
 use native.Mathlib.Omega.{arith}
 use lib.ListN.{length}
-use Rattle.paths_numbers.specs.Path.{joined, largestUsize}
+use Rattle.paths_numbers.specs.meaning.Path.{joined, largestUsize}
 use Rattle.paths_numbers.proofs.Lengths.{cut-le, uncut}
 use Rattle.paths_numbers.proofs.Written.{no-room, room}
 use Rattle.paths_numbers.proofs.dt_node.build_path.Statement.{statement}

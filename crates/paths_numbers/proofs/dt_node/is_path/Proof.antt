@@ -3,7 +3,7 @@ use borrow.Author.Needs.{needs}
 use mathlib.Core.Path.{sym, _∙_}
 use native.Mathlib.Omega.{arith}
 use lib.ListN.{length}
-use Rattle.paths_numbers.specs.Path.{joined, largestUsize}
+use Rattle.paths_numbers.specs.meaning.Path.{joined, largestUsize}
 use Rattle.paths_numbers.proofs.Texts.{same-lengths, begins-same}
 use Rattle.paths_numbers.proofs.Lengths.{uncut, other}
 use Rattle.paths_numbers.proofs.dt_node.is_path.Statement.{statement}
@@ -16,7 +16,8 @@ returns : tie.Need-returns
 returns c =
     let a = c .before .before .before .before .before .before .args in
     let p = joined (a .parent .now) (a .name .now) (a .unit .now) in
-    let n = other largestUsize (length p) _ (length (a .this .now)) (c .before .path-len .ensures) (omega arith) (λ e. c .if1 .taken (sym e)) in
+    let n = other largestUsize (length p) _ (length (a .this .now)) (c .before .path-len .ensures) (omega arith)
+    (λ e. c .if1 .taken (sym e)) in
     sym (same-lengths (a .this .now) p (λ e. n (sym e)))
 
 begins-with-path-requires : tie.Need-begins-with-path-requires

@@ -4,7 +4,7 @@ use mathlib.Core.Path.{sym, _∙_}
 use native.Mathlib.Omega.{arith}
 use borrow.Author.Tests.{eq-eqb, ne-eqb, not-true, not-false}
 use lib.ListN.{length}
-use Rattle.paths_numbers.specs.Path.{joined, largestUsize}
+use Rattle.paths_numbers.specs.meaning.Path.{joined, largestUsize}
 use Rattle.paths_numbers.proofs.Texts.{begins-length}
 use Rattle.paths_numbers.proofs.Lengths.{kept}
 use Rattle.paths_numbers.proofs.Strip.{under-tests}
@@ -39,7 +39,8 @@ returns-3 : tie.Need-returns-3
 returns-3 c =
     let a = c .before .before .before .before .before .before .before .before .before .before .args in
     let p = joined (a .parent .now) (a .name .now) (a .unit .now) in
-    let e = sym (c .before .before .before .before .before .begins-with-path .ensures) ∙ not-false _ (c .before .before .before .before .if1 .left) in
+    let e = sym (c .before .before .before .before .before .begins-with-path .ensures)
+    ∙ not-false _ (c .before .before .before .before .if1 .left) in
     let n = c .before .before .before .path-len .ensures ∙ kept largestUsize (length p) (omega (arith, begins-length _ _ e)) in
     let r = sym (c .before .path-is-root .ensures) ∙ c .if3 .taken in
     sym (under-tests (a .this .now) p ∙ simp (e, ne-eqb _ _ (λ q. c .before .before .if2 .left (q ∙ sym n)), r))
@@ -48,15 +49,22 @@ shared-slice-read-result : tie.Need-shared-slice-read-result
 shared-slice-read-result c =
     let a = c .before .before .before .before .before .before .before .before .before .before .before .args in
     let p = joined (a .parent .now) (a .name .now) (a .unit .now) in
-    let e = sym (c .before .before .before .before .before .before .begins-with-path .ensures) ∙ not-false _ (c .before .before .before .before .before .if1 .left) in
+    let e = sym (c .before .before .before .before .before .before .begins-with-path .ensures)
+    ∙ not-false _ (c .before .before .before .before .before .if1 .left) in
     let h = begins-length (a .this .now) p e in
-    omega (arith, c .before .before .before .before .path-len .ensures ∙ kept largestUsize (length p) (omega arith), c .before .before .before .if2 .left)
+    omega (
+      arith,
+      c .before .before .before .before .path-len .ensures
+          ∙ kept largestUsize (length p) (omega arith),
+      c .before .before .before .if2 .left,
+    )
 
 returns-4 : tie.Need-returns-4
 returns-4 c =
     let a = c .before .before .before .before .before .before .before .before .before .before .before .args in
     let p = joined (a .parent .now) (a .name .now) (a .unit .now) in
-    let e = sym (c .before .before .before .before .before .before .begins-with-path .ensures) ∙ not-false _ (c .before .before .before .before .before .if1 .left) in
+    let e = sym (c .before .before .before .before .before .before .begins-with-path .ensures)
+    ∙ not-false _ (c .before .before .before .before .before .if1 .left) in
     let n = c .before .before .before .before .path-len .ensures ∙ kept largestUsize (length p) (omega (arith, begins-length _ _ e)) in
     let r = sym (c .before .before .path-is-root .ensures) ∙ c .before .if3 .left in
     rw n (sym (under-tests (a .this .now) p ∙ simp (e, ne-eqb _ _ (λ q. c .before .before .before .if2 .left (q ∙ sym n)), r)))

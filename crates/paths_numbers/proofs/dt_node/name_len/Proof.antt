@@ -4,7 +4,7 @@ use Prim.Native.Nat.{_+_}
 use mathlib.Core.Path.{sym, ap, _∙_}
 use native.Mathlib.Omega.{arith}
 use lib.ListN.{length}
-use Rattle.paths_numbers.specs.Path.{largestUsize, atMost}
+use Rattle.paths_numbers.specs.meaning.Path.{largestUsize, atMost}
 use Rattle.paths_numbers.proofs.Joined.{unit-none, unit-length}
 use Rattle.paths_numbers.proofs.Lengths.{kept, cut-sum}
 use Rattle.paths_numbers.proofs.dt_node.name_len.Statement.{statement}

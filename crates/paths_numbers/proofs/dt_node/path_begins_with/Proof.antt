@@ -4,8 +4,8 @@ use Prim.Native.Nat.{_-_, _≤_}
 use mathlib.Core.Path.{_≡_, refl, sym, _∙_}
 use native.Mathlib.Omega.{arith}
 use lib.ListN.{length, drop}
-use Rattle.paths_numbers.specs.Text.{begins}
-use Rattle.paths_numbers.specs.Path.{joined, largestUsize}
+use Rattle.paths_numbers.specs.meaning.Text.{begins}
+use Rattle.paths_numbers.specs.meaning.Path.{joined, largestUsize}
 use Rattle.paths_numbers.proofs.Texts.{begins-short, differs, agrees, agreed}
 use Rattle.paths_numbers.proofs.Lengths.{cut-le, uncut}
 use Rattle.paths_numbers.proofs.dt_node.path_begins_with.Statement.{statement}
@@ -46,7 +46,8 @@ returns-2 c =
     let a = c .before .before .before .before .before .before .before .before .before .before .before .args in
     let l = c .before .before .before .before .loop in
     let p = joined (a .parent .now) (a .name .now) (a .unit .now) in
-    differs p (a .base .now) (l .i) _ (l .inv .2) (omega arith) (omega arith) (λ e. c .if2 .taken (c .before .before .path-byte .ensures ∙ e))
+    differs p (a .base .now) (l .i) _ (l .inv .2) (omega arith) (omega arith)
+    (λ e. c .if2 .taken (c .before .before .path-byte .ensures ∙ e))
 
 add-i : tie.Need-add-i Inv-loop μ-loop
 add-i c = search needs
@@ -58,8 +59,12 @@ loop-again : tie.Need-loop-again Inv-loop μ-loop
 loop-again c =
     let a = c .before .before .before .before .before .before .before .before .before .before .before .args in
     let l = c .before .before .before .before .loop in
-    let p = joined (a .parent .now) (a .name .now) (a .unit .now) in
-    (omega arith, l .inv .1, agrees p (a .base .now) (l .i) _ (l .inv .2) (omega arith) (omega arith) (sym (c .before .before .path-byte .ensures) ∙ c .if2 .left))
+    let p = joined (a .parent .now) (a .name .now) (a .unit .now) in (
+      omega arith,
+      l .inv .1,
+      agrees p (a .base .now) (l .i) _ (l .inv .2) (omega arith) (omega arith)
+          (sym (c .before .before .path-byte .ensures) ∙ c .if2 .left),
+    )
 
 returns-3 : tie.Need-returns-3 Inv-loop μ-loop
 returns-3 c =

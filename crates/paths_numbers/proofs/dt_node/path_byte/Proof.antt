@@ -4,7 +4,7 @@ use Prim.Native.Nat.{ℕ, _-_}
 use mathlib.Core.Path.{refl, sym, ap, _∙_}
 use native.Mathlib.Omega.{arith}
 use lib.ListN.{length, getD, List·getD-eq-default}
-use Rattle.paths_numbers.specs.Path.{root, withUnit}
+use Rattle.paths_numbers.specs.meaning.Path.{root, withUnit}
 use Rattle.paths_numbers.proofs.Joined.{stem-is, joined-root, joined-first, joined-slash, joined-name}
 use Rattle.paths_numbers.proofs.dt_node.path_byte.Statement.{statement}
 use Rattle.paths_numbers.proofs.dt_node.path_byte.Tie as tie
@@ -15,7 +15,10 @@ name-is-root-requires c κs = search needs
 returns : tie.Need-returns
 returns c =
     let a = c .before .before .before .before .before .before .args in
-    rw (joined-root (a .parent .now) (a .name .now) (a .unit .now) (sym (c .before .before .name-is-root .ensures) ∙ c .before .if1 .taken), c .if2 .taken) refl
+    rw (
+      joined-root (a .parent .now) (a .name .now) (a .unit .now) (sym (c .before .before .name-is-root .ensures) ∙ c .before .if1 .taken),
+      c .if2 .taken,
+    ) refl
 
 returns-2 : tie.Need-returns-2
 returns-2 c =

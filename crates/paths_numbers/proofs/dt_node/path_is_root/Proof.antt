@@ -5,7 +5,7 @@ use mathlib.Core.Path.{ap, _∙_}
 use native.Mathlib.Omega.{arith}
 use lib.Dec.{eqb}
 use lib.ListN.{length}
-use Rattle.paths_numbers.specs.Path.{largestUsize, joined}
+use Rattle.paths_numbers.specs.meaning.Path.{largestUsize, joined}
 use Rattle.paths_numbers.proofs.Joined.{joined-one}
 use Rattle.paths_numbers.proofs.Lengths.{cut-test}
 use Rattle.paths_numbers.proofs.dt_node.path_is_root.Statement.{statement}

@@ -1,9 +1,10 @@
--- "/" is one byte long; any other path is as long as the stem, "/" and the name, cut as their sum is (Joined: joined-root, joined-length; Lengths: cut-sum).
+-- "/" is one byte long; any other path is as long as the stem, "/" and the name, cut as their sum is (Joined: joined-root, joined-length;
+-- Lengths: cut-sum).
 use borrow.Author.Needs.{needs}
 use Prim.Native.Nat.{_+_}
 use mathlib.Core.Path.{refl, sym, ap, _∙_}
 use lib.ListN.{length}
-use Rattle.paths_numbers.specs.Path.{largestUsize, atMost, stem, withUnit}
+use Rattle.paths_numbers.specs.meaning.Path.{largestUsize, atMost, stem, withUnit}
 use Rattle.paths_numbers.proofs.Joined.{joined-root, joined-length}
 use Rattle.paths_numbers.proofs.Lengths.{cut-sum}
 use Rattle.paths_numbers.proofs.dt_node.path_len.Statement.{statement}
@@ -36,7 +37,8 @@ returns-2 c =
     let k = length (stem (a .parent .now)) + 1 in
     let n = length (withUnit (a .name .now) (a .unit .now)) in
     c .add-lens2 .ensures
-    ∙ cut-sum largestUsize k n _ _ (rw (c .before .before .before .before-slash .ensures) at (c .before .before .add-lens .ensures)) (c .before .name-len .ensures)
+    ∙ cut-sum largestUsize k n _ _ (rw (c .before .before .before .before-slash .ensures) at (c .before .before .add-lens .ensures))
+    (c .before .name-len .ensures)
     ∙ ap (atMost largestUsize) (sym (joined-length (a .parent .now) (a .name .now) (a .unit .now) e))
 
 pub path-len-spec : {M : Type 1} → statement M

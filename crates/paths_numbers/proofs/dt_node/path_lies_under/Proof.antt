@@ -6,8 +6,8 @@ use native.Mathlib.Omega.{arith}
 use borrow.Author.Tests.{eq-eqb, ne-eqb, not-true, not-false}
 use lib.Dec.{eqb}
 use lib.ListN.{length}
-use Rattle.paths_numbers.specs.Byte.{slash}
-use Rattle.paths_numbers.specs.Path.{joined, largestUsize}
+use Rattle.paths_numbers.specs.meaning.Byte.{slash}
+use Rattle.paths_numbers.specs.meaning.Path.{joined, largestUsize}
 use Rattle.paths_numbers.proofs.Strip.{under-tests}
 use Rattle.paths_numbers.proofs.Lengths.{uncut, other}
 use Rattle.paths_numbers.proofs.dt_node.path_lies_under.Statement.{statement}
@@ -41,7 +41,8 @@ returns-3 : tie.Need-returns-3
 returns-3 c =
     let a = c .before .before .before .before .before .before .before .before .before .before .args in
     let p = joined (a .parent .now) (a .name .now) (a .unit .now) in
-    let e = sym (c .before .before .before .before .before .path-begins-with .ensures) ∙ not-false _ (c .before .before .before .before .if1 .left) in
+    let e = sym (c .before .before .before .before .before .path-begins-with .ensures)
+    ∙ not-false _ (c .before .before .before .before .if1 .left) in
     let n = other largestUsize (length p) _ _ (c .before .before .before .path-len .ensures) (omega arith) (c .before .before .if2 .left) in
     let r = sym (c .before .is-root .ensures) ∙ c .if3 .taken in
     sym (under-tests p (a .base .now) ∙ simp (e, ne-eqb _ _ n, r))
@@ -53,8 +54,10 @@ returns-4 : tie.Need-returns-4
 returns-4 c =
     let a = c .before .before .before .before .before .before .before .before .before .before .before .args in
     let p = joined (a .parent .now) (a .name .now) (a .unit .now) in
-    let e = sym (c .before .before .before .before .before .before .path-begins-with .ensures) ∙ not-false _ (c .before .before .before .before .before .if1 .left) in
-    let n = other largestUsize (length p) _ _ (c .before .before .before .before .path-len .ensures) (omega arith) (c .before .before .before .if2 .left) in
+    let e = sym (c .before .before .before .before .before .before .path-begins-with .ensures)
+    ∙ not-false _ (c .before .before .before .before .before .if1 .left) in
+    let n = other largestUsize (length p) _ _ (c .before .before .before .before .path-len .ensures) (omega arith)
+    (c .before .before .before .if2 .left) in
     let r = sym (c .before .before .is-root .ensures) ∙ c .before .if3 .left in
     ap (λ (b : ℕ). eqb b slash) (c .path-byte .ensures) ∙ sym (under-tests p (a .base .now) ∙ simp (e, ne-eqb _ _ n, r))
 

@@ -5,8 +5,8 @@ use mathlib.Core.Path.{_≡_, refl}
 use native.Mathlib.Omega.{arith}
 use native.Mathlib.Nat.{add-zero}
 use lib.ListN.{length, drop, length-set}
-use Rattle.paths_numbers.specs.Text.{written}
-use Rattle.paths_numbers.specs.Path.{joined}
+use Rattle.paths_numbers.specs.meaning.Text.{written}
+use Rattle.paths_numbers.specs.meaning.Path.{joined}
 use Rattle.paths_numbers.proofs.Written.{written-byte, written-all}
 use Rattle.paths_numbers.proofs.dt_node.write_path.Statement.{statement}
 use Rattle.paths_numbers.proofs.dt_node.write_path.Tie as tie
@@ -42,8 +42,12 @@ loop-again : tie.Need-loop-again Inv-loop μ-loop
 loop-again c =
     let a = c .before .before .before .before .before .before .before .args in
     let l = c .before .before .loop in
-    let p = joined (a .parent .now) (a .name .now) (a .unit .now) in
-    (omega arith, simp length-set (l .inv .1), written-byte (l .out) (a .at) p (l .i) _ _ (l .inv .2) (omega arith) (omega arith) (c .path-byte .ensures))
+    let p = joined (a .parent .now) (a .name .now) (a .unit .now) in (
+      omega arith,
+      simp length-set (l .inv .1),
+      written-byte (l .out) (a .at) p (l .i) _ _ (l .inv .2) (omega arith) (omega arith)
+          (c .path-byte .ensures),
+    )
 
 same-length : tie.Need-same-length Inv-loop μ-loop
 same-length c = search needs

@@ -5,7 +5,7 @@ use mathlib.Core.Logic.{⊎-elim}
 use native.Mathlib.Omega.{arith}
 use borrow.Author.Needs.{needs}
 use lib.ListN.{length, drop}
-use Rattle.paths_numbers.specs.Bytestring.{nibbles}
+use Rattle.paths_numbers.specs.meaning.Bytestring.{nibbles}
 use Rattle.paths_numbers.proofs.Bytestring.{nibbles-stop, nibbles-skip, nibbles-digit, nibbles-done}
 use Rattle.paths_numbers.proofs.dt_property.bytestring_len_digits.Statement.{statement}
 use Rattle.paths_numbers.proofs.dt_property.bytestring_len_digits.Tie as tie
@@ -47,8 +47,10 @@ loop-again c =
     let no = c .before .before .if1 .left in
     let d = c .before .digit .ensures in
     ⊎-elim
-    (λ w. let e = nibbles-digit (a .text .now) (l .i) (omega arith) no _ d (w .0 .taken) in (omega arith, omega (arith, w .1), omega (arith, w .1, ap length e)))
-    (λ w. let e = nibbles-skip (a .text .now) (l .i) (omega arith) no _ d (w .0 .left) in (omega arith, omega (arith, w .1), omega (arith, w .1, ap length e)))
+    (λ w. let e = nibbles-digit (a .text .now) (l .i) (omega arith) no _ d
+    (w .0 .taken) in (omega arith, omega (arith, w .1), omega (arith, w .1, ap length e)))
+    (λ w. let e = nibbles-skip (a .text .now) (l .i) (omega arith) no _ d
+    (w .0 .left) in (omega arith, omega (arith, w .1), omega (arith, w .1, ap length e)))
     (c .if2 .came)
 
 returns-2 : tie.Need-returns-2 Inv-loop μ-loop

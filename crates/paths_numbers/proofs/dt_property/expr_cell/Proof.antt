@@ -1,7 +1,8 @@
--- The expression cell: the cast of a number that is not negative, and of -1 minus one that is (Casts), against the largest of the width (Cells).
+-- The expression cell: the cast of a number that is not negative, and of -1 minus one that is (Casts), against the largest of the width
+-- (Cells).
 use mathlib.Core.Path.{ap, _∙_}
 use borrow.Author.Needs.{needs}
-use Rattle.paths_numbers.specs.Cell.{bitsOf, exprCell}
+use Rattle.paths_numbers.specs.meaning.Cell.{bitsOf, exprCell}
 use Rattle.paths_numbers.proofs.Casts.{plain-fits, plain-is, less-fits, less-cast-fits, less-cast-is}
 use Rattle.paths_numbers.proofs.Cells.{some-bit, positive-in, positive-out, negative-in, negative-out}
 use Rattle.paths_numbers.proofs.dt_property.expr_cell.Tie as tie

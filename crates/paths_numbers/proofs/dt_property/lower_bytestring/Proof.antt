@@ -18,7 +18,8 @@ enum-known-n c = search needs
 returns : tie.Need-returns
 returns c =
     let a = c .before .before .before .before .before .before .before .args in
-    lowered-none (a .text .now) (a .out .now) (a .at) _ (sym (c .before .before .before .before .bytestring-len .ensures) ∙ c .before .before .n .given .1) (omega arith)
+    lowered-none (a .text .now) (a .out .now) (a .at) _ (sym (c .before .before .before .before .bytestring-len .ensures)
+    ∙ c .before .before .n .given .1) (omega arith)
 
 sub-if2 : tie.Need-sub-if2
 sub-if2 c = search needs
@@ -26,12 +27,14 @@ sub-if2 c = search needs
 returns-2 : tie.Need-returns-2
 returns-2 c =
     let a = c .before .before .before .before .before .before .before .before .args in
-    lowered-none (a .text .now) (a .out .now) (a .at) _ (sym (c .before .before .before .before .before .bytestring-len .ensures) ∙ c .before .before .before .n .given .1) (omega arith)
+    lowered-none (a .text .now) (a .out .now) (a .at) _ (sym (c .before .before .before .before .before .bytestring-len .ensures)
+    ∙ c .before .before .before .n .given .1) (omega arith)
 
 write-nibbles-requires : tie.Need-write-nibbles-requires
 write-nibbles-requires c κs =
     let a = c .before .before .before .before .before .before .before .before .before .args in
-    let e = sym (c .before .before .before .before .before .before .bytestring-len .ensures) ∙ c .before .before .before .before .n .given .1 in
+    let e = sym (c .before .before .before .before .before .before .bytestring-len .ensures)
+    ∙ c .before .before .before .before .n .given .1 in
     omega (arith, count-bytes (a .text .now) _ e .1)
 
 returns-3 : tie.Need-returns-3
@@ -45,7 +48,8 @@ same-length c = search needs
 returns-4 : tie.Need-returns-4
 returns-4 c =
     let a = c .before .before .before .before .before .before .before .before .before .before .before .before .args in
-    let e = sym (c .before .before .before .before .before .before .before .before .before .bytestring-len .ensures) ∙ c .before .before .before .before .before .before .before .n .given .1 in
+    let e = sym (c .before .before .before .before .before .before .before .before .before .bytestring-len .ensures)
+    ∙ c .before .before .before .before .before .before .before .n .given .1 in
     let l = lowered-room (a .text .now) (a .out .now) (a .at) _ e (omega arith) in
     (l .0, c .before .before .write-nibbles .ensures ∙ l .1)
 

@@ -5,14 +5,16 @@ use mathlib.Core.Logic.{⊎-elim}
 use native.Mathlib.Omega.{arith}
 use borrow.Author.Needs.{needs}
 use lib.ListN.{length, length-set}
-use Rattle.paths_numbers.specs.Bytestring.{bytesOf}
-use Rattle.paths_numbers.specs.Text.{written}
-use Rattle.paths_numbers.proofs.Bytestring.{nibbles-stop, nibbles-skip, nibbles-digit, nibbles-done, digitsLeft, left-start, left-end, left-skip, left-wait, left-pair, ToWrite, write-room, write-pair, write-end}
+use Rattle.paths_numbers.specs.meaning.Bytestring.{bytesOf}
+use Rattle.paths_numbers.specs.meaning.Text.{written}
+use Rattle.paths_numbers.proofs.Bytestring.{nibbles-stop, nibbles-skip, nibbles-digit, nibbles-done, digitsLeft, left-start}
+use Rattle.paths_numbers.proofs.Bytestring.{left-end, left-skip, left-wait, left-pair, ToWrite, write-room, write-pair, write-end}
 use Rattle.paths_numbers.proofs.dt_property.write_nibbles.Statement.{statement}
 use Rattle.paths_numbers.proofs.dt_property.write_nibbles.Tie as tie
 
 abbrev Inv-loop : tie.InvT-loop
-Inv-loop text out₀ at first₀ to₀ i₀ out first to i = (i ≤ length text) × (length out ≡ length out₀) × ToWrite (written out₀ at (bytesOf text)) (digitsLeft text i first) out to
+Inv-loop text out₀ at first₀ to₀ i₀ out first to i = (i ≤ length text) × (length out ≡ length out₀)
+    × ToWrite (written out₀ at (bytesOf text)) (digitsLeft text i first) out to
 
 abbrev μ-loop : tie.MeasureT-loop
 μ-loop text out₀ at first₀ to₀ i₀ out first to i = length text - i
@@ -50,7 +52,8 @@ slice-write-out : tie.Need-slice-write-out Inv-loop μ-loop
 slice-write-out c =
     let a = c .before .before .before .before .before .before .before .before .before .args in
     let l = c .before .before .before .before .before .before .loop in
-    let e = nibbles-digit (a .text .now) (l .i) (omega arith) (c .before .before .before .if1 .left) _ (c .before .before .digit .ensures) (c .before .if2 .taken) in
+    let e = nibbles-digit (a .text .now) (l .i) (omega arith) (c .before .before .before .if1 .left) _ (c .before .before .digit .ensures)
+    (c .before .if2 .taken) in
     write-room (rw (left-pair (a .text .now) (l .i) (l .first) _ e (c .before .if2 .taken) (c .if3 .taken)) at (l .inv .2))
 
 add-to : tie.Need-add-to Inv-loop μ-loop

@@ -2,7 +2,7 @@
 use mathlib.Core.Logic.{⊎-elim, inl, inr}
 use mathlib.Core.Path.{sym, ap}
 use borrow.Author.Tests.{ne-eqb}
-use Rattle.paths_numbers.specs.Number.{isSuffix}
+use Rattle.paths_numbers.specs.meaning.Number.{isSuffix}
 use Rattle.paths_numbers.proofs.expr_eval.is_suffix.Tie as tie
 use Rattle.paths_numbers.proofs.expr_eval.is_suffix.Statement.{statement}
 
@@ -18,7 +18,13 @@ returns-2 : tie.Need-returns-2
 unfolding isSuffix
 returns-2 c =
     let none = c .match .rest .1 in
-    simp (ne-eqb _ 76 (λ e. none (inl e)), ne-eqb _ 85 (λ e. none (inr (inl e))), ne-eqb _ 108 (λ e. none (inr (inr (inl e)))), ne-eqb _ 117 (λ e. none (inr (inr (inr e)))))
+    simp (
+      ne-eqb _ 76 (λ e. none (inl e)),
+      ne-eqb _ 85 (λ e. none (inr (inl e))),
+      ne-eqb _ 108 (λ e. none (inr (inr (inl e)))),
+      ne-eqb _ 117
+          (λ e. none (inr (inr (inr e)))),
+    )
 
 pub is-suffix-spec : {M : Type 1} → statement M
 is-suffix-spec = tie.close (tie.spec returns returns-2)

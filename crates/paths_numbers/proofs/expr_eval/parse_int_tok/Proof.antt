@@ -5,8 +5,8 @@ use mathlib.Core.Path.{ap, _∙_}
 use native.Mathlib.Omega.{arith}
 use borrow.Author.Needs.{needs}
 use lib.ListN.{length, take, drop}
-use Rattle.paths_numbers.specs.Cell.{largest}
-use Rattle.paths_numbers.specs.Number.{unsigned, unsignedNumber}
+use Rattle.paths_numbers.specs.meaning.Cell.{largest}
+use Rattle.paths_numbers.specs.meaning.Number.{unsigned, unsignedNumber}
 use Rattle.paths_numbers.proofs.Cells.{some-room}
 use Rattle.paths_numbers.proofs.Prefix.{base-least, base-most, base-long, read-whole, read-behind}
 use Rattle.paths_numbers.proofs.expr_eval.parse_int_tok.Tie as tie
@@ -25,7 +25,14 @@ read-unsigned-requires : tie.Need-read-unsigned-requires
 read-unsigned-requires c κs =
     let e = c .before .base-of .ensures in
     let s = c .before .before .trim-suffixes .result .now in
-    omega (arith, base-least s, base-most s, c .before .before .before .most .ensures, some-room (c .before .before .before .before .before .args .size))
+    omega (
+      arith,
+      base-least s,
+      base-most s,
+      c .before .before .before .most .ensures,
+      some-room
+          (c .before .before .before .before .before .args .size),
+    )
 
 returns : tie.Need-returns
 unfolding unsignedNumber
@@ -34,7 +41,8 @@ returns c =
     let s = c .before .before .before .trim-suffixes .result .now in
     c .read-unsigned .ensures
     ∙ ap (λ (m : ℕ). unsigned (c .before .before .base-of .result) m s) (c .before .before .before .before .most .ensures)
-    ∙ read-whole (λ (b : ℕ) (s : List ℕ). unsigned b (largest (k .args .size)) s) s _ _ (c .before .before .before .trim-suffixes .ensures) (c .before .before .base-of .ensures) (c .before .if1 .taken)
+    ∙ read-whole (λ (b : ℕ) (s : List ℕ). unsigned b (largest (k .args .size)) s) s _ _ (c .before .before .before .trim-suffixes .ensures)
+    (c .before .before .base-of .ensures) (c .before .if1 .taken)
 
 sub-read-unsigned : tie.Need-sub-read-unsigned
 sub-read-unsigned c = base-long _ (λ e. c .if1 .left (c .before .base-of .ensures ∙ e))
@@ -49,7 +57,14 @@ read-unsigned-requires-2 : tie.Need-read-unsigned-requires-2
 read-unsigned-requires-2 c κs =
     let e = c .before .before .base-of .ensures in
     let s = c .before .before .before .trim-suffixes .result .now in
-    omega (arith, base-least s, base-most s, c .before .before .before .before .most .ensures, some-room (c .before .before .before .before .before .before .args .size))
+    omega (
+      arith,
+      base-least s,
+      base-most s,
+      c .before .before .before .before .most .ensures,
+      some-room
+          (c .before .before .before .before .before .before .args .size),
+    )
 
 returns-2 : tie.Need-returns-2
 unfolding unsignedNumber
@@ -57,8 +72,11 @@ returns-2 c =
     let k = c .before .before .before .before .before .before .before in
     let s = c .before .before .before .before .trim-suffixes .result .now in
     c .read-unsigned2 .ensures
-    ∙ ap (λ (m : ℕ). unsigned (c .before .before .before .base-of .result) m (take (length s - 2) (drop 2 s))) (c .before .before .before .before .before .most .ensures)
-    ∙ read-behind (λ (b : ℕ) (s : List ℕ). unsigned b (largest (k .args .size)) s) s _ _ (c .before .before .before .before .trim-suffixes .ensures) (c .before .before .before .base-of .ensures) (c .before .before .if1 .left)
+    ∙ ap (λ (m : ℕ). unsigned (c .before .before .before .base-of .result) m (take (length s - 2) (drop 2 s)))
+    (c .before .before .before .before .before .most .ensures)
+    ∙ read-behind (λ (b : ℕ) (s : List ℕ). unsigned b (largest (k .args .size)) s) s _ _
+    (c .before .before .before .before .trim-suffixes .ensures) (c .before .before .before .base-of .ensures)
+    (c .before .before .if1 .left)
 
 pub parse-int-tok-spec : {M : Type 1} → statement M
 parse-int-tok-spec =

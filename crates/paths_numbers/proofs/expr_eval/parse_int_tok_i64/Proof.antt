@@ -2,7 +2,7 @@
 use mathlib.Core.Path.{_∙_}
 use native.Mathlib.Omega.{arith}
 use borrow.Author.Needs.{needs}
-use Rattle.paths_numbers.specs.Number.{signed, signedNumber}
+use Rattle.paths_numbers.specs.meaning.Number.{signed, signedNumber}
 use Rattle.paths_numbers.proofs.Prefix.{base-least, base-most, base-long, read-whole, read-behind}
 use Rattle.paths_numbers.proofs.expr_eval.parse_int_tok_i64.Tie as tie
 use Rattle.paths_numbers.proofs.expr_eval.parse_int_tok_i64.Statement.{statement}
@@ -24,7 +24,8 @@ unfolding signedNumber
 returns c =
     let s = c .before .before .before .trim-suffixes .result .now in
     c .read-signed .ensures
-    ∙ read-whole signed s _ _ (c .before .before .before .trim-suffixes .ensures) (c .before .before .base-of .ensures) (c .before .if1 .taken)
+    ∙ read-whole signed s _ _ (c .before .before .before .trim-suffixes .ensures) (c .before .before .base-of .ensures)
+    (c .before .if1 .taken)
 
 sub-read-signed : tie.Need-sub-read-signed
 sub-read-signed c = base-long _ (λ e. c .if1 .left (c .before .base-of .ensures ∙ e))
@@ -46,7 +47,8 @@ unfolding signedNumber
 returns-2 c =
     let s = c .before .before .before .before .trim-suffixes .result .now in
     c .read-signed2 .ensures
-    ∙ read-behind signed s _ _ (c .before .before .before .before .trim-suffixes .ensures) (c .before .before .before .base-of .ensures) (c .before .before .if1 .left)
+    ∙ read-behind signed s _ _ (c .before .before .before .before .trim-suffixes .ensures) (c .before .before .before .base-of .ensures)
+    (c .before .before .if1 .left)
 
 pub parse-int-tok-i64-spec : {M : Type 1} → statement M
 parse-int-tok-i64-spec =

@@ -1,7 +1,7 @@
 -- Behind a sign: nothing is no digit, and else the digit reader's contract.
 use mathlib.Core.Path.{_∙_}
 use borrow.Author.Needs.{needs}
-use Rattle.paths_numbers.specs.Number.{behindSign}
+use Rattle.paths_numbers.specs.meaning.Number.{behindSign}
 use Rattle.paths_numbers.proofs.Signs.{behind-some}
 use Rattle.paths_numbers.proofs.Texts.{no-byte}
 use Rattle.paths_numbers.proofs.expr_eval.read_behind_sign.Tie as tie

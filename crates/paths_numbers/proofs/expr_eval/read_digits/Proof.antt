@@ -4,7 +4,7 @@ use mathlib.Core.Path.{_≡_}
 use native.Mathlib.Omega.{arith}
 use borrow.Author.Needs.{needs}
 use lib.ListN.{length, drop}
-use Rattle.paths_numbers.specs.Number.{digits}
+use Rattle.paths_numbers.specs.meaning.Number.{digits}
 use Rattle.paths_numbers.proofs.Digits.{bad, large, good, done, above, below}
 use Rattle.paths_numbers.proofs.expr_eval.read_digits.Tie as tie
 use Rattle.paths_numbers.proofs.expr_eval.read_digits.Statement.{statement}
@@ -58,7 +58,8 @@ loop-again : tie.Need-loop-again Inv-loop μ-loop
 loop-again c =
     let l = c .before .before .before .before .before .loop in (
       omega arith,
-      good _ _ _ _ (c .before .before .before .before .before .before .before .args .s .now) (l .i) _ (l .inv .1) (omega arith) _ (c .before .before .digit .ensures) (c .before .if1 .left)
+      good _ _ _ _ (c .before .before .before .before .before .before .before .args .s .now) (l .i) _ (l .inv .1) (omega arith) _
+          (c .before .before .digit .ensures) (c .before .if1 .left)
           (below _ _ _ _ (omega arith) (omega arith) (c .if2 .left)),
     )
 

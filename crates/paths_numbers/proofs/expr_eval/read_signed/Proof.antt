@@ -2,7 +2,7 @@
 use mathlib.Core.Path.{ap, _∙_}
 use native.Mathlib.Omega.{arith}
 use borrow.Author.Needs.{needs}
-use Rattle.paths_numbers.specs.Number.{positive, negative, signed}
+use Rattle.paths_numbers.specs.meaning.Number.{positive, negative, signed}
 use Rattle.paths_numbers.proofs.Signs.{signed-plus, signed-minus, signed-plain}
 use Rattle.paths_numbers.proofs.Digits.{digits-within, sign-within}
 use Rattle.paths_numbers.proofs.Texts.{no-byte, rest}
@@ -56,7 +56,8 @@ returns-3 : tie.Need-returns-3
 returns-3 c =
     let s = c .before .before .before .before .before .before .before .before .args .s .now in
     c .to-negative .ensures ∙ ap negative (c .before .read-behind-sign2 .ensures)
-    ∙ rw (rest s 1) (signed-minus _ s (c .before .before .before .before .before .before .if1 .left) (c .before .before .before .before .if2 .left) (c .before .before .before .if3 .taken))
+    ∙ rw (rest s 1) (signed-minus _ s (c .before .before .before .before .before .before .if1 .left)
+    (c .before .before .before .before .if2 .left) (c .before .before .before .if3 .taken))
 
 read-digits-requires : tie.Need-read-digits-requires
 read-digits-requires c κs = search needs
@@ -68,7 +69,8 @@ returns-4 : tie.Need-returns-4
 returns-4 c =
     let s = c .before .before .before .before .before .before .before .args .s .now in
     c .to-positive2 .ensures ∙ ap positive (c .before .read-digits .ensures)
-    ∙ signed-plain _ s (c .before .before .before .before .before .if1 .left) (c .before .before .before .if2 .left) (c .before .before .if3 .left)
+    ∙ signed-plain _ s (c .before .before .before .before .before .if1 .left) (c .before .before .before .if2 .left)
+    (c .before .before .if3 .left)
 
 pub read-signed-spec : {M : Type 1} → statement M
 read-signed-spec =

@@ -1,7 +1,7 @@
 -- The unsigned reading: nothing, a plus, or a digit first.
 use mathlib.Core.Path.{_∙_}
 use borrow.Author.Needs.{needs}
-use Rattle.paths_numbers.specs.Number.{unsigned}
+use Rattle.paths_numbers.specs.meaning.Number.{unsigned}
 use Rattle.paths_numbers.proofs.Signs.{unsigned-plus, unsigned-plain}
 use Rattle.paths_numbers.proofs.Texts.{no-byte, rest}
 use Rattle.paths_numbers.proofs.expr_eval.read_unsigned.Tie as tie
@@ -29,13 +29,15 @@ read-behind-sign-requires c κs = search needs
 returns-2 : tie.Need-returns-2
 returns-2 c =
     let s = c .before .before .before .before .before .before .args .s .now in
-    c .read-behind-sign .ensures ∙ rw (rest s 1) (unsigned-plus _ _ s (c .before .before .before .before .if1 .left) (c .before .before .if2 .taken))
+    c .read-behind-sign .ensures ∙ rw (rest s 1) (unsigned-plus _ _ s (c .before .before .before .before .if1 .left)
+    (c .before .before .if2 .taken))
 
 read-digits-requires : tie.Need-read-digits-requires
 read-digits-requires c κs = search needs
 
 returns-3 : tie.Need-returns-3
-returns-3 c = c .read-digits .ensures ∙ unsigned-plain _ _ (c .before .before .before .before .before .args .s .now) (c .before .before .before .if1 .left) (c .before .if2 .left)
+returns-3 c = c .read-digits .ensures ∙ unsigned-plain _ _ (c .before .before .before .before .before .args .s .now)
+    (c .before .before .before .if1 .left) (c .before .if2 .left)
 
 pub read-unsigned-spec : {M : Type 1} → statement M
 read-unsigned-spec =

@@ -4,7 +4,7 @@ use native.Mathlib.Omega.{arith}
 use borrow.Author.Needs.{needs}
 use Rattle.paths_numbers.specs.declared.expr_eval.ParsedInt.the-variants as U
 use Rattle.paths_numbers.specs.declared.expr_eval.ParsedI64.the-variants.{Value}
-use Rattle.paths_numbers.specs.Number.{negative}
+use Rattle.paths_numbers.specs.meaning.Number.{negative}
 use Rattle.paths_numbers.proofs.Casts.{signed-fits, negated-fits, negated-is}
 use Rattle.paths_numbers.proofs.Digits.{value-within}
 use Rattle.paths_numbers.proofs.expr_eval.to_negative.Tie as tie
@@ -31,7 +31,8 @@ enum-known-p-2 c = search needs
 returns-2 : tie.Need-returns-2
 returns-2 c =
     let p = c .before .before .p .given in
-    ap Value (negated-is (p .0 .0) (c .if1 .left) (value-within _ _ _ (c .before .before .before .before .pre) (p .1))) ∙ sym (ap negative (p .1))
+    ap Value (negated-is (p .0 .0) (c .if1 .left) (value-within _ _ _ (c .before .before .before .before .pre) (p .1)))
+    ∙ sym (ap negative (p .1))
 
 returns-3 : tie.Need-returns-3
 returns-3 c = sym (ap negative (c .before .p2 .given .1))

@@ -3,7 +3,7 @@ use mathlib.Core.Path.{sym, ap, _∙_}
 use native.Mathlib.Omega.{arith}
 use borrow.Author.Needs.{needs}
 use Rattle.paths_numbers.specs.declared.expr_eval.ParsedI64.the-variants.{Value}
-use Rattle.paths_numbers.specs.Number.{positive}
+use Rattle.paths_numbers.specs.meaning.Number.{positive}
 use Rattle.paths_numbers.proofs.Casts.{signed-fits, signed-is}
 use Rattle.paths_numbers.proofs.Digits.{value-within}
 use Rattle.paths_numbers.proofs.expr_eval.to_positive.Tie as tie

@@ -6,7 +6,7 @@ use borrow.Author.Tests.{not-true, not-false}
 use borrow.Author.Needs.{needs}
 use lib.Seq.{take-length, length-take-le}
 use lib.ListN.{length, take}
-use Rattle.paths_numbers.specs.Number.{trimmed}
+use Rattle.paths_numbers.specs.meaning.Number.{trimmed}
 use Rattle.paths_numbers.proofs.Suffixes.{shorter, stays, nothing-left}
 use Rattle.paths_numbers.proofs.expr_eval.trim_suffixes.Tie as tie
 use Rattle.paths_numbers.proofs.expr_eval.trim_suffixes.Statement.{statement}
@@ -35,7 +35,8 @@ slice-aggregate-result c = sym (length-take-le _ (c .before .before .before .bef
 returns : tie.Need-returns Inv-loop μ-loop
 returns c =
     let l = c .before .before .before .before .before .loop in
-    stays (c .before .before .before .before .before .before .before .args .text .now) (l .n) _ (l .inv .1) (omega arith) (l .inv .0) (sym (c .before .before .is-suffix .ensures) ∙ not-true _ (c .before .if1 .taken))
+    stays (c .before .before .before .before .before .before .before .args .text .now) (l .n) _ (l .inv .1) (omega arith) (l .inv .0)
+    (sym (c .before .before .is-suffix .ensures) ∙ not-true _ (c .before .if1 .taken))
 
 sub-n : tie.Need-sub-n Inv-loop μ-loop
 sub-n c = search needs
@@ -45,8 +46,11 @@ loop-less c = search needs
 
 loop-again : tie.Need-loop-again Inv-loop μ-loop
 loop-again c =
-    let l = c .before .before .before .before .loop in
-    (omega arith, shorter (c .before .before .before .before .before .before .args .text .now) (l .n) _ (l .inv .1) (omega arith) (l .inv .0) (sym (c .before .is-suffix .ensures) ∙ not-false _ (c .if1 .left)))
+    let l = c .before .before .before .before .loop in (
+      omega arith,
+      shorter (c .before .before .before .before .before .before .args .text .now) (l .n) _ (l .inv .1) (omega arith)
+          (l .inv .0) (sym (c .before .is-suffix .ensures) ∙ not-false _ (c .if1 .left)),
+    )
 
 slice-aggregate-result-2 : tie.Need-slice-aggregate-result-2 Inv-loop μ-loop
 slice-aggregate-result-2 c = sym (length-take-le _ (c .before .before .before .before .args .text .now) (omega arith))

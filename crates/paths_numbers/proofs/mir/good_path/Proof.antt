@@ -3,8 +3,8 @@ use borrow.Author.Needs.{needs}
 use mathlib.Core.Path.{sym, _∙_}
 use native.Mathlib.Omega.{arith}
 use borrow.Author.Tests.{eq-eqb, ne-eqb}
-use Rattle.paths_numbers.specs.Byte.{slash}
-use Rattle.paths_numbers.specs.Path.{goodPath}
+use Rattle.paths_numbers.specs.meaning.Byte.{slash}
+use Rattle.paths_numbers.specs.meaning.Path.{goodPath}
 use Rattle.paths_numbers.proofs.Texts.{is-empty, not-empty, starts-at}
 use Rattle.paths_numbers.proofs.mir.good_path.Statement.{statement}
 use Rattle.paths_numbers.proofs.mir.good_path.Tie as tie

@@ -1,4 +1,5 @@
--- Two "/" in a row were found, or what is left of the path, behind the byte before it, decides (Good: first-byte, next-byte, were-doubled, at-end).
+-- Two "/" in a row were found, or what is left of the path, behind the byte before it, decides (Good: first-byte, next-byte, were-doubled,
+-- at-end).
 use borrow.Author.Needs.{needs}
 use Prim.Native.Nat.{_-_, _≤_}
 use mathlib.Core.Path.{_≡_, refl}
@@ -6,15 +7,16 @@ use mathlib.Core.Bool.{false, cond}
 use native.Mathlib.Omega.{arith}
 use lib.Dec.{eqb}
 use lib.ListN.{length, getD, drop}
-use Rattle.paths_numbers.specs.Byte.{slash}
-use Rattle.paths_numbers.specs.Path.{components}
+use Rattle.paths_numbers.specs.meaning.Byte.{slash}
+use Rattle.paths_numbers.specs.meaning.Path.{components}
 use Rattle.paths_numbers.proofs.Texts.{no-byte}
 use Rattle.paths_numbers.proofs.Good.{first-byte, next-byte, were-doubled, at-end}
 use Rattle.paths_numbers.proofs.mir.has_components.Statement.{statement}
 use Rattle.paths_numbers.proofs.mir.has_components.Tie as tie
 
 abbrev Inv-loop : tie.InvT-loop
-Inv-loop path doubled₀ i₀ doubled i = (1 ≤ i) × (i ≤ length path) × (components false path ≡ cond doubled false (components (eqb (getD path (i - 1) 0) slash) (drop i path)))
+Inv-loop path doubled₀ i₀ doubled i = (1 ≤ i) × (i ≤ length path)
+    × (components false path ≡ cond doubled false (components (eqb (getD path (i - 1) 0) slash) (drop i path)))
 
 abbrev μ-loop : tie.MeasureT-loop
 μ-loop path doubled₀ i₀ doubled i = length path - i
@@ -64,7 +66,8 @@ shared-slice-read-result c = search needs
 returns-3 : tie.Need-returns-3 Inv-loop μ-loop
 returns-3 c =
     let l = c .before .before .before .loop in
-    at-end (c .before .before .before .before .before .before .args .path .now) (l .i) (l .doubled) _ (l .inv .2) (omega arith) (c .before .if2 .left)
+    at-end (c .before .before .before .before .before .before .args .path .now) (l .i) (l .doubled) _ (l .inv .2) (omega arith)
+    (c .before .if2 .left)
 
 pub has-components-spec : {M : Type 1} → statement M
 has-components-spec =

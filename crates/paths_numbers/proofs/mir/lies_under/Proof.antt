@@ -35,13 +35,15 @@ returns-3 c =
 
 shared-slice-read-result : tie.Need-shared-slice-read-result
 shared-slice-read-result c =
-    let e = sym (c .before .before .before .before .before .starts-with .ensures) ∙ not-false _ (c .before .before .before .before .if1 .left) in
+    let e = sym (c .before .before .before .before .before .starts-with .ensures)
+    ∙ not-false _ (c .before .before .before .before .if1 .left) in
     omega (arith, begins-length _ _ e, c .before .before .before .if2 .left)
 
 returns-4 : tie.Need-returns-4
 returns-4 c =
     let a = c .before .before .before .before .before .before .before .before .args in
-    let e = sym (c .before .before .before .before .before .starts-with .ensures) ∙ not-false _ (c .before .before .before .before .if1 .left) in
+    let e = sym (c .before .before .before .before .before .starts-with .ensures)
+    ∙ not-false _ (c .before .before .before .before .if1 .left) in
     let r = sym (c .before .before .is-root .ensures) ∙ c .before .if3 .left in
     sym (under-tests (a .this .now) (a .base .now) ∙ simp (e, ne-eqb _ _ (c .before .before .before .if2 .left), r))
 

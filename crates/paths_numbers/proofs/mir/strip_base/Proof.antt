@@ -67,9 +67,11 @@ part-result-end-3 c = search needs
 returns-4 : tie.Need-returns-4
 returns-4 c =
     let a = c .before .before .before .before .before .before .before .before .args in
-    let u = sym (c .before .before .before .before .before .lies-under .ensures) ∙ not-false _ (c .before .before .before .before .if1 .left) in
+    let u = sym (c .before .before .before .before .before .lies-under .ensures)
+    ∙ not-false _ (c .before .before .before .before .if1 .left) in
     let r = sym (c .before .before .is-root .ensures) ∙ c .before .if3 .left in
-    rest (a .this .now) _ ∙ sym (stripped-tests (a .this .now) (a .base .now) ∙ simp (u, ne-eqb _ _ (c .before .before .before .if2 .left), r))
+    rest (a .this .now) _ ∙ sym (stripped-tests (a .this .now) (a .base .now)
+    ∙ simp (u, ne-eqb _ _ (c .before .before .before .if2 .left), r))
 
 pub strip-base-spec : {M : Type 1} → statement M
 strip-base-spec =

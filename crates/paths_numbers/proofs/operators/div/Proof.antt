@@ -1,7 +1,7 @@
 -- `div`: the divisor is not 0, and `div_is_within` tells whether there is a quotient.
 use borrow.Author.Needs.{needs}
 use Rattle.paths_numbers.proofs.Quotients.{by-zero, quotient-fits, divided-in, divided-out, read-quotient}
-use Rattle.paths_numbers.specs.Expression.{quotient}
+use Rattle.paths_numbers.specs.meaning.Expression.{quotient}
 use Rattle.paths_numbers.proofs.operators.div.Statement.{statement}
 use Rattle.paths_numbers.proofs.operators.div.Tie as tie
 

@@ -1,7 +1,7 @@
 -- `eval_conditional`: what `is_true` ensures picks the value.
 use borrow.Author.Needs.{needs}
 use Rattle.paths_numbers.proofs.Integers.{read}
-use Rattle.paths_numbers.specs.Expression.{evalConditional}
+use Rattle.paths_numbers.specs.meaning.Expression.{evalConditional}
 use Rattle.paths_numbers.proofs.operators.eval_conditional.Statement.{statement}
 use Rattle.paths_numbers.proofs.operators.eval_conditional.Tie as tie
 

@@ -2,7 +2,7 @@
 use borrow.Author.Needs.{needs}
 use borrow.Author.Tests.{ne-eqb}
 use Rattle.paths_numbers.proofs.Integers.{read}
-use Rattle.paths_numbers.specs.Expression.{evalInfix}
+use Rattle.paths_numbers.specs.meaning.Expression.{evalInfix}
 use Rattle.paths_numbers.proofs.operators.eval_infix.Statement.{statement}
 use Rattle.paths_numbers.proofs.operators.eval_infix.Tie as tie
 
@@ -89,7 +89,18 @@ unfolding evalInfix
 returns-11 c =
     let f = c .before .before .fits in
     let r = c .before .match .rest in
-    simp (ne-eqb _ 1 (r .0 .0 .0 .0 .0 .0 .0 .0 .0 .1), ne-eqb _ 2 (r .0 .0 .0 .0 .0 .0 .0 .0 .1), ne-eqb _ 3 (r .0 .0 .0 .0 .0 .0 .0 .1), ne-eqb _ 4 (r .0 .0 .0 .0 .0 .0 .1), ne-eqb _ 5 (r .0 .0 .0 .0 .0 .1), ne-eqb _ 6 (r .0 .0 .0 .0 .1), ne-eqb _ 7 (r .0 .0 .0 .1), ne-eqb _ 8 (r .0 .0 .1), ne-eqb _ 9 (r .0 .1), ne-eqb _ 10 (r .1))
+    simp (
+      ne-eqb _ 1 (r .0 .0 .0 .0 .0 .0 .0 .0 .0 .1),
+      ne-eqb _ 2 (r .0 .0 .0 .0 .0 .0 .0 .0 .1),
+      ne-eqb _ 3 (r .0 .0 .0 .0 .0 .0 .0 .1),
+      ne-eqb _ 4 (r .0 .0 .0 .0 .0 .0 .1),
+      ne-eqb _ 5 (r .0 .0 .0 .0 .0 .1),
+      ne-eqb _ 6 (r .0 .0 .0 .0 .1),
+      ne-eqb _ 7 (r .0 .0 .0 .1),
+      ne-eqb _ 8 (r .0 .0 .1),
+      ne-eqb _ 9 (r .0 .1),
+      ne-eqb _ 10 (r .1),
+    )
     (rw (read (f .a), read (f .b)) at (c .eval-relation .ensures))
 
 pub eval-infix-spec : {M : Type 1} → statement M

@@ -1,11 +1,12 @@
--- `eval_prefix`: the number of the operator picks its case of the definition, and the machine reads a number of 64 bits as itself. -a is 0 - a.
+-- `eval_prefix`: the number of the operator picks its case of the definition, and the machine reads a number of 64 bits as itself. -a is 0
+-- - a.
 use borrow.Author.Needs.{needs}
 use borrow.Author.Tests.{ne-eqb}
 use lib.IntN.{+ℤ-idl}
 use Rattle.paths_numbers.proofs.Bits.{read-turned}
 use Rattle.paths_numbers.proofs.Integers.{read}
 use Rattle.paths_numbers.proofs.Relations.{read-truth}
-use Rattle.paths_numbers.specs.Expression.{evalPrefix}
+use Rattle.paths_numbers.specs.meaning.Expression.{evalPrefix}
 use Rattle.paths_numbers.proofs.operators.eval_prefix.Statement.{statement}
 use Rattle.paths_numbers.proofs.operators.eval_prefix.Tie as tie
 

@@ -4,7 +4,7 @@ use borrow.Author.Needs.{needs}
 use borrow.Author.Tests.{ne-eqb}
 use Rattle.paths_numbers.proofs.Integers.{read}
 use Rattle.paths_numbers.proofs.Relations.{read-truth, read-equal, both, either}
-use Rattle.paths_numbers.specs.Expression.{evalRelation}
+use Rattle.paths_numbers.specs.meaning.Expression.{evalRelation}
 use Rattle.paths_numbers.specs.declared.operators.Evaluated.the-variants.{Value}
 use Rattle.paths_numbers.proofs.operators.eval_relation.Statement.{statement}
 use Rattle.paths_numbers.proofs.operators.eval_relation.Tie as tie
@@ -87,7 +87,17 @@ returns-9 : tie.Need-returns-9
 unfolding evalRelation
 returns-9 c =
     let r = c .match .rest in
-    simp (ne-eqb _ 11 (r .0 .0 .0 .0 .0 .0 .0 .1), ne-eqb _ 12 (r .0 .0 .0 .0 .0 .0 .1), ne-eqb _ 13 (r .0 .0 .0 .0 .0 .1), ne-eqb _ 14 (r .0 .0 .0 .0 .1), ne-eqb _ 15 (r .0 .0 .0 .1), ne-eqb _ 16 (r .0 .0 .1), ne-eqb _ 17 (r .0 .1), ne-eqb _ 18 (r .1))
+    simp (
+      ne-eqb _ 11 (r .0 .0 .0 .0 .0 .0 .0 .1),
+      ne-eqb _ 12 (r .0 .0 .0 .0 .0 .0 .1),
+      ne-eqb _ 13 (r .0 .0 .0 .0 .0 .1),
+      ne-eqb _ 14
+          (r .0 .0 .0 .0 .1),
+      ne-eqb _ 15 (r .0 .0 .0 .1),
+      ne-eqb _ 16 (r .0 .0 .1),
+      ne-eqb _ 17 (r .0 .1),
+      ne-eqb _ 18 (r .1),
+    )
 
 pub eval-relation-spec : {M : Type 1} → statement M
 eval-relation-spec =

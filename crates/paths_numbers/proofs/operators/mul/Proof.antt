@@ -23,19 +23,22 @@ size-requires-2 c κs = search needs
 returns-2 : tie.Need-returns-2
 returns-2 c =
     let f = c .before .before .before .before .before .fits in
-    product-is-out (f .a) (f .b) (c .before .before .before .before .size .ensures) (c .before .size2 .ensures) (c .before .before .most .ensures) (c .before .before .before .if1 .left) (c .if2 .taken)
+    product-is-out (f .a) (f .b) (c .before .before .before .before .size .ensures) (c .before .size2 .ensures)
+    (c .before .before .most .ensures) (c .before .before .before .if1 .left) (c .if2 .taken)
 
 mul-t8 : tie.Need-mul-t8
 mul-t8 c =
     let f = c .before .before .before .before .before .fits in
     rw (read (f .a), read (f .b))
-    (product-is-in (f .a) (f .b) (c .before .before .before .before .size .ensures) (c .before .size2 .ensures) (c .before .before .most .ensures) (c .before .before .before .if1 .left) (c .if2 .left))
+    (product-is-in (f .a) (f .b) (c .before .before .before .before .size .ensures) (c .before .size2 .ensures)
+    (c .before .before .most .ensures) (c .before .before .before .if1 .left) (c .if2 .left))
 
 returns-3 : tie.Need-returns-3
 returns-3 c =
     let f = c .before .before .before .before .before .fits in
     rw (read (f .a), read (f .b))
-    (kept (product-is-in (f .a) (f .b) (c .before .before .before .before .size .ensures) (c .before .size2 .ensures) (c .before .before .most .ensures) (c .before .before .before .if1 .left) (c .if2 .left)))
+    (kept (product-is-in (f .a) (f .b) (c .before .before .before .before .size .ensures) (c .before .size2 .ensures)
+    (c .before .before .most .ensures) (c .before .before .before .if1 .left) (c .if2 .left)))
 
 pub mul-spec : {M : Type 1} → statement M
 mul-spec =

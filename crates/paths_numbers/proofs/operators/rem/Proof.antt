@@ -1,7 +1,7 @@
 -- `rem` asks what `div` asks, and a remainder is no larger than the dividend.
 use borrow.Author.Needs.{needs}
 use Rattle.paths_numbers.proofs.Quotients.{by-zero, quotient-fits, divided-in, divided-out, read-remainder}
-use Rattle.paths_numbers.specs.Expression.{remainder}
+use Rattle.paths_numbers.specs.meaning.Expression.{remainder}
 use Rattle.paths_numbers.proofs.operators.rem.Statement.{statement}
 use Rattle.paths_numbers.proofs.operators.rem.Tie as tie
 

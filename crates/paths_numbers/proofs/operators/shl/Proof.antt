@@ -1,6 +1,6 @@
 -- `shl`: both tests leave an amount from 0 to 63, by which the machine shifts as the definition does.
 use Rattle.paths_numbers.proofs.Bits.{shift-low, shift-high, shift-fits, shift-is}
-use Rattle.paths_numbers.specs.Expression.{shiftLeft}
+use Rattle.paths_numbers.specs.meaning.Expression.{shiftLeft}
 use Rattle.paths_numbers.proofs.operators.shl.Statement.{statement}
 use Rattle.paths_numbers.proofs.operators.shl.Tie as tie
 

@@ -1,6 +1,6 @@
 -- `shr`: both tests leave an amount from 0 to 63, and what is shifted to the right is no larger than it was.
 use Rattle.paths_numbers.proofs.Bits.{shift-low, shift-high, shift-fits, shift-is, read-right}
-use Rattle.paths_numbers.specs.Expression.{shiftRight}
+use Rattle.paths_numbers.specs.meaning.Expression.{shiftRight}
 use Rattle.paths_numbers.proofs.operators.shr.Statement.{statement}
 use Rattle.paths_numbers.proofs.operators.shr.Tie as tie
 

@@ -4,7 +4,7 @@ use mathlib.Core.Path.{_≡_, ap}
 use native.Mathlib.Omega.{arith}
 use borrow.Author.Needs.{needs}
 use lib.ListN.{length, drop}
-use Rattle.paths_numbers.specs.Reference.{beforeSlash}
+use Rattle.paths_numbers.specs.meaning.Reference.{beforeSlash}
 use Rattle.paths_numbers.proofs.Slashes.{slash-here, slash-later, slash-done}
 use Rattle.paths_numbers.proofs.phandle.first_slash.Statement.{statement}
 use Rattle.paths_numbers.proofs.phandle.first_slash.Tie as tie

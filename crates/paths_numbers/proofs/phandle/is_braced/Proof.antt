@@ -28,7 +28,8 @@ shared-slice-read-result c = search needs
 
 returns-4 : tie.Need-returns-4
 returns-4 c =
-    braced-last (c .before .before .before .before .before .before .args .raw .now) (omega arith) (c .before .before .before .if2 .left) (c .before .if3 .left)
+    braced-last (c .before .before .before .before .before .before .args .raw .now) (omega arith) (c .before .before .before .if2 .left)
+    (c .before .if3 .left)
 
 pub is-braced-spec : {M : Type 1} → statement M
 is-braced-spec =

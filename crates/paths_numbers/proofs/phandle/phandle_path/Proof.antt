@@ -22,11 +22,13 @@ part-result-end : tie.Need-part-result-end
 part-result-end c = search needs
 
 returns : tie.Need-returns
-returns c = path-none _ _ (c .before .before .before .inner-text .ensures) _ (c .before .before .first-slash .ensures) (c .before .if1 .taken)
+returns c = path-none _ _ (c .before .before .before .inner-text .ensures) _ (c .before .before .first-slash .ensures)
+    (c .before .if1 .taken)
 
 returns-2 : tie.Need-returns-2
 returns-2 c =
-    path-first _ _ (c .before .before .before .inner-text .ensures) _ (c .before .before .first-slash .ensures) (c .before .if1 .left) (c .if2 .taken)
+    path-first _ _ (c .before .before .before .inner-text .ensures) _ (c .before .before .first-slash .ensures) (c .before .if1 .left)
+    (c .if2 .taken)
 
 add-result : tie.Need-add-result
 add-result c = omega (arith, before-length (c .before .before .before .inner-text .result .now))
@@ -42,7 +44,8 @@ part-result-end-2 c = search needs
 
 returns-3 : tie.Need-returns-3
 returns-3 c =
-    path-inside _ _ (c .before .before .before .before .inner-text .ensures) _ (c .before .before .before .first-slash .ensures) (c .before .before .if1 .left) (c .before .if2 .left)
+    path-inside _ _ (c .before .before .before .before .inner-text .ensures) _ (c .before .before .before .first-slash .ensures)
+    (c .before .before .if1 .left) (c .before .if2 .left)
 
 pub phandle-path-spec : {M : Type 1} → statement M
 phandle-path-spec =

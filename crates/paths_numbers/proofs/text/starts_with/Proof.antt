@@ -5,13 +5,14 @@ use mathlib.Core.Path.{_≡_, refl, sym}
 use mathlib.Core.Bool.{false, cond}
 use native.Mathlib.Omega.{arith}
 use lib.ListN.{length, drop}
-use Rattle.paths_numbers.specs.Text.{begins}
+use Rattle.paths_numbers.specs.meaning.Text.{begins}
 use Rattle.paths_numbers.proofs.Texts.{no-byte, begins-short, begins-differs, compared, compared-all}
 use Rattle.paths_numbers.proofs.text.starts_with.Statement.{statement}
 use Rattle.paths_numbers.proofs.text.starts_with.Tie as tie
 
 abbrev Inv-loop : tie.InvT-loop
-Inv-loop s p n differs₀ i₀ differs i = (n ≡ length p) × (length p ≤ length s) × (i ≤ length p) × (begins s p ≡ cond differs false (begins (drop i s) (drop i p)))
+Inv-loop s p n differs₀ i₀ differs i = (n ≡ length p) × (length p ≤ length s) × (i ≤ length p)
+    × (begins s p ≡ cond differs false (begins (drop i s) (drop i p)))
 
 abbrev μ-loop : tie.MeasureT-loop
 μ-loop s p n differs₀ i₀ differs i = length p - i

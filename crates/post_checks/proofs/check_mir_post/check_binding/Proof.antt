@@ -5,9 +5,9 @@ use mathlib.Core.Bool.{Bool, true, false}
 use mathlib.Core.List.{List, [], _∷_, map}
 use native.Mathlib.Omega.{arith}
 use lib.ListN.{length}
-use Rattle.paths_numbers.specs.Text.{same}
-use Rattle.log.specs.Record.{nextOf, firstText, secondText, logCount}
-use Rattle.log.specs.ReadBack.{chainFrom, bindingAt}
+use Rattle.paths_numbers.specs.meaning.Text.{same}
+use Rattle.log.specs.meaning.Record.{nextOf, firstText, secondText, logCount}
+use Rattle.log.specs.meaning.ReadBack.{chainFrom, bindingAt}
 use Rattle.post_checks.proofs.Duplicates.{binding-none, binding-one}
 use borrow.Author.Needs.{needs}
 use Rattle.post_checks.proofs.check_mir_post.check_binding.Statement.{statement}
@@ -22,8 +22,8 @@ span-of-requires c κs = search needs
 span-of-requires-2 : tie.Need-span-of-requires-2
 span-of-requires-2 c κs = search needs
 
-label-place-requires : tie.Need-label-place-requires
-label-place-requires c κs = search needs
+first-place-requires : tie.Need-first-place-requires
+first-place-requires c κs = search needs
 
 emit-copied-requires : tie.Need-emit-copied-requires
 emit-copied-requires c κs = search needs
@@ -36,8 +36,16 @@ same-length-2 c = search needs
 
 returns : tie.Need-returns
 returns c =
-    let a = c .before .before .before .before .before .before .before .before .before .before .before .before .before .before .before .before .before .before .before .args in
-    binding-one (a .first) (a .r) (map (bindingAt (a .out .now) (a .bytes .now)) (chainFrom (a .passed) (a .out .now) (a .after))) _ (c .before .before .before .before .before .before .before .before .before .before .before .before .before .before .is-reported .ensures) _ _ _ (c .before .before .before .before .before .before .before .before .before .before .before .before .before .if1 .taken) (c .before .before .before .before .before .before .before .before .before .before .before .span-of .ensures) (c .before .before .before .before .before .before .before .before .before .span-of2 .ensures) (c .before .before .before .before .before .before .before .label-place .ensures) (c .before .before .before .before .emit-copied .ensures .0) (c .before .before .before .before .emit-copied .ensures .1)
+    let a = c .before .before .before .before .before .before .before .before .before .before .before .before .before .before .before
+    .before .before .before .before .args in
+    binding-one (a .first) (a .r) (map (bindingAt (a .out .now) (a .bytes .now)) (chainFrom (a .passed) (a .out .now) (a .after))) _
+    (c .before .before .before .before .before .before .before .before .before .before .before .before .before .before .is-reported
+    .ensures) _ _ _
+    (c .before .before .before .before .before .before .before .before .before .before .before .before .before .if1 .taken)
+    (c .before .before .before .before .before .before .before .before .before .before .before .span-of .ensures)
+    (c .before .before .before .before .before .before .before .before .before .span-of2 .ensures)
+    (c .before .before .before .before .before .before .before .first-place .ensures)
+    (c .before .before .before .before .emit-copied .ensures .0) (c .before .before .before .before .emit-copied .ensures .1)
 
 same-length-3 : tie.Need-same-length-3
 same-length-3 c = search needs
@@ -48,7 +56,8 @@ same-length-4 c = search needs
 returns-2 : tie.Need-returns-2
 returns-2 c =
     let a = c .before .before .before .before .before .before .args in
-    binding-none (a .first) (a .r) (map (bindingAt (a .out .now) (a .bytes .now)) (chainFrom (a .passed) (a .out .now) (a .after))) _ (c .before .is-reported .ensures) (c .if1 .left)
+    binding-none (a .first) (a .r) (map (bindingAt (a .out .now) (a .bytes .now)) (chainFrom (a .passed) (a .out .now) (a .after))) _
+    (c .before .is-reported .ensures) (c .if1 .left)
 
 pub check-binding-spec : {M : Type 1} → statement M
 check-binding-spec =
@@ -57,7 +66,7 @@ check-binding-spec =
     is-reported-requires
     span-of-requires
     span-of-requires-2
-    label-place-requires
+    first-place-requires
     emit-copied-requires
     same-length
     same-length-2

@@ -3,7 +3,7 @@ use Prim.Native.Nat.{ℕ}
 use mathlib.Core.Path.{_≡_, refl, sym, ap, _∙_}
 use mathlib.Core.List.{List, [], _∷_, map}
 use lib.ListN.{length}
-use Rattle.post_checks.specs.Checks.{Reports, headersOf, headerCode, codeReport}
+use Rattle.post_checks.specs.machine.Checks.{Reports, headersOf, headerCode, codeReport}
 use Rattle.post_checks.proofs.Headers.{code-none, code-one}
 use borrow.Author.Needs.{needs}
 use Rattle.post_checks.proofs.check_mir_post.check_directive.Statement.{statement}
@@ -19,7 +19,9 @@ same-length : tie.Need-same-length
 same-length c = search needs
 
 returns : tie.Need-returns
-returns c = let a = c .before .before .before .before .before .before .args in code-none (a .ctx) (a .out .now) (a .bytes .now) (a .r ∷ []) (c .before .header-code .result) _ _ (c .before .header-code .ensures ∙ ap (λ (k : ℕ). headerCode k (headersOf (a .headers))) (c .before .before .kind-of .ensures)) (c .if1 .taken)
+returns c = let a = c .before .before .before .before .before .before .args in code-none (a .ctx) (a .out .now) (a .bytes .now) (a .r ∷ [])
+    (c .before .header-code .result) _ _ (c .before .header-code .ensures
+    ∙ ap (λ (k : ℕ). headerCode k (headersOf (a .headers))) (c .before .before .kind-of .ensures)) (c .if1 .taken)
 
 name-span-of-requires : tie.Need-name-span-of-requires
 name-span-of-requires c κs = search needs
@@ -34,7 +36,16 @@ same-length-3 : tie.Need-same-length-3
 same-length-3 c = search needs
 
 returns-2 : tie.Need-returns-2
-returns-2 c = let a = c .before .before .before .before .before .before .before .before .before .before .before .before .before .before .before .args in code-one (a .r ∷ []) (c .before .before .before .before .before .before .before .before .before .before .header-code .result) _ (c .before .before .before .before .before .before .before .name-span-of .result) _ (c .before .before .before .before .before .before .before .before .before .before .header-code .ensures ∙ ap (λ (k : ℕ). headerCode k (headersOf (a .headers))) (c .before .before .before .before .before .before .before .before .before .before .before .kind-of .ensures)) (c .before .before .before .before .before .before .before .before .before .if1 .left) (c .before .before .before .before .before .before .before .name-span-of .ensures) (c .before .before .before .before .emit-copied .ensures .0) (c .before .before .before .before .emit-copied .ensures .1)
+returns-2
+    c = let a = c .before .before .before .before .before .before .before .before .before .before .before .before .before .before .before
+    .args in code-one (a .r ∷ []) (c .before .before .before .before .before .before .before .before .before .before .header-code .result) _
+    (c .before .before .before .before .before .before .before .name-span-of .result) _
+    (c .before .before .before .before .before .before .before .before .before .before .header-code .ensures
+    ∙ ap (λ (k : ℕ). headerCode k (headersOf (a .headers)))
+    (c .before .before .before .before .before .before .before .before .before .before .before .kind-of .ensures))
+    (c .before .before .before .before .before .before .before .before .before .if1 .left)
+    (c .before .before .before .before .before .before .before .name-span-of .ensures)
+    (c .before .before .before .before .emit-copied .ensures .0) (c .before .before .before .before .emit-copied .ensures .1)
 
 pub check-directive-spec : {M : Type 1} → statement M
 check-directive-spec =

@@ -5,13 +5,13 @@ use mathlib.Core.Bool.{Bool, true, false}
 use mathlib.Core.List.{List, [], _∷_, map}
 use native.Mathlib.Omega.{arith}
 use lib.ListN.{length}
-use Rattle.paths_numbers.specs.Text.{same}
-use Rattle.log.specs.Record.{nextOf, firstText, secondText, logCount}
-use Rattle.log.specs.ReadBack.{chainFrom, bindingAt}
-use Rattle.making.specs.Kept.{all-none, all-more}
+use Rattle.paths_numbers.specs.meaning.Text.{same}
+use Rattle.log.specs.meaning.Record.{nextOf, firstText, secondText, logCount}
+use Rattle.log.specs.meaning.ReadBack.{chainFrom, bindingAt}
+use Rattle.making.specs.machine.Kept.{all-none, all-more}
 use Rattle.making.proofs.Keeping.{still-kept}
 use Rattle.queries.proofs.Chain.{goes-left}
-use Rattle.post_checks.specs.Post.{duplicatesOf, duplicateLabels}
+use Rattle.post_checks.specs.meaning.Post.{duplicatesOf, duplicateLabels}
 use Rattle.post_checks.proofs.Checks.{Walks, walks-start, walks-step, walks-end, all-behind}
 use Rattle.post_checks.proofs.Duplicates.{labelsSeen, label-still, labels-kept, labels-start, labels-lower}
 use borrow.Author.Needs.{needs}
@@ -34,7 +34,15 @@ log-count-requires : tie.Need-log-count-requires Inv-loop μ-loop
 log-count-requires c κs = search needs
 
 loop-holds : tie.Need-loop-holds Inv-loop μ-loop
-loop-holds c = let a = c .before .before .before .before .args in (refl, refl, omega arith, rw (c .log-count .ensures) (walks-start (a .ctx) (a .out .now) (a .bytes .now) _ (a .ctx .binds .first) (logCount (a .out .now)) _ (λ (passed later : List ℕ). duplicateLabels (labelsSeen (map (bindingAt (a .out .now) (a .bytes .now)) passed)) (map (bindingAt (a .out .now) (a .bytes .now)) later)) (labels-start _)))
+loop-holds c = let a = c .before .before .before .before .args in (
+  refl,
+  refl,
+  omega arith,
+  rw (c .log-count .ensures)
+      (walks-start (a .ctx) (a .out .now) (a .bytes .now) _ (a .ctx .binds .first) (logCount (a .out .now)) _
+      (λ (passed later : List ℕ). duplicateLabels (labelsSeen (map (bindingAt (a .out .now) (a .bytes .now)) passed))
+      (map (bindingAt (a .out .now) (a .bytes .now)) later)) (labels-start _)),
+)
 
 goes-on-requires : tie.Need-goes-on-requires Inv-loop μ-loop
 goes-on-requires c κs = search needs
@@ -43,7 +51,8 @@ sub-check-label : tie.Need-sub-check-label Inv-loop μ-loop
 sub-check-label c = search needs
 
 sub-check-label-2 : tie.Need-sub-check-label-2 Inv-loop μ-loop
-sub-check-label-2 c = let l = c .before .before .before .before .before .loop in goes-left (l .out) (l .r) (l .left) (sym (c .before .before .before .goes-on .ensures) ∙ c .before .before .if1 .taken)
+sub-check-label-2 c = let l = c .before .before .before .before .before .loop in goes-left (l .out) (l .r) (l .left)
+    (sym (c .before .before .before .goes-on .ensures) ∙ c .before .before .if1 .taken)
 
 check-label-requires : tie.Need-check-label-requires Inv-loop μ-loop
 check-label-requires c κs = search needs
@@ -52,21 +61,40 @@ next-of-requires : tie.Need-next-of-requires Inv-loop μ-loop
 next-of-requires c κs = search needs
 
 sub-left : tie.Need-sub-left Inv-loop μ-loop
-sub-left c = let l = c .before .before .before .before .before .before .before .before .before .before .before .before .loop in goes-left (l .out) (l .r) (l .left) (sym (c .before .before .before .before .before .before .before .before .before .before .goes-on .ensures) ∙ c .before .before .before .before .before .before .before .before .before .if1 .taken)
+sub-left c = let l = c .before .before .before .before .before .before .before .before .before .before .before .before .loop in goes-left
+    (l .out) (l .r) (l .left) (sym (c .before .before .before .before .before .before .before .before .before .before .goes-on .ensures)
+    ∙ c .before .before .before .before .before .before .before .before .before .if1 .taken)
 
 loop-less : tie.Need-loop-less Inv-loop μ-loop
-loop-less c = let l = c .before .before .before .before .before .before .before .before .before .before .before .before .loop in omega (arith, goes-left (l .out) (l .r) (l .left) (sym (c .before .before .before .before .before .before .before .before .before .before .goes-on .ensures) ∙ c .before .before .before .before .before .before .before .before .before .if1 .taken))
+loop-less c = let l = c .before .before .before .before .before .before .before .before .before .before .before .before .loop in omega (
+  arith,
+  goes-left (l .out) (l .r) (l .left) (sym
+      (c .before .before .before .before .before .before .before .before .before .before .goes-on .ensures)
+      ∙ c .before .before .before .before .before .before .before .before .before .if1 .taken),
+)
 
 loop-again : tie.Need-loop-again Inv-loop μ-loop
 loop-again c =
-    let a = c .before .before .before .before .before .before .before .before .before .before .before .before .before .before .before .before .before .args in
+    let a = c .before .before .before .before .before .before .before .before .before .before .before .before .before .before .before
+    .before .before .args in
     let l = c .before .before .before .before .before .before .before .before .before .before .before .before .loop in
-    let m : c .before .before .before .before .before .before .before .before .before .before .before .before .before .log-count .result ≡ logCount (a .out .now) = c .before .before .before .before .before .before .before .before .before .before .before .before .before .log-count .ensures in (
+    let m : c .before .before .before .before .before .before .before .before .before .before .before .before .before .log-count
+    .result ≡ logCount
+    (a .out .now) = c .before .before .before .before .before .before .before .before .before .before .before .before .before
+    .log-count .ensures in (
       c .before .before .before .before .before .before .check-label .kept .0 ∙ l .inv .0,
       c .before .before .before .before .before .before .check-label .kept .1 .0 ∙ l .inv .1,
       omega arith,
-      walks-step (l .inv .3) (λ (passed later : List ℕ). duplicateLabels (labelsSeen (map (bindingAt (a .out .now) (a .bytes .now)) passed)) (map (bindingAt (a .out .now) (a .bytes .now)) later)) (sym (c .before .before .before .before .before .before .before .before .before .before .goes-on .ensures) ∙ c .before .before .before .before .before .before .before .before .before .if1 .taken) (c .before .before .before .before .before .before .check-label .ensures) _ (c .next-of .ensures) (λ x. x)
-          (λ x y h z kept all s passed ch st. (label-still kept (logCount (a .out .now)) (a .ctx .binds .first) (l .left) (l .r) passed all s ch st, rw m (labels-kept kept (logCount (a .out .now)) (a .ctx .binds .first) (l .left) (l .r) passed all s ch st))),
+      walks-step (l .inv .3) (λ (passed later : List ℕ). duplicateLabels (labelsSeen (map (bindingAt (a .out .now) (a .bytes .now)) passed))
+          (map (bindingAt (a .out .now) (a .bytes .now)) later))
+          (sym (c .before .before .before .before .before .before .before .before .before .before .goes-on .ensures)
+          ∙ c .before .before .before .before .before .before .before .before .before .if1 .taken)
+          (c .before .before .before .before .before .before .check-label .ensures) _ (c .next-of .ensures) (λ x. x)
+          (λ x y h z kept all s passed ch st. (
+            label-still kept (logCount (a .out .now)) (a .ctx .binds .first) (l .left) (l .r) passed all
+                s ch st,
+            rw m (labels-kept kept (logCount (a .out .now)) (a .ctx .binds .first) (l .left) (l .r) passed all s ch st),
+          )),
     )
 
 same-length : tie.Need-same-length Inv-loop μ-loop
@@ -77,7 +105,8 @@ same-length-2 c = search needs
 
 returns : tie.Need-returns Inv-loop μ-loop
 unfolding duplicateLabels
-returns c = let l = c .before .before .before .loop in labels-lower (walks-end (l .inv .3) (sym (c .before .goes-on .ensures) ∙ c .if1 .left) (λ passed. refl))
+returns c = let l = c .before .before .before .loop in labels-lower
+    (walks-end (l .inv .3) (sym (c .before .goes-on .ensures) ∙ c .if1 .left) (λ passed. refl))
 
 pub check-duplicate-labels-spec : {M : Type 1} → statement M
 check-duplicate-labels-spec =

@@ -5,9 +5,9 @@ use mathlib.Core.Bool.{Bool, true, false}
 use mathlib.Core.List.{List, [], _∷_, map}
 use native.Mathlib.Omega.{arith}
 use lib.ListN.{length}
-use Rattle.paths_numbers.specs.Text.{same}
-use Rattle.log.specs.Record.{nextOf, firstText, secondText, logCount}
-use Rattle.log.specs.ReadBack.{chainFrom, bindingAt}
+use Rattle.paths_numbers.specs.meaning.Text.{same}
+use Rattle.log.specs.meaning.Record.{nextOf, firstText, secondText, logCount}
+use Rattle.log.specs.meaning.ReadBack.{chainFrom, bindingAt}
 use Rattle.post_checks.proofs.Duplicates.{label-none, label-some}
 use borrow.Author.Needs.{needs}
 use Rattle.post_checks.proofs.check_mir_post.check_label.Statement.{statement}
@@ -23,7 +23,10 @@ same-length-2 : tie.Need-same-length-2
 same-length-2 c = search needs
 
 returns : tie.Need-returns
-returns c = let a = c .before .before .before .before .before .before .args in label-none _ (bindingAt (a .out .now) (a .bytes .now) (a .r)) (map (bindingAt (a .out .now) (a .bytes .now)) (chainFrom (a .passed) (a .out .now) (a .first))) (map (bindingAt (a .out .now) (a .bytes .now)) (chainFrom (a .left) (a .out .now) (nextOf (a .out .now) (a .r)))) _ (c .before .binds-again .ensures) (c .if1 .taken)
+returns c = let a = c .before .before .before .before .before .before .args in label-none _ (bindingAt (a .out .now) (a .bytes .now) (a .r))
+    (map (bindingAt (a .out .now) (a .bytes .now)) (chainFrom (a .passed) (a .out .now) (a .first)))
+    (map (bindingAt (a .out .now) (a .bytes .now)) (chainFrom (a .left) (a .out .now) (nextOf (a .out .now) (a .r)))) _
+    (c .before .binds-again .ensures) (c .if1 .taken)
 
 check-bindings-requires : tie.Need-check-bindings-requires
 check-bindings-requires c κs = search needs
@@ -35,7 +38,13 @@ same-length-4 : tie.Need-same-length-4
 same-length-4 c = search needs
 
 returns-2 : tie.Need-returns-2
-returns-2 c = let a = c .before .before .before .before .before .before .before .before .before .before .before .before .before .args in label-some _ (bindingAt (a .out .now) (a .bytes .now) (a .r)) (map (bindingAt (a .out .now) (a .bytes .now)) (chainFrom (a .passed) (a .out .now) (a .first))) (map (bindingAt (a .out .now) (a .bytes .now)) (chainFrom (a .left) (a .out .now) (nextOf (a .out .now) (a .r)))) _ (c .before .before .before .before .before .before .before .before .binds-again .ensures) (c .before .before .before .before .before .before .before .if1 .left) (c .before .before .before .before .check-bindings .ensures)
+returns-2
+    c = let a = c .before .before .before .before .before .before .before .before .before .before .before .before .before
+    .args in label-some _ (bindingAt (a .out .now) (a .bytes .now) (a .r))
+    (map (bindingAt (a .out .now) (a .bytes .now)) (chainFrom (a .passed) (a .out .now) (a .first)))
+    (map (bindingAt (a .out .now) (a .bytes .now)) (chainFrom (a .left) (a .out .now) (nextOf (a .out .now) (a .r)))) _
+    (c .before .before .before .before .before .before .before .before .binds-again .ensures)
+    (c .before .before .before .before .before .before .before .if1 .left) (c .before .before .before .before .check-bindings .ensures)
 
 pub check-label-spec : {M : Type 1} → statement M
 check-label-spec =

@@ -15,13 +15,20 @@ check-directives-requires : tie.Need-check-directives-requires
 check-directives-requires c κs = search needs
 
 same-length : tie.Need-same-length
-same-length c = c .before .before .before .before .check-directives .kept .0 ∙ c .before .before .before .before .before .before .before .before .before .before .before .check-phandles .kept .0 ∙ c .before .before .before .before .before .before .before .before .before .before .before .before .before .before .before .before .before .before .check-duplicate-labels .kept .0
+same-length c = c .before .before .before .before .check-directives .kept .0
+    ∙ c .before .before .before .before .before .before .before .before .before .before .before .check-phandles .kept .0
+    ∙ c .before .before .before .before .before .before .before .before .before .before .before .before .before .before .before .before
+    .before .before .check-duplicate-labels .kept .0
 
 same-length-2 : tie.Need-same-length-2
 same-length-2 c = search needs
 
 returns : tie.Need-returns
-returns c = post-lowers (c .before .before .before .before .before .before .before .before .before .before .before .before .before .before .before .before .before .before .check-duplicate-labels .ensures) (c .before .before .before .before .before .before .before .before .before .before .before .check-phandles .ensures) (c .before .before .before .before .check-directives .ensures)
+returns c = post-lowers
+    (c .before .before .before .before .before .before .before .before .before .before .before .before .before .before .before .before
+    .before .before .check-duplicate-labels .ensures)
+    (c .before .before .before .before .before .before .before .before .before .before .before .check-phandles .ensures)
+    (c .before .before .before .before .check-directives .ensures)
 
 pub check-mir-post-spec : {M : Type 1} → statement M
 check-mir-post-spec =

@@ -5,9 +5,9 @@ use mathlib.Core.Bool.{Bool, true, false}
 use mathlib.Core.List.{List, [], _∷_, map}
 use native.Mathlib.Omega.{arith}
 use lib.ListN.{length}
-use Rattle.paths_numbers.specs.Text.{same}
-use Rattle.log.specs.Record.{nextOf, firstText, secondText, logCount}
-use Rattle.log.specs.ReadBack.{chainFrom, bindingAt}
+use Rattle.paths_numbers.specs.meaning.Text.{same}
+use Rattle.log.specs.meaning.Record.{nextOf, firstText, secondText, logCount}
+use Rattle.log.specs.meaning.ReadBack.{chainFrom, bindingAt}
 use Rattle.post_checks.proofs.Duplicates.{other-label, first-path, other-path}
 use borrow.Author.Needs.{needs}
 use Rattle.post_checks.proofs.check_mir_post.is_reported.Statement.{statement}
@@ -25,8 +25,11 @@ equals-requires c κs = search needs
 returns : tie.Need-returns
 returns c =
     let a = c .before .before .before .before .before .before .args in
-    let e : c .before .equals .result ≡ same (firstText (a .out .now) (a .bytes .now) (a .r)) (firstText (a .out .now) (a .bytes .now) (a .first)) = c .before .equals .ensures ∙ rw (c .before .before .before .first-text .ensures, c .before .before .first-text2 .ensures) refl in
-    other-label (a .out .now) (a .bytes .now) (a .first) (a .r) (map (bindingAt (a .out .now) (a .bytes .now)) (chainFrom (a .passed) (a .out .now) (a .after))) _ e (c .if1 .taken)
+    let e : c .before .equals .result ≡ same (firstText (a .out .now) (a .bytes .now) (a .r))
+    (firstText (a .out .now) (a .bytes .now) (a .first)) = c .before .equals .ensures
+    ∙ rw (c .before .before .before .first-text .ensures, c .before .before .first-text2 .ensures) refl in
+    other-label (a .out .now) (a .bytes .now) (a .first) (a .r)
+    (map (bindingAt (a .out .now) (a .bytes .now)) (chainFrom (a .passed) (a .out .now) (a .after))) _ e (c .if1 .taken)
 
 second-text-requires : tie.Need-second-text-requires
 second-text-requires c κs = search needs
@@ -40,9 +43,17 @@ equals-requires-2 c κs = search needs
 returns-2 : tie.Need-returns-2
 returns-2 c =
     let a = c .before .before .before .before .before .before .before .before .before .before .args in
-    let e : c .before .before .before .before .before .equals .result ≡ same (firstText (a .out .now) (a .bytes .now) (a .r)) (firstText (a .out .now) (a .bytes .now) (a .first)) = c .before .before .before .before .before .equals .ensures ∙ rw (c .before .before .before .before .before .before .before .first-text .ensures, c .before .before .before .before .before .before .first-text2 .ensures) refl in
-    let v : c .before .equals2 .result ≡ same (secondText (a .out .now) (a .bytes .now) (a .r)) (secondText (a .out .now) (a .bytes .now) (a .first)) = c .before .equals2 .ensures ∙ rw (c .before .before .before .second-text .ensures, c .before .before .second-text2 .ensures) refl in
-    first-path (a .out .now) (a .bytes .now) (a .first) (a .r) (map (bindingAt (a .out .now) (a .bytes .now)) (chainFrom (a .passed) (a .out .now) (a .after))) _ e (c .before .before .before .before .if1 .left) _ v (c .if2 .taken)
+    let e : c .before .before .before .before .before .equals .result ≡ same (firstText (a .out .now) (a .bytes .now) (a .r))
+    (firstText (a .out .now) (a .bytes .now) (a .first)) = c .before .before .before .before .before .equals .ensures
+    ∙ rw (
+      c .before .before .before .before .before .before .before .first-text .ensures,
+      c .before .before .before .before .before .before .first-text2 .ensures,
+    ) refl in
+    let v : c .before .equals2 .result ≡ same (secondText (a .out .now) (a .bytes .now) (a .r))
+    (secondText (a .out .now) (a .bytes .now) (a .first)) = c .before .equals2 .ensures
+    ∙ rw (c .before .before .before .second-text .ensures, c .before .before .second-text2 .ensures) refl in
+    first-path (a .out .now) (a .bytes .now) (a .first) (a .r) (map (bindingAt (a .out .now) (a .bytes .now))
+    (chainFrom (a .passed) (a .out .now) (a .after))) _ e (c .before .before .before .before .if1 .left) _ v (c .if2 .taken)
 
 binds-again-requires : tie.Need-binds-again-requires
 binds-again-requires c κs = search needs
@@ -50,9 +61,18 @@ binds-again-requires c κs = search needs
 returns-3 : tie.Need-returns-3
 returns-3 c =
     let a = c .before .before .before .before .before .before .before .before .before .before .before .args in
-    let e : c .before .before .before .before .before .before .equals .result ≡ same (firstText (a .out .now) (a .bytes .now) (a .r)) (firstText (a .out .now) (a .bytes .now) (a .first)) = c .before .before .before .before .before .before .equals .ensures ∙ rw (c .before .before .before .before .before .before .before .before .first-text .ensures, c .before .before .before .before .before .before .before .first-text2 .ensures) refl in
-    let v : c .before .before .equals2 .result ≡ same (secondText (a .out .now) (a .bytes .now) (a .r)) (secondText (a .out .now) (a .bytes .now) (a .first)) = c .before .before .equals2 .ensures ∙ rw (c .before .before .before .before .second-text .ensures, c .before .before .before .second-text2 .ensures) refl in
-    other-path (a .out .now) (a .bytes .now) (a .first) (a .r) (map (bindingAt (a .out .now) (a .bytes .now)) (chainFrom (a .passed) (a .out .now) (a .after))) _ e (c .before .before .before .before .before .if1 .left) _ v (c .before .if2 .left) _ (c .binds-again .ensures)
+    let e : c .before .before .before .before .before .before .equals .result ≡ same (firstText (a .out .now) (a .bytes .now) (a .r))
+    (firstText (a .out .now) (a .bytes .now) (a .first)) = c .before .before .before .before .before .before .equals .ensures
+    ∙ rw (
+      c .before .before .before .before .before .before .before .before .first-text .ensures,
+      c .before .before .before .before .before .before .before .first-text2 .ensures,
+    ) refl in
+    let v : c .before .before .equals2 .result ≡ same (secondText (a .out .now) (a .bytes .now) (a .r))
+    (secondText (a .out .now) (a .bytes .now) (a .first)) = c .before .before .equals2 .ensures
+    ∙ rw (c .before .before .before .before .second-text .ensures, c .before .before .before .second-text2 .ensures) refl in
+    other-path (a .out .now) (a .bytes .now) (a .first) (a .r) (map (bindingAt (a .out .now) (a .bytes .now))
+    (chainFrom (a .passed) (a .out .now) (a .after))) _ e (c .before .before .before .before .before .if1 .left) _ v
+    (c .before .if2 .left) _ (c .binds-again .ensures)
 
 pub is-reported-spec : {M : Type 1} → statement M
 is-reported-spec =

@@ -11,7 +11,8 @@ same-length : tie.Need-same-length
 same-length c = search needs
 
 returns : tie.Need-returns
-returns c = let a = c .before .before .before .before .before .args in def-other (a .ctx) (a .out .now) (a .bytes .now) _ _ (a .r) _ (c .before .kind-of .ensures) (c .if1 .taken)
+returns c = let a = c .before .before .before .before .before .args in def-other (a .ctx) (a .out .now) (a .bytes .now) _ _ (a .r) _
+    (c .before .kind-of .ensures) (c .if1 .taken)
 
 name-span-of-requires : tie.Need-name-span-of-requires
 name-span-of-requires c κs = search needs
@@ -29,7 +30,14 @@ same-length-3 : tie.Need-same-length-3
 same-length-3 c = search needs
 
 returns-2 : tie.Need-returns-2
-returns-2 c = let a = c .before .before .before .before .before .before .before .before .before .before .before .before .before .before .before .before .args in def-values (a .ctx) (a .out .now) (a .bytes .now) _ _ (a .r) _ (c .before .before .before .before .before .before .before .before .before .before .before .before .kind-of .ensures) (c .before .before .before .before .before .before .before .before .before .before .before .if1 .left) _ (c .before .before .before .before .before .before .before .child-of .ensures) (rw (c .before .before .before .before .before .before .before .before .before .name-span-of .ensures) at (c .before .before .before .before .check-values .ensures))
+returns-2
+    c = let a = c .before .before .before .before .before .before .before .before .before .before .before .before .before .before .before
+    .before .args in def-values (a .ctx) (a .out .now) (a .bytes .now) _ _ (a .r) _
+    (c .before .before .before .before .before .before .before .before .before .before .before .before .kind-of .ensures)
+    (c .before .before .before .before .before .before .before .before .before .before .before .if1 .left) _
+    (c .before .before .before .before .before .before .before .child-of .ensures)
+    (rw (c .before .before .before .before .before .before .before .before .before .name-span-of .ensures) at
+    (c .before .before .before .before .check-values .ensures))
 
 pub check-definition-spec : {M : Type 1} → statement M
 check-definition-spec =

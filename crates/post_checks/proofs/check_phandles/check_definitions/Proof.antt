@@ -4,9 +4,9 @@ use mathlib.Core.Path.{_≡_, refl, _∙_}
 use mathlib.Core.List.{map}
 use native.Mathlib.Omega.{arith}
 use lib.ListN.{length, take}
-use Rattle.log.specs.ReadBack.{defAt}
-use Rattle.post_checks.specs.Post.{checkDefs}
-use Rattle.post_checks.specs.Checks.{Reports, said}
+use Rattle.log.specs.meaning.ReadBack.{defAt}
+use Rattle.post_checks.specs.meaning.Post.{checkDefs}
+use Rattle.post_checks.specs.machine.Checks.{Reports, said}
 use Rattle.post_checks.proofs.Checks.{reports-none}
 use Rattle.post_checks.proofs.References.{definitions-next, definitions-all}
 use borrow.Author.Needs.{needs}
@@ -24,7 +24,13 @@ abbrev μ-loop : tie.MeasureT-loop
 
 loop-holds : tie.Need-loop-holds Inv-loop μ-loop
 unfolding checkDefs
-loop-holds c = let a = c .before .before .before .args in (refl, refl, search needs, reports-none (a .ctx) (a .out .now) (a .bytes .now) (a .list .now))
+loop-holds c = let a = c .before .before .before .args in (
+  refl,
+  refl,
+  search needs,
+  reports-none (a .ctx) (a .out .now) (a .bytes .now)
+      (a .list .now),
+)
 
 mul-check-definition : tie.Need-mul-check-definition Inv-loop μ-loop
 mul-check-definition c = search needs
@@ -36,7 +42,11 @@ check-definition-requires : tie.Need-check-definition-requires Inv-loop μ-loop
 check-definition-requires c κs = search needs
 
 add-i : tie.Need-add-i Inv-loop μ-loop
-add-i c = omega (arith, c .before .before .before .before .before .before .before .before .loop-test .taken, c .before .before .before .before .before .before .before .before .before .before .before .before .before .good .1 .1 .1 .0)
+add-i c = omega (
+  arith,
+  c .before .before .before .before .before .before .before .before .loop-test .taken,
+  c .before .before .before .before .before .before .before .before .before .before .before .before .before .good .1 .1 .1 .0,
+)
 
 loop-less : tie.Need-loop-less Inv-loop μ-loop
 loop-less c = search needs
@@ -47,7 +57,8 @@ loop-again c = let a = c .before .before .before .before .before .before .before
       c .before .before .before .before .check-definition .kept .0 ∙ l .inv .0,
       c .before .before .before .before .check-definition .kept .1 .0 ∙ l .inv .1,
       omega arith,
-      definitions-next (a .list .now) (l .i) _ refl (omega arith) (l .inv .3) (c .before .before .before .before .check-definition .ensures),
+      definitions-next (a .list .now) (l .i) _ refl (omega arith) (l .inv .3)
+          (c .before .before .before .before .check-definition .ensures),
     )
 
 same-length : tie.Need-same-length Inv-loop μ-loop
@@ -57,7 +68,8 @@ same-length-2 : tie.Need-same-length-2 Inv-loop μ-loop
 same-length-2 c = search needs
 
 returns : tie.Need-returns Inv-loop μ-loop
-returns c = let a = c .before .before .before .before .before .args in let l = c .before .loop in definitions-all (a .list .now) (l .i) (omega arith) (l .inv .3)
+returns c = let a = c .before .before .before .before .before .args in let l = c .before .loop in definitions-all (a .list .now) (l .i)
+    (omega arith) (l .inv .3)
 
 pub check-definitions-spec : {M : Type 1} → statement M
 check-definitions-spec =

@@ -20,13 +20,24 @@ slice-reshare-prefix-check-definitions : tie.Need-slice-reshare-prefix-check-def
 slice-reshare-prefix-check-definitions c =
     let a = c .before .before .before .before .before .before .before .before .before .before .before .before .args in
     let n = live-room (a .out .now) (a .bytes .now) _ (a .ctx .defs .first) _ (c .before .before .before .before .live-list .ensures .0) in
-    omega (arith, n, c .before .before .before .before .live-list .kept .1 .1 .1 .1 .0, c .before .before .before .before .before .before .before .before .before .before .before .before .pre)
+    omega (
+      arith,
+      n,
+      c .before .before .before .before .live-list .kept .1 .1 .1 .1 .0,
+      c .before .before .before .before .before .before .before .before .before .before .before .before .pre,
+    )
 
 slice-aggregate-check-definitions : tie.Need-slice-aggregate-check-definitions
 slice-aggregate-check-definitions c =
     let a = c .before .before .before .before .before .before .before .before .before .before .before .before .before .args in
-    let n = live-room (a .out .now) (a .bytes .now) _ (a .ctx .defs .first) _ (c .before .before .before .before .before .live-list .ensures .0) in
-    sym (length-take-le _ _ (omega (arith, n, c .before .before .before .before .before .live-list .kept .1 .1 .1 .1 .0, c .before .before .before .before .before .before .before .before .before .before .before .before .before .pre)))
+    let n = live-room (a .out .now) (a .bytes .now) _ (a .ctx .defs .first) _
+    (c .before .before .before .before .before .live-list .ensures .0) in
+    sym (length-take-le _ _ (omega (
+      arith,
+      n,
+      c .before .before .before .before .before .live-list .kept .1 .1 .1 .1 .0,
+      c .before .before .before .before .before .before .before .before .before .before .before .before .before .pre,
+    )))
 
 check-definitions-requires : tie.Need-check-definitions-requires
 check-definitions-requires c κs = search needs
@@ -41,8 +52,14 @@ same-length-3 : tie.Need-same-length-3
 same-length-3 c = search needs
 
 returns : tie.Need-returns
-returns c = let a = c .before .before .before .before .before .before .before .before .before .before .before .before .before .before .before .before .before .before .args in
-    live-reports (a .list .now) _ _ _ (c .before .before .before .before .before .before .before .before .before .before .before .before .no-text .ensures) (c .before .before .before .before .before .before .before .before .before .before .before .before .before .before .before .before .before .before .pre) (c .before .before .before .before .before .before .before .before .before .before .live-list .ensures .0) (c .before .before .before .before .before .before .before .before .before .before .live-list .ensures .1) (c .before .before .before .before .check-definitions .ensures)
+returns c = let a = c .before .before .before .before .before .before .before .before .before .before .before .before .before .before
+    .before .before .before .before .args in
+    live-reports (a .list .now) _ _ _
+    (c .before .before .before .before .before .before .before .before .before .before .before .before .no-text .ensures)
+    (c .before .before .before .before .before .before .before .before .before .before .before .before .before .before .before .before
+    .before .before .pre) (c .before .before .before .before .before .before .before .before .before .before .live-list .ensures .0)
+    (c .before .before .before .before .before .before .before .before .before .before .live-list .ensures .1)
+    (c .before .before .before .before .check-definitions .ensures)
 
 pub check-live-spec : {M : Type 1} → statement M
 check-live-spec =

@@ -7,8 +7,8 @@ use Rattle.post_checks.proofs.check_phandles.check_phandle.Tie as tie
 target-place-requires : tie.Need-target-place-requires
 target-place-requires c κs = search needs
 
-binding-path-requires : tie.Need-binding-path-requires
-binding-path-requires c κs = search needs
+second-place-requires : tie.Need-second-place-requires
+second-place-requires c κs = search needs
 
 resolve-target-requires : tie.Need-resolve-target-requires
 resolve-target-requires c κs = search needs
@@ -28,8 +28,8 @@ emit-copied-requires-2 c κs = search needs
 enum-known-b : tie.Need-enum-known-b
 enum-known-b c = search needs
 
-binding-path-requires-2 : tie.Need-binding-path-requires-2
-binding-path-requires-2 c κs = search needs
+second-place-requires-2 : tie.Need-second-place-requires-2
+second-place-requires-2 c κs = search needs
 
 emit-joined-at-requires : tie.Need-emit-joined-at-requires
 emit-joined-at-requires c κs = search needs
@@ -50,9 +50,13 @@ same-length-2 : tie.Need-same-length-2
 same-length-2 c = search needs
 
 returns : tie.Need-returns
-returns c = let a = c .before .before .before .before .before .before .before .before .before .before .before .before .before .before .before .before .before .before .args in
+returns c = let a = c .before .before .before .before .before .before .before .before .before .before .before .before .before .before
+    .before .before .before .before .args in
     let v = c .before .before .before .before .before .before .before .before .before .resolve-target .ensures in
-    target-label (a .r) (a .span) _ (v .0) (c .before .before .before .before .emit-copied .ensures .1) _ (c .before .before .before .before .before .before .before .enum-told .given .1) (c .before .before .before .before .before .before .before .before .before .before .before .before .before .before .target-place .ensures) (c .before .before .before .before .emit-copied .ensures .0)
+    target-label (a .r) (a .span) _ (v .0) (c .before .before .before .before .emit-copied .ensures .1) _
+    (c .before .before .before .before .before .before .before .enum-told .given .1)
+    (c .before .before .before .before .before .before .before .before .before .before .before .before .before .before .target-place
+    .ensures) (c .before .before .before .before .emit-copied .ensures .0)
 
 same-length-3 : tie.Need-same-length-3
 same-length-3 c = search needs
@@ -61,9 +65,14 @@ same-length-4 : tie.Need-same-length-4
 same-length-4 c = search needs
 
 returns-2 : tie.Need-returns-2
-returns-2 c = let a = c .before .before .before .before .before .before .before .before .before .before .before .before .before .before .before .before .before .before .args in
+returns-2
+    c = let a = c .before .before .before .before .before .before .before .before .before .before .before .before .before .before .before
+    .before .before .before .args in
     let v = c .before .before .before .before .before .before .before .before .before .resolve-target .ensures in
-    target-node (a .r) (a .span) _ (v .0) (c .before .before .before .before .emit-copied2 .ensures .1) _ (c .before .before .before .before .before .before .before .enum-told2 .given .1) (c .before .before .before .before .before .before .before .before .before .before .before .before .binding-path .ensures) (c .before .before .before .before .emit-copied2 .ensures .0)
+    target-node (a .r) (a .span) _ (v .0) (c .before .before .before .before .emit-copied2 .ensures .1) _
+    (c .before .before .before .before .before .before .before .enum-told2 .given .1)
+    (c .before .before .before .before .before .before .before .before .before .before .before .before .second-place .ensures)
+    (c .before .before .before .before .emit-copied2 .ensures .0)
 
 same-length-5 : tie.Need-same-length-5
 same-length-5 c = search needs
@@ -72,9 +81,15 @@ same-length-6 : tie.Need-same-length-6
 same-length-6 c = search needs
 
 returns-3 : tie.Need-returns-3
-returns-3 c = let a = c .before .before .before .before .before .before .before .before .before .before .before .before .before .before .before .before .before .before .before .before .before .args in
+returns-3
+    c = let a = c .before .before .before .before .before .before .before .before .before .before .before .before .before .before .before
+    .before .before .before .before .before .before .args in
     let v = c .before .before .before .before .before .before .before .before .before .before .before .before .resolve-target .ensures in
-    target-below (a .r) (a .span) _ (v .0) (c .before .before .before .before .emit-joined-at .ensures .1) _ _ _ (c .before .before .before .before .before .before .before .before .before .before .b .given .1) (c .before .before .before .before .before .binding-path2 .ensures) (c .before .before .before .before .before .before .before .before .before .before .before .before .before .before .before .binding-path .ensures) (v .1) (c .before .before .before .before .emit-joined-at .ensures .0)
+    target-below (a .r) (a .span) _ (v .0) (c .before .before .before .before .emit-joined-at .ensures .1) _ _ _
+    (c .before .before .before .before .before .before .before .before .before .before .b .given .1)
+    (c .before .before .before .before .before .second-place2 .ensures)
+    (c .before .before .before .before .before .before .before .before .before .before .before .before .before .before .before
+    .second-place .ensures) (v .1) (c .before .before .before .before .emit-joined-at .ensures .0)
 
 same-length-7 : tie.Need-same-length-7
 same-length-7 c = search needs
@@ -114,14 +129,14 @@ check-phandle-spec =
     tie.close
     (tie.spec
     target-place-requires
-    binding-path-requires
+    second-place-requires
     resolve-target-requires
     enum-told
     emit-copied-requires
     enum-told-2
     emit-copied-requires-2
     enum-known-b
-    binding-path-requires-2
+    second-place-requires-2
     emit-joined-at-requires
     enum-told-3
     enum-told-4

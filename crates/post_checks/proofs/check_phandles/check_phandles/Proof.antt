@@ -32,7 +32,10 @@ same-length-3 : tie.Need-same-length-3
 same-length-3 c = search needs
 
 returns-2 : tie.Need-returns-2
-returns-2 c = phandles-lower (sym (c .before .before .before .before .before .before .before .before .before .before .before .sets-overlay-in .ensures _) ∙ c .before .before .before .before .before .before .before .before .before .before .if1 .left) (c .before .before .before .before .check-least .ensures)
+returns-2 c = phandles-lower (sym
+    (c .before .before .before .before .before .before .before .before .before .before .before .sets-overlay-in .ensures _)
+    ∙ c .before .before .before .before .before .before .before .before .before .before .if1 .left)
+    (c .before .before .before .before .check-least .ensures)
 
 log-count-requires-2 : tie.Need-log-count-requires-2
 log-count-requires-2 c κs = search needs
@@ -50,13 +53,17 @@ same-length-5 : tie.Need-same-length-5
 same-length-5 c = search needs
 
 returns-3 : tie.Need-returns-3
-returns-3 c = phandles-lower (sym (c .before .before .before .before .before .before .before .before .before .before .before .before .before .before .sets-overlay-in .ensures _) ∙ c .before .before .before .before .before .before .before .before .before .before .before .before .before .if1 .left) (c .before .before .before .before .check-few .ensures)
+returns-3 c = phandles-lower (sym
+    (c .before .before .before .before .before .before .before .before .before .before .before .before .before .before .sets-overlay-in
+    .ensures _) ∙ c .before .before .before .before .before .before .before .before .before .before .before .before .before .if1 .left)
+    (c .before .before .before .before .check-few .ensures)
 
 slice-aggregate-check-live : tie.Need-slice-aggregate-check-live
 slice-aggregate-check-live c = search needs
 
 check-live-requires : tie.Need-check-live-requires
-check-live-requires c κs = zeros-room 65536 _ _ refl (count-most (c .before .before .before .before .before .before .before .before .before .before .before .before .before .before .args .out .now))
+check-live-requires c κs = zeros-room 65536 _ _ refl (count-most
+    (c .before .before .before .before .before .before .before .before .before .before .before .before .before .before .args .out .now))
 
 same-length-6 : tie.Need-same-length-6
 same-length-6 c = search needs
@@ -65,7 +72,11 @@ same-length-7 : tie.Need-same-length-7
 same-length-7 c = search needs
 
 returns-4 : tie.Need-returns-4
-returns-4 c = phandles-lower (sym (c .before .before .before .before .before .before .before .before .before .before .before .before .before .before .before .before .sets-overlay-in .ensures _) ∙ c .before .before .before .before .before .before .before .before .before .before .before .before .before .before .before .if1 .left) (c .before .before .before .before .before .check-live .ensures)
+returns-4 c = phandles-lower (sym
+    (c .before .before .before .before .before .before .before .before .before .before .before .before .before .before .before .before
+    .sets-overlay-in .ensures _)
+    ∙ c .before .before .before .before .before .before .before .before .before .before .before .before .before .before .before .if1 .left)
+    (c .before .before .before .before .before .check-live .ensures)
 
 pub check-phandles-spec : {M : Type 1} → statement M
 check-phandles-spec =

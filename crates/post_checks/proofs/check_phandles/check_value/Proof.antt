@@ -20,7 +20,11 @@ same-length-2 : tie.Need-same-length-2
 same-length-2 c = search needs
 
 returns : tie.Need-returns
-returns c = let a = c .before .before .before .before .before .before .before .before .before .before .before .before .before .before .args in value-cells (a .ctx) (a .out .now) (a .bytes .now) _ _ (a .r) _ (c .before .before .before .before .before .before .before .before .before .before .kind-of .ensures) (c .before .before .before .before .before .before .before .before .before .if1 .taken) _ (c .before .before .before .before .before .before .before .child-of .ensures) (c .before .before .before .before .check-cells .ensures)
+returns c = let a = c .before .before .before .before .before .before .before .before .before .before .before .before .before .before
+    .args in value-cells (a .ctx) (a .out .now) (a .bytes .now) _ _ (a .r) _
+    (c .before .before .before .before .before .before .before .before .before .before .kind-of .ensures)
+    (c .before .before .before .before .before .before .before .before .before .if1 .taken) _
+    (c .before .before .before .before .before .before .before .child-of .ensures) (c .before .before .before .before .check-cells .ensures)
 
 check-phandle-requires : tie.Need-check-phandle-requires
 check-phandle-requires c κs = search needs
@@ -32,13 +36,18 @@ same-length-4 : tie.Need-same-length-4
 same-length-4 c = search needs
 
 returns-2 : tie.Need-returns-2
-returns-2 c = let a = c .before .before .before .before .before .before .before .before .before .before .before .before .before .args in value-target (a .ctx) (a .out .now) (a .bytes .now) _ _ (a .r) _ (c .before .before .before .before .before .before .before .before .before .kind-of .ensures) (c .before .before .before .before .before .before .before .if2 .taken) (c .before .before .before .before .check-phandle .ensures)
+returns-2
+    c = let a = c .before .before .before .before .before .before .before .before .before .before .before .before .before
+    .args in value-target (a .ctx) (a .out .now) (a .bytes .now) _ _ (a .r) _
+    (c .before .before .before .before .before .before .before .before .before .kind-of .ensures)
+    (c .before .before .before .before .before .before .before .if2 .taken) (c .before .before .before .before .check-phandle .ensures)
 
 same-length-5 : tie.Need-same-length-5
 same-length-5 c = search needs
 
 returns-3 : tie.Need-returns-3
-returns-3 c = let a = c .before .before .before .before .before .before .args in value-other (a .ctx) (a .out .now) (a .bytes .now) _ _ (a .r) _ (c .before .before .kind-of .ensures) (c .before .if1 .left) (c .if2 .left)
+returns-3 c = let a = c .before .before .before .before .before .before .args in value-other (a .ctx) (a .out .now) (a .bytes .now) _ _
+    (a .r) _ (c .before .before .kind-of .ensures) (c .before .if1 .left) (c .if2 .left)
 
 pub check-value-spec : {M : Type 1} → statement M
 check-value-spec =

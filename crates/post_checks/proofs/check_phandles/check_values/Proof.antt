@@ -4,14 +4,14 @@ use mathlib.Core.Path.{_≡_, refl, sym, _∙_}
 use mathlib.Core.List.{List, map}
 use native.Mathlib.Omega.{arith}
 use lib.ListN.{length}
-use Rattle.log.specs.Record.{nextOf, logCount}
-use Rattle.log.specs.ReadBack.{chainFrom, chainOf, valueAt, readValues}
-use Rattle.making.specs.Recs.{meant}
-use Rattle.making.specs.Kept.{all-none, all-more}
+use Rattle.log.specs.meaning.Record.{nextOf, logCount}
+use Rattle.log.specs.meaning.ReadBack.{chainFrom, chainOf, valueAt, readValues}
+use Rattle.log.specs.machine.Parts.{meant}
+use Rattle.making.specs.machine.Kept.{all-none, all-more}
 use Rattle.making.proofs.Keeping.{still-kept}
 use Rattle.queries.proofs.Chain.{goes-left}
-use Rattle.post_checks.specs.Post.{checkValues}
-use Rattle.post_checks.specs.Checks.{said}
+use Rattle.post_checks.specs.meaning.Post.{checkValues}
+use Rattle.post_checks.specs.machine.Checks.{said}
 use Rattle.post_checks.proofs.Checks.{Walks, walks-start, walks-step, walks-end}
 use Rattle.post_checks.proofs.References.{values-next}
 use borrow.Author.Needs.{needs}
@@ -32,7 +32,14 @@ log-count-requires : tie.Need-log-count-requires Inv-loop μ-loop
 log-count-requires c κs = search needs
 
 loop-holds : tie.Need-loop-holds Inv-loop μ-loop
-loop-holds c = let a = c .before .before .before .before .args in (refl, refl, rw (c .log-count .ensures) (walks-start (a .ctx) (a .out .now) (a .bytes .now) _ (a .first) (logCount (a .out .now)) _ (λ (passed later : List ℕ). checkValues (said (a .ctx) (a .out .now) (a .bytes .now)) (meant (a .span)) (map (valueAt (a .out .now) (a .bytes .now)) later)) refl))
+loop-holds c = let a = c .before .before .before .before .args in (
+  refl,
+  refl,
+  rw (c .log-count .ensures)
+      (walks-start (a .ctx) (a .out .now) (a .bytes .now) _ (a .first) (logCount (a .out .now)) _
+      (λ (passed later : List ℕ). checkValues (said (a .ctx) (a .out .now) (a .bytes .now)) (meant (a .span))
+      (map (valueAt (a .out .now) (a .bytes .now)) later)) refl),
+)
 
 goes-on-requires : tie.Need-goes-on-requires Inv-loop μ-loop
 goes-on-requires c κs = search needs
@@ -44,18 +51,35 @@ next-of-requires : tie.Need-next-of-requires Inv-loop μ-loop
 next-of-requires c κs = search needs
 
 sub-left : tie.Need-sub-left Inv-loop μ-loop
-sub-left c = let l = c .before .before .before .before .before .before .before .before .before .before .before .before .loop in goes-left (l .out) (l .r) (l .left) (sym (c .before .before .before .before .before .before .before .before .before .before .goes-on .ensures) ∙ c .before .before .before .before .before .before .before .before .before .if1 .taken)
+sub-left c = let l = c .before .before .before .before .before .before .before .before .before .before .before .before .loop in goes-left
+    (l .out) (l .r) (l .left) (sym (c .before .before .before .before .before .before .before .before .before .before .goes-on .ensures)
+    ∙ c .before .before .before .before .before .before .before .before .before .if1 .taken)
 
 loop-less : tie.Need-loop-less Inv-loop μ-loop
-loop-less c = let l = c .before .before .before .before .before .before .before .before .before .before .before .before .loop in omega (arith, goes-left (l .out) (l .r) (l .left) (sym (c .before .before .before .before .before .before .before .before .before .before .goes-on .ensures) ∙ c .before .before .before .before .before .before .before .before .before .if1 .taken))
+loop-less c = let l = c .before .before .before .before .before .before .before .before .before .before .before .before .loop in omega (
+  arith,
+  goes-left (l .out) (l .r) (l .left) (sym
+      (c .before .before .before .before .before .before .before .before .before .before .goes-on .ensures)
+      ∙ c .before .before .before .before .before .before .before .before .before .if1 .taken),
+)
 
 loop-again : tie.Need-loop-again Inv-loop μ-loop
-loop-again c = let a = c .before .before .before .before .before .before .before .before .before .before .before .before .before .before .before .before .before .args in
+loop-again
+    c = let a = c .before .before .before .before .before .before .before .before .before .before .before .before .before .before .before
+    .before .before .args in
     let l = c .before .before .before .before .before .before .before .before .before .before .before .before .loop in (
       c .before .before .before .before .before .before .check-value .kept .0 ∙ l .inv .0,
       c .before .before .before .before .before .before .check-value .kept .1 .0 ∙ l .inv .1,
-      walks-step (l .inv .2) (λ (passed later : List ℕ). checkValues (said (a .ctx) (a .out .now) (a .bytes .now)) (meant (a .span)) (map (valueAt (a .out .now) (a .bytes .now)) later)) (sym (c .before .before .before .before .before .before .before .before .before .before .goes-on .ensures) ∙ c .before .before .before .before .before .before .before .before .before .if1 .taken) (c .before .before .before .before .before .before .check-value .ensures) _ (c .next-of .ensures) (λ x. x)
-          (λ x y h z kept all s passed ch st. (all-more (still-kept kept s) all-none, values-next h z kept (meant (a .span)) (l .r) (chainFrom (l .left - 1) (a .out .now) (nextOf (a .out .now) (l .r))) s)),
+      walks-step (l .inv .2) (λ (passed later : List ℕ). checkValues (said (a .ctx) (a .out .now) (a .bytes .now)) (meant (a .span))
+          (map (valueAt (a .out .now) (a .bytes .now)) later)) (sym
+          (c .before .before .before .before .before .before .before .before .before .before .goes-on .ensures)
+          ∙ c .before .before .before .before .before .before .before .before .before .if1 .taken)
+          (c .before .before .before .before .before .before .check-value .ensures) _ (c .next-of .ensures) (λ x. x)
+          (λ x y h z kept all s passed ch st. (
+            all-more (still-kept kept s) all-none,
+            values-next h z kept (meant (a .span)) (l .r)
+                (chainFrom (l .left - 1) (a .out .now) (nextOf (a .out .now) (l .r))) s,
+          )),
     )
 
 same-length : tie.Need-same-length Inv-loop μ-loop
@@ -66,7 +90,8 @@ same-length-2 c = search needs
 
 returns : tie.Need-returns Inv-loop μ-loop
 unfolding readValues chainOf checkValues
-returns c = let l = c .before .before .before .loop in walks-end (l .inv .2) (sym (c .before .goes-on .ensures) ∙ c .if1 .left) (λ passed. refl)
+returns c = let l = c .before .before .before .loop in walks-end (l .inv .2) (sym (c .before .goes-on .ensures) ∙ c .if1 .left)
+    (λ passed. refl)
 
 pub check-values-spec : {M : Type 1} → statement M
 check-values-spec =

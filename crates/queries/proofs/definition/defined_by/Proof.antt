@@ -16,7 +16,8 @@ returns c =
 returns-2 : tie.Need-returns-2
 returns-2 c =
     let a = c .before .before .before .before .before .before .args in
-    undefines-it (a .words .now) (a .bytes .now) (a .r) (a .defined) _ (c .before .before .before .kind-of .ensures) (omega arith) (omega arith)
+    undefines-it (a .words .now) (a .bytes .now) (a .r) (a .defined) _ (c .before .before .before .kind-of .ensures) (omega arith)
+    (omega arith)
 
 returns-3 : tie.Need-returns-3
 returns-3 c =

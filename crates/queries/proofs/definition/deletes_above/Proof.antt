@@ -23,7 +23,12 @@ lies-under-requires c κs = search needs
 returns-2 : tie.Need-returns-2
 returns-2 c =
     let a = c .before .before .before .before .before .before .before .args in
-    c .lies-under .ensures ∙ rw (deletes-at (a .words .now) (a .bytes .now) (a .r) (a .path .now), c .before .first-text .ensures, ← c .before .before .before .kind-of .ensures) (simp (eq-eqb _ _ (c .before .before .if1 .left)))
+    c .lies-under .ensures ∙ rw (
+      deletes-at (a .words .now) (a .bytes .now) (a .r) (a .path .now),
+      c .before .first-text .ensures,
+      ←
+          c .before .before .before .kind-of .ensures,
+    ) (simp (eq-eqb _ _ (c .before .before .if1 .left)))
 
 pub deletes-above-spec : {M : Type 1} → statement M
 deletes-above-spec =

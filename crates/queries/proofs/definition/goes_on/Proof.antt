@@ -1,6 +1,6 @@
 -- By the two tests of a link.
 use borrow.Author.Tests.{eq-eqb, ne-eqb}
-use Rattle.queries.specs.Pass.{goesOn}
+use Rattle.queries.specs.machine.Pass.{goesOn}
 use borrow.Author.Needs.{needs}
 use Rattle.queries.proofs.definition.goes_on.Statement.{statement}
 use Rattle.queries.proofs.definition.goes_on.Tie as tie

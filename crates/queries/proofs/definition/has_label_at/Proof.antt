@@ -12,7 +12,8 @@ is-node-at-requires c κs = search needs
 returns : tie.Need-returns
 returns c =
     let a = c .before .before .before .before .before .before .args in
-    sym (label-at (a .words .now) (a .bytes .now) (a .r) (a .label .now) (a .path .now) ∙ rw (sym (c .before .is-node-at .ensures) ∙ not-true _ (c .if1 .taken)) refl)
+    sym (label-at (a .words .now) (a .bytes .now) (a .r) (a .label .now) (a .path .now)
+    ∙ rw (sym (c .before .is-node-at .ensures) ∙ not-true _ (c .if1 .taken)) refl)
 
 child-of-requires : tie.Need-child-of-requires
 child-of-requires c κs = search needs
@@ -23,7 +24,12 @@ has-label-requires c κs = search needs
 returns-2 : tie.Need-returns-2
 returns-2 c =
     let a = c .before .before .before .before .before .before .before .before .args in
-    c .has-label .ensures ∙ sym (label-at (a .words .now) (a .bytes .now) (a .r) (a .label .now) (a .path .now) ∙ rw (sym (c .before .before .before .is-node-at .ensures) ∙ not-false _ (c .before .before .if1 .left), c .before .child-of .ensures) refl)
+    c .has-label .ensures ∙ sym (label-at (a .words .now) (a .bytes .now) (a .r) (a .label .now) (a .path .now)
+    ∙ rw (
+      sym (c .before .before .before .is-node-at .ensures)
+          ∙ not-false _ (c .before .before .if1 .left),
+      c .before .child-of .ensures,
+    ) refl)
 
 pub has-label-at-spec : {M : Type 1} → statement M
 has-label-at-spec =

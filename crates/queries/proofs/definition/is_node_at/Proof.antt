@@ -23,7 +23,12 @@ equals-requires c κs = search needs
 returns-2 : tie.Need-returns-2
 returns-2 c =
     let a = c .before .before .before .before .before .before .before .args in
-    c .equals .ensures ∙ rw (node-at (a .words .now) (a .bytes .now) (a .r) (a .path .now), c .before .first-text .ensures, ← c .before .before .before .kind-of .ensures) (simp (eq-eqb _ _ (c .before .before .if1 .left)))
+    c .equals .ensures ∙ rw (
+      node-at (a .words .now) (a .bytes .now) (a .r) (a .path .now),
+      c .before .first-text .ensures,
+      ←
+          c .before .before .before .kind-of .ensures,
+    ) (simp (eq-eqb _ _ (c .before .before .if1 .left)))
 
 pub is-node-at-spec : {M : Type 1} → statement M
 is-node-at-spec =

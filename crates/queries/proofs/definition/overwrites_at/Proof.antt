@@ -13,7 +13,8 @@ kind-of-requires c κs = search needs
 returns : tie.Need-returns
 returns c =
     let a = c .before .before .before .before .before .before .args in
-    rw (overwrites-at (a .words .now) (a .bytes .now) (a .r) (a .path .now), ← c .before .before .kind-of .ensures) (simp (ne-eqb _ _ (c .before .if1 .taken), ne-eqb _ _ (c .if2 .taken)))
+    rw (overwrites-at (a .words .now) (a .bytes .now) (a .r) (a .path .now), ← c .before .before .kind-of .ensures)
+    (simp (ne-eqb _ _ (c .before .if1 .taken), ne-eqb _ _ (c .if2 .taken)))
 
 first-text-requires : tie.Need-first-text-requires
 first-text-requires c κs = search needs
@@ -25,7 +26,12 @@ returns-2 : tie.Need-returns-2
 returns-2 c =
     let a = c .before .before .before .before .before .before .before .args in
     c .equals .ensures
-    ∙ rw (overwrites-at (a .words .now) (a .bytes .now) (a .r) (a .path .now), c .before .first-text .ensures, ← c .before .before .before .kind-of .ensures)
+    ∙ rw (
+      overwrites-at (a .words .now) (a .bytes .now) (a .r) (a .path .now),
+      c .before .first-text .ensures,
+      ←
+          c .before .before .before .kind-of .ensures,
+    )
     (⊎-elim
     (λ w. simp (ne-eqb _ _ (w .0 .taken), eq-eqb _ _ (w .1 .left)))
     (λ w. simp (eq-eqb _ _ (w .left)))

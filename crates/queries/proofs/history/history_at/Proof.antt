@@ -4,11 +4,11 @@ use mathlib.Core.Bool.{true, false}
 use mathlib.Core.Path.{_≡_, refl, sym, ap, _∙_}
 use mathlib.Core.List.{List}
 use borrow.Author.Tests.{not-true, not-false}
-use Rattle.paths_numbers.specs.Text.{same}
+use Rattle.paths_numbers.specs.meaning.Text.{same}
 use Rattle.paths_numbers.proofs.Texts.{by-test}
-use Rattle.log.specs.ReadBack.{defAt}
-use Rattle.queries.specs.Live.{deletes}
-use Rattle.queries.specs.Pass.{isListed, definedAfter}
+use Rattle.log.specs.meaning.ReadBack.{defAt}
+use Rattle.queries.specs.meaning.Live.{deletes}
+use Rattle.queries.specs.machine.Pass.{isListed, definedAfter}
 use Rattle.queries.proofs.Records.{path-at}
 use borrow.Author.Needs.{needs}
 use Rattle.queries.proofs.history.history_at.Statement.{statement}
@@ -27,14 +27,18 @@ returns : tie.Need-returns
 unfolding isListed definedAfter
 returns c =
     let a = c .before .before .before .before .before .before .before .args in
-    let s : same ((defAt (a .words .now) (a .bytes .now) (a .r)) .path) (a .path .now) ≡ true = ap (λ (p : List ℕ). same p (a .path .now)) (path-at (a .words .now) (a .bytes .now) (a .r) ∙ sym (c .before .before .before .first-text .ensures)) ∙ sym (c .before .before .equals .ensures) ∙ c .before .if1 .taken in
+    let s : same ((defAt (a .words .now) (a .bytes .now) (a .r)) .path) (a .path .now) ≡ true = ap (λ (p : List ℕ). same p (a .path .now))
+    (path-at (a .words .now) (a .bytes .now) (a .r) ∙ sym (c .before .before .before .first-text .ensures))
+    ∙ sym (c .before .before .equals .ensures) ∙ c .before .if1 .taken in
     rw (s, c .defined-by .ensures) refl
 
 returns-2 : tie.Need-returns-2
 unfolding isListed definedAfter
 returns-2 c =
     let a = c .before .before .before .before .before .before .before .args in
-    let s : same ((defAt (a .words .now) (a .bytes .now) (a .r)) .path) (a .path .now) ≡ false = ap (λ (p : List ℕ). same p (a .path .now)) (path-at (a .words .now) (a .bytes .now) (a .r) ∙ sym (c .before .before .before .first-text .ensures)) ∙ sym (c .before .before .equals .ensures) ∙ c .before .if1 .left in
+    let s : same ((defAt (a .words .now) (a .bytes .now) (a .r)) .path) (a .path .now) ≡ false = ap (λ (p : List ℕ). same p (a .path .now))
+    (path-at (a .words .now) (a .bytes .now) (a .r) ∙ sym (c .before .before .before .first-text .ensures))
+    ∙ sym (c .before .before .equals .ensures) ∙ c .before .if1 .left in
     rw (s, not-true (a .defined) (c .if2 .taken)) refl
 
 deletes-above-requires : tie.Need-deletes-above-requires
@@ -44,7 +48,9 @@ returns-3 : tie.Need-returns-3
 unfolding isListed definedAfter
 returns-3 c =
     let a = c .before .before .before .before .before .before .before .before .args in
-    let s : same ((defAt (a .words .now) (a .bytes .now) (a .r)) .path) (a .path .now) ≡ false = ap (λ (p : List ℕ). same p (a .path .now)) (path-at (a .words .now) (a .bytes .now) (a .r) ∙ sym (c .before .before .before .before .first-text .ensures)) ∙ sym (c .before .before .before .equals .ensures) ∙ c .before .before .if1 .left in
+    let s : same ((defAt (a .words .now) (a .bytes .now) (a .r)) .path) (a .path .now) ≡ false = ap (λ (p : List ℕ). same p (a .path .now))
+    (path-at (a .words .now) (a .bytes .now) (a .r) ∙ sym (c .before .before .before .before .first-text .ensures))
+    ∙ sym (c .before .before .before .equals .ensures) ∙ c .before .before .if1 .left in
     rw (s, not-false (a .defined) (c .before .if2 .left), c .deletes-above .ensures)
     (by-test (deletes (a .path .now) (defAt (a .words .now) (a .bytes .now) (a .r))) (λ t. rw t refl) (λ t. rw t refl))
 

@@ -25,7 +25,8 @@ slice-aggregate-history-list-by : tie.Need-slice-aggregate-history-list-by
 slice-aggregate-history-list-by c = search needs
 
 history-list-by-requires : tie.Need-history-list-by-requires
-history-list-by-requires c κs = zeros-room 65536 _ _ refl (count-most (c .before .before .before .before .before .before .before .before .args .words .now))
+history-list-by-requires c κs = zeros-room 65536 _ _ refl (count-most
+    (c .before .before .before .before .before .before .before .before .args .words .now))
 
 same-length-2 : tie.Need-same-length-2
 same-length-2 c = search needs

@@ -4,9 +4,9 @@ use mathlib.Core.Bool.{false}
 use native.Mathlib.Omega.{arith}
 use lib.ListN.{length}
 use lib.Seq.{length-take-le}
-use Rattle.log.specs.ReadBack.{chainOf, defAt}
-use Rattle.queries.specs.Query.{historyNumbers}
-use Rattle.queries.specs.Table.{fitted}
+use Rattle.log.specs.meaning.ReadBack.{chainOf, defAt}
+use Rattle.queries.specs.meaning.Query.{historyNumbers}
+use Rattle.queries.specs.machine.Table.{fitted}
 use Rattle.queries.proofs.Chain.{count-most, chain-most}
 use Rattle.queries.proofs.Numbers.{history-most, collected-part}
 use borrow.Author.Needs.{needs}
@@ -46,7 +46,15 @@ fit-requires c κs =
     let m = history-most (defAt (a .words .now) (a .bytes .now)) false (a .path .now) (chainOf (a .words .now) (a .first)) in
     let n = chain-most (a .words .now) (a .first) in
     let h = c .before .before .before .before .history-of in
-    omega (arith, m, n, count-most (a .words .now), ap length (collected-part (a .found .now) (historyNumbers (defAt (a .words .now) (a .bytes .now)) false (a .path .now) (chainOf (a .words .now) (a .first))) _ (h .result) (h .ensures .1) (h .ensures .0)))
+    omega (
+      arith,
+      m,
+      n,
+      count-most (a .words .now),
+      ap length (collected-part (a .found .now)
+          (historyNumbers (defAt (a .words .now) (a .bytes .now)) false (a .path .now) (chainOf (a .words .now) (a .first))) _ (h .result)
+          (h .ensures .1) (h .ensures .0)),
+    )
 
 same-length : tie.Need-same-length
 same-length c = search needs
@@ -59,7 +67,8 @@ returns c =
     let a = c .before .before .before .before .before .before .before .before .before .before .before .before .before .before .args in
     let h = c .before .before .before .before .before .before .before .history-of in
     let f = c .before .before .fit in
-    let e = collected-part (a .found .now) (historyNumbers (defAt (a .words .now) (a .bytes .now)) false (a .path .now) (chainOf (a .words .now) (a .first))) _ (h .result) (h .ensures .1) (h .ensures .0) in
+    let e = collected-part (a .found .now) (historyNumbers (defAt (a .words .now) (a .bytes .now)) false (a .path .now)
+    (chainOf (a .words .now) (a .first))) _ (h .result) (h .ensures .1) (h .ensures .0) in
     (f .ensures .0 ∙ ap length e, f .ensures .1 ∙ ap (fitted (a .list .now)) e)
 
 pub history-list-by-spec : {M : Type 1} → statement M

@@ -18,7 +18,12 @@ mul-links c =
 slice-read-links : tie.Need-slice-read-links
 slice-read-links c =
     let a = c .before .before .before .before .args in
-    omega (arith, c .before .slot-of .ensures, slot-most (length (a .heads .now)) (a .deleted) (a .hash) (c .before .before .before .before .pre .0))
+    omega (
+      arith,
+      c .before .slot-of .ensures,
+      slot-most (length (a .heads .now)) (a .deleted) (a .hash)
+          (c .before .before .before .before .pre .0),
+    )
 
 mul-links-2 : tie.Need-mul-links-2
 mul-links-2 c = search needs
@@ -35,12 +40,22 @@ cast-heads c = search needs
 mul-heads : tie.Need-mul-heads
 mul-heads c =
     let a = c .before .before .before .before .args in
-    omega (arith, c .before .slot-of .ensures, slot-most (length (a .heads .now)) (a .deleted) (a .hash) (c .before .before .before .before .pre .0))
+    omega (
+      arith,
+      c .before .slot-of .ensures,
+      slot-most (length (a .heads .now)) (a .deleted) (a .hash)
+          (c .before .before .before .before .pre .0),
+    )
 
 slice-write-heads : tie.Need-slice-write-heads
 slice-write-heads c =
     let a = c .before .before .before .before .args in
-    omega (arith, c .before .slot-of .ensures, slot-most (length (a .heads .now)) (a .deleted) (a .hash) (c .before .before .before .before .pre .0))
+    omega (
+      arith,
+      c .before .slot-of .ensures,
+      slot-most (length (a .heads .now)) (a .deleted) (a .hash)
+          (c .before .before .before .before .pre .0),
+    )
 
 same-length : tie.Need-same-length
 same-length c = search needs

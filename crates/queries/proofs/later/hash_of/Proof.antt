@@ -3,7 +3,7 @@ use Prim.Native.Nat.{_-_, _≤_}
 use mathlib.Core.Path.{_≡_}
 use native.Mathlib.Omega.{arith}
 use lib.ListN.{length, take}
-use Rattle.queries.specs.Table.{hashFrom}
+use Rattle.queries.specs.machine.Table.{hashFrom}
 use Rattle.queries.proofs.Fronts.{hash-step, hash-end}
 use borrow.Author.Needs.{needs}
 use Rattle.queries.proofs.later.hash_of.Statement.{statement}

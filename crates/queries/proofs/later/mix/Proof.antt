@@ -1,6 +1,6 @@
 -- By its definition; no step is too large.
 use mathlib.Core.Path.{refl}
-use Rattle.queries.specs.Table.{mixed}
+use Rattle.queries.specs.machine.Table.{mixed}
 use borrow.Author.Needs.{needs}
 use Rattle.queries.proofs.later.mix.Statement.{statement}
 use Rattle.queries.proofs.later.mix.Tie as tie

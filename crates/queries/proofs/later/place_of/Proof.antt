@@ -1,7 +1,7 @@
 -- By how many heads there are.
 use mathlib.Core.Path.{refl}
 use borrow.Author.Tests.{lt-ltb, le-ltb}
-use Rattle.queries.specs.Table.{placeOf}
+use Rattle.queries.specs.machine.Table.{placeOf}
 use borrow.Author.Needs.{needs}
 use Rattle.queries.proofs.later.place_of.Statement.{statement}
 use Rattle.queries.proofs.later.place_of.Tie as tie

@@ -15,10 +15,12 @@ shared-slice-read-if2 : tie.Need-shared-slice-read-if2
 shared-slice-read-if2 c = search needs
 
 returns-2 : tie.Need-returns-2
-returns-2 c = rw (first-other (c .before .before .before .before .before .before .before .before .before .args .path .now) (c .if2 .taken)) refl
+returns-2 c = rw (first-other (c .before .before .before .before .before .before .before .before .before .args .path .now) (c .if2 .taken))
+    refl
 
 slice-aggregate-or-deleted : tie.Need-slice-aggregate-or-deleted
-slice-aggregate-or-deleted c = sym (length-take-le _ (c .before .before .before .before .before .before .before .before .before .before .args .path .now) (omega arith))
+slice-aggregate-or-deleted c = sym (length-take-le _
+    (c .before .before .before .before .before .before .before .before .before .before .args .path .now) (omega arith))
 
 or-deleted-requires : tie.Need-or-deleted-requires
 or-deleted-requires c κs =

@@ -1,7 +1,7 @@
 -- By its definition; a place is small (Table: place-small).
 use mathlib.Core.Path.{refl}
 use native.Mathlib.Omega.{arith}
-use Rattle.queries.specs.Table.{slotOf}
+use Rattle.queries.specs.machine.Table.{slotOf}
 use Rattle.queries.proofs.Table.{place-small}
 use borrow.Author.Needs.{needs}
 use Rattle.queries.proofs.later.slot_of.Statement.{statement}

@@ -3,7 +3,7 @@ use Prim.Native.Nat.{_-_, _≤_}
 use mathlib.Core.Path.{_≡_, refl, sym, _∙_}
 use native.Mathlib.Omega.{arith}
 use lib.ListN.{length, drop, length-set, drop-of-length-le}
-use Rattle.paths_numbers.specs.Text.{written}
+use Rattle.paths_numbers.specs.meaning.Text.{written}
 use Rattle.paths_numbers.proofs.Written.{written-nil}
 use Rattle.queries.proofs.Numbers.{written-next}
 use borrow.Author.Needs.{needs}
@@ -11,7 +11,8 @@ use Rattle.queries.proofs.list.copy.Statement.{statement}
 use Rattle.queries.proofs.list.copy.Tie as tie
 
 abbrev Inv-loop : tie.InvT-loop
-Inv-loop list₀ numbers i₀ list i = (i ≤ length numbers) × (length list ≡ length list₀) × (written list₀ 0 numbers ≡ written list i (drop i numbers))
+Inv-loop list₀ numbers i₀ list i = (i ≤ length numbers) × (length list ≡ length list₀)
+    × (written list₀ 0 numbers ≡ written list i (drop i numbers))
 
 abbrev μ-loop : tie.MeasureT-loop
 μ-loop list₀ numbers i₀ list i = length numbers - i

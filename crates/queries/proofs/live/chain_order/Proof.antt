@@ -3,16 +3,18 @@ use Prim.Native.Nat.{_+_, _≤_}
 use mathlib.Core.Path.{_≡_, refl, sym, ap, _∙_}
 use native.Mathlib.Omega.{arith}
 use lib.ListN.{length, set, length-set}
-use Rattle.paths_numbers.specs.Text.{written}
+use Rattle.paths_numbers.specs.meaning.Text.{written}
 use Rattle.paths_numbers.proofs.Written.{written-nil, written-cons}
-use Rattle.log.specs.ReadBack.{chainFrom, chainOf}
+use Rattle.log.specs.meaning.ReadBack.{chainFrom, chainOf}
 use Rattle.queries.proofs.Chain.{goes, goes-left, stops}
 use borrow.Author.Needs.{needs}
 use Rattle.queries.proofs.live.chain_order.Statement.{statement}
 use Rattle.queries.proofs.live.chain_order.Tie as tie
 
 abbrev Inv-loop : tie.InvT-loop
-Inv-loop words first order₀ n₀ r₀ left₀ order n r left = (length order ≡ length order₀) × (n + left ≤ length order) × (length (chainOf words first) ≡ n + length (chainFrom left words r)) × (written order₀ 0 (chainOf words first) ≡ written order n (chainFrom left words r))
+Inv-loop words first order₀ n₀ r₀ left₀ order n r left = (length order ≡ length order₀) × (n + left ≤ length order)
+    × (length (chainOf words first) ≡ n + length (chainFrom left words r))
+    × (written order₀ 0 (chainOf words first) ≡ written order n (chainFrom left words r))
 
 abbrev μ-loop : tie.MeasureT-loop
 μ-loop words first order₀ n₀ r₀ left₀ order n r left = left

@@ -1,7 +1,7 @@
 -- Arrays of zeros have room (Table: room-zeros).
 use mathlib.Core.Path.{refl}
 use native.Mathlib.Omega.{arith}
-use Rattle.log.specs.Record.{logCount}
+use Rattle.log.specs.meaning.Record.{logCount}
 use Rattle.queries.proofs.Chain.{count-most}
 use Rattle.queries.proofs.Table.{room-zeros}
 use borrow.Author.Needs.{needs}

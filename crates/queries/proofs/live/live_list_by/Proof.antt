@@ -1,12 +1,13 @@
--- The chain in order is the part of its array that is lent on; the answers are collected in another, whose part is fitted into the list (Numbers: collected-part).
+-- The chain in order is the part of its array that is lent on; the answers are collected in another, whose part is fitted into the list
+-- (Numbers: collected-part).
 use mathlib.Core.Path.{sym, ap, _∙_}
 use native.Mathlib.Omega.{arith}
 use lib.ListN.{length, take}
 use lib.Seq.{length-take-le}
-use Rattle.log.specs.Record.{logCount}
-use Rattle.log.specs.ReadBack.{chainOf, defAt}
-use Rattle.queries.specs.Query.{liveNumbers}
-use Rattle.queries.specs.Table.{fitted}
+use Rattle.log.specs.meaning.Record.{logCount}
+use Rattle.log.specs.meaning.ReadBack.{chainOf, defAt}
+use Rattle.queries.specs.meaning.Query.{liveNumbers}
+use Rattle.queries.specs.machine.Table.{fitted}
 use Rattle.queries.proofs.Chain.{count-most, chain-most}
 use Rattle.queries.proofs.Table.{room-part}
 use Rattle.queries.proofs.Numbers.{live-most, written-start, collected-part}
@@ -35,45 +36,65 @@ slice-aggregate-live-of c =
 
 live-of-requires : tie.Need-live-of-requires
 live-of-requires c κs =
-    let a = c .before .before .before .before .before .before .before .before .before .before .before .before .before .before .before .before .args in
-    let p = c .before .before .before .before .before .before .before .before .before .before .before .before .before .before .before .before .pre in
+    let a = c .before .before .before .before .before .before .before .before .before .before .before .before .before .before .before
+    .before .args in
+    let p = c .before .before .before .before .before .before .before .before .before .before .before .before .before .before .before
+    .before .pre in
     let o = c .before .before .before .before .before .before .chain-order in
     let n = chain-most (a .words .now) (a .first) in
-    let e = ap (take (o .result)) (o .ensures .1) ∙ written-start (a .order .now) (chainOf (a .words .now) (a .first)) (o .result) (o .ensures .0) in
+    let e = ap (take (o .result)) (o .ensures .1) ∙ written-start (a .order .now) (chainOf (a .words .now) (a .first)) (o .result)
+    (o .ensures .0) in
     room-part (logCount (a .words .now)) (a .order .now) (a .heads .now) (a .links .now) (a .live .now) _ p (omega (arith, n, ap length e))
 
 slice-reshare-prefix-fit : tie.Need-slice-reshare-prefix-fit
 slice-reshare-prefix-fit c =
-    let s = c .before .before .before .before .before .before .before .before .before .before .before .before .before .before .before .before .before .before .before .before .before .before .before .before in
+    let s = c .before .before .before .before .before .before .before .before .before .before .before .before .before .before .before
+    .before .before .before .before .before .before .before .before .before in
     let a = s .args in
-    let o = c .before .before .before .before .before .before .before .before .before .before .before .before .before .before .chain-order in
+    let o = c .before .before .before .before .before .before .before .before .before .before .before .before .before .before .chain-order
+    in
     let v = c .before .before .before .before .before .before .before .live-of in
-    let q = rw (collected-part (a .order .now) (chainOf (a .words .now) (a .first)) _ (o .result) (o .ensures .1) (o .ensures .0)) at (v .ensures) in
+    let q = rw (collected-part (a .order .now) (chainOf (a .words .now) (a .first)) _ (o .result) (o .ensures .1) (o .ensures .0)) at
+    (v .ensures) in
     let m = live-most (defAt (a .words .now) (a .bytes .now)) (a .base .now) (chainOf (a .words .now) (a .first)) in
     let n = chain-most (a .words .now) (a .first) in
     omega (arith, q .0, m, n, v .kept .1 .1 .1 .1 .1 .1 .0, s .pre .forLive)
 
 slice-aggregate-fit : tie.Need-slice-aggregate-fit
 slice-aggregate-fit c =
-    let s = c .before .before .before .before .before .before .before .before .before .before .before .before .before .before .before .before .before .before .before .before .before .before .before .before .before in
+    let s = c .before .before .before .before .before .before .before .before .before .before .before .before .before .before .before
+    .before .before .before .before .before .before .before .before .before .before in
     let a = s .args in
-    let o = c .before .before .before .before .before .before .before .before .before .before .before .before .before .before .before .chain-order in
+    let o = c .before .before .before .before .before .before .before .before .before .before .before .before .before .before .before
+    .chain-order in
     let v = c .before .before .before .before .before .before .before .before .live-of in
-    let q = rw (collected-part (a .order .now) (chainOf (a .words .now) (a .first)) _ (o .result) (o .ensures .1) (o .ensures .0)) at (v .ensures) in
+    let q = rw (collected-part (a .order .now) (chainOf (a .words .now) (a .first)) _ (o .result) (o .ensures .1) (o .ensures .0)) at
+    (v .ensures) in
     let m = live-most (defAt (a .words .now) (a .bytes .now)) (a .base .now) (chainOf (a .words .now) (a .first)) in
     let n = chain-most (a .words .now) (a .first) in
     sym (length-take-le _ _ (omega (arith, q .0, m, n, v .kept .1 .1 .1 .1 .1 .1 .0, s .pre .forLive)))
 
 fit-requires : tie.Need-fit-requires
 fit-requires c κs =
-    let s = c .before .before .before .before .before .before .before .before .before .before .before .before .before .before .before .before .before .before .before .before .before .before .before .before .before in
+    let s = c .before .before .before .before .before .before .before .before .before .before .before .before .before .before .before
+    .before .before .before .before .before .before .before .before .before .before in
     let a = s .args in
-    let o = c .before .before .before .before .before .before .before .before .before .before .before .before .before .before .before .chain-order in
+    let o = c .before .before .before .before .before .before .before .before .before .before .before .before .before .before .before
+    .chain-order in
     let v = c .before .before .before .before .before .before .before .before .live-of in
-    let q = rw (collected-part (a .order .now) (chainOf (a .words .now) (a .first)) _ (o .result) (o .ensures .1) (o .ensures .0)) at (v .ensures) in
+    let q = rw (collected-part (a .order .now) (chainOf (a .words .now) (a .first)) _ (o .result) (o .ensures .1) (o .ensures .0)) at
+    (v .ensures) in
     let m = live-most (defAt (a .words .now) (a .bytes .now)) (a .base .now) (chainOf (a .words .now) (a .first)) in
     let n = chain-most (a .words .now) (a .first) in
-    omega (arith, m, n, count-most (a .words .now), ap length (collected-part (a .live .now) (liveNumbers (defAt (a .words .now) (a .bytes .now)) (a .base .now) (chainOf (a .words .now) (a .first))) _ (v .result) (q .1) (q .0)))
+    omega (
+      arith,
+      m,
+      n,
+      count-most (a .words .now),
+      ap length (collected-part (a .live .now)
+          (liveNumbers (defAt (a .words .now) (a .bytes .now)) (a .base .now) (chainOf (a .words .now) (a .first))) _ (v .result) (q .1)
+          (q .0)),
+    )
 
 same-length : tie.Need-same-length
 same-length c = search needs
@@ -92,11 +113,15 @@ same-length-5 c = search needs
 
 returns : tie.Need-returns
 returns c =
-    let a = c .before .before .before .before .before .before .before .before .before .before .before .before .before .before .before .before .before .before .before .before .before .before .before .before .before .before .before .before .args in
-    let o = c .before .before .before .before .before .before .before .before .before .before .before .before .before .before .before .before .before .before .chain-order in
+    let a = c .before .before .before .before .before .before .before .before .before .before .before .before .before .before .before
+    .before .before .before .before .before .before .before .before .before .before .before .before .before .args in
+    let o = c .before .before .before .before .before .before .before .before .before .before .before .before .before .before .before
+    .before .before .before .chain-order in
     let v = c .before .before .before .before .before .before .before .before .before .before .before .live-of in
-    let q = rw (collected-part (a .order .now) (chainOf (a .words .now) (a .first)) _ (o .result) (o .ensures .1) (o .ensures .0)) at (v .ensures) in
-    let e = collected-part (a .live .now) (liveNumbers (defAt (a .words .now) (a .bytes .now)) (a .base .now) (chainOf (a .words .now) (a .first))) _ (v .result) (q .1) (q .0) in
+    let q = rw (collected-part (a .order .now) (chainOf (a .words .now) (a .first)) _ (o .result) (o .ensures .1) (o .ensures .0)) at
+    (v .ensures) in
+    let e = collected-part (a .live .now) (liveNumbers (defAt (a .words .now) (a .bytes .now)) (a .base .now)
+    (chainOf (a .words .now) (a .first))) _ (v .result) (q .1) (q .0) in
     let f = c .before .before .fit in
     (f .ensures .0 ∙ ap length e, f .ensures .1 ∙ ap (fitted (a .list .now)) e)
 

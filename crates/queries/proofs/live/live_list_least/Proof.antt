@@ -1,7 +1,7 @@
 -- Arrays of zeros have room (Table: room-zeros).
 use mathlib.Core.Path.{refl}
 use native.Mathlib.Omega.{arith}
-use Rattle.log.specs.Record.{logCount}
+use Rattle.log.specs.meaning.Record.{logCount}
 use Rattle.queries.proofs.Table.{room-zeros}
 use borrow.Author.Needs.{needs}
 use Rattle.queries.proofs.live.live_list_least.Statement.{statement}
@@ -20,7 +20,9 @@ slice-aggregate-live-list-by-4 : tie.Need-slice-aggregate-live-list-by-4
 slice-aggregate-live-list-by-4 c = search needs
 
 live-list-by-requires : tie.Need-live-list-by-requires
-live-list-by-requires c κs = room-zeros 1024 (logCount (c .before .before .before .before .before .before .before .before .before .args .words .now)) _ _ _ _ refl refl refl refl (omega arith) (omega arith) (c .before .before .before .before .before .before .before .before .before .pre)
+live-list-by-requires c κs = room-zeros 1024 (logCount
+    (c .before .before .before .before .before .before .before .before .before .args .words .now)) _ _ _ _ refl refl refl refl (omega arith)
+    (omega arith) (c .before .before .before .before .before .before .before .before .before .pre)
 
 same-length : tie.Need-same-length
 same-length c = search needs

@@ -5,11 +5,11 @@ use mathlib.Core.Logic.{⊎-elim}
 use native.Mathlib.Omega.{arith}
 use lib.ListN.{length, drop, length-drop, length-set}
 use lib.Seq.{drop-length}
-use Rattle.paths_numbers.specs.Text.{written}
+use Rattle.paths_numbers.specs.meaning.Text.{written}
 use Rattle.paths_numbers.proofs.Written.{written-nil}
-use Rattle.log.specs.ReadBack.{defAt}
-use Rattle.queries.specs.Query.{liveNumbers}
-use Rattle.queries.specs.Table.{Table}
+use Rattle.log.specs.meaning.ReadBack.{defAt}
+use Rattle.queries.specs.meaning.Query.{liveNumbers}
+use Rattle.queries.specs.machine.Table.{Table}
 use Rattle.queries.proofs.Table.{table-start}
 use Rattle.queries.proofs.Numbers.{live-taken, live-passed, live-none, one-before, part-on, collected}
 use borrow.Author.Needs.{needs}
@@ -20,7 +20,8 @@ abbrev Inv-loop : tie.InvT-loop
 Inv-loop words bytes base order heads₀ links₀ live₀ count₀ i₀ heads links live count i =
     (count + i ≤ length order) × (length heads ≡ length heads₀) × (length links ≡ length links₀) × (length live ≡ length live₀)
     × Table (defAt words bytes) base (length heads) heads links (drop i order)
-    × (count ≡ length (liveNumbers (defAt words bytes) base (drop i order))) × (live ≡ written live₀ 0 (liveNumbers (defAt words bytes) base (drop i order)))
+    × (count ≡ length (liveNumbers (defAt words bytes) base (drop i order)))
+    × (live ≡ written live₀ 0 (liveNumbers (defAt words bytes) base (drop i order)))
 
 abbrev μ-loop : tie.MeasureT-loop
 μ-loop words bytes base order heads₀ links₀ live₀ count₀ i₀ heads links live count i = i
@@ -29,8 +30,17 @@ loop-holds : tie.Need-loop-holds Inv-loop μ-loop
 loop-holds c =
     let a = c .before .before .before .before .before .before .before .args in
     let p = c .before .before .before .before .before .before .before .pre in
-    let e = live-none (defAt (a .words .now) (a .bytes .now)) (a .base .now) (a .order .now) in
-    (omega arith, refl, refl, refl, rw (drop-length (a .order .now)) (table-start (defAt (a .words .now) (a .bytes .now)) (a .base .now) (a .heads .now) (a .links .now) (p .zeros)), rw e refl, rw e (sym (written-nil (a .live .now) 0)))
+    let e = live-none (defAt (a .words .now) (a .bytes .now)) (a .base .now) (a .order .now) in (
+      omega arith,
+      refl,
+      refl,
+      refl,
+      rw (drop-length (a .order .now))
+          (table-start (defAt (a .words .now) (a .bytes .now)) (a .base .now) (a .heads .now) (a .links .now) (p .zeros)),
+      rw e refl,
+      rw e
+          (sym (written-nil (a .live .now) 0)),
+    )
 
 sub-r : tie.Need-sub-r Inv-loop μ-loop
 sub-r c = search needs
@@ -58,7 +68,15 @@ pass-requires c κs =
     let a = c .before .before .before .before .before .before .before .before .before .before .before .before .before .args in
     let p = c .before .before .before .before .before .before .before .before .before .before .before .before .before .pre in
     let l = c .before .before .before .before .before .loop in
-    rw (part-on (a .order .now) (l .i)) (l .inv .4, (omega (arith, p .forHeads), omega (arith, p .forLinks, length-drop (l .i) (a .order .now)), omega (arith, p .most)))
+    rw (part-on (a .order .now) (l .i)) (
+      l .inv .4,
+      (
+        omega (arith, p .forHeads),
+        omega
+            (arith, p .forLinks, length-drop (l .i) (a .order .now)),
+        omega (arith, p .most),
+      ),
+    )
 
 mul-live : tie.Need-mul-live Inv-loop μ-loop
 mul-live c = search needs
@@ -77,19 +95,39 @@ loop-less c = search needs
 
 loop-again : tie.Need-loop-again Inv-loop μ-loop
 loop-again c =
-    let a = c .before .before .before .before .before .before .before .before .before .before .before .before .before .before .before .before .before .before .before .args in
+    let a = c .before .before .before .before .before .before .before .before .before .before .before .before .before .before .before
+    .before .before .before .before .args in
     let l = c .before .before .before .before .before .before .before .before .before .before .before .loop in
     let q = rw (part-on (a .order .now) (l .i)) at (c .before .before .before .before .before .pass .ensures) in
     let f = c .before .before .before .before .before .pass .kept .1 .1 .1 .1 .1 in
-    let t = rw (sym (one-before (defAt (a .words .now) (a .bytes .now)) (a .base .now) (a .order .now) (l .i) (omega arith) (omega arith))) at (q .1) in
+    let t = rw (sym (one-before (defAt (a .words .now) (a .bytes .now)) (a .base .now) (a .order .now) (l .i) (omega arith) (omega arith)))
+    at (q .1) in
     ⊎-elim
     (λ w.
-    let e = live-taken (defAt (a .words .now) (a .bytes .now)) (a .base .now) (a .order .now) (l .i) (omega arith) (omega arith) (sym (q .0) ∙ w .0 .taken) in
-    let d = collected (a .live .now) _ _ (l .live) (l .count) _ (l .inv .6) (l .inv .5) e (omega arith) in
-    (omega (arith, w .2), f .0 ∙ l .inv .1, f .1 .0 ∙ l .inv .2, ap length (w .1) ∙ simp length-set (l .inv .3), t, w .2 ∙ d .1, w .1 ∙ d .0))
+    let e = live-taken (defAt (a .words .now) (a .bytes .now)) (a .base .now) (a .order .now) (l .i) (omega arith) (omega arith)
+    (sym (q .0) ∙ w .0 .taken) in
+    let d = collected (a .live .now) _ _ (l .live) (l .count) _ (l .inv .6) (l .inv .5) e (omega arith) in (
+      omega (arith, w .2),
+      f .0 ∙ l .inv .1,
+      f .1 .0 ∙ l .inv .2,
+      ap length (w .1) ∙ simp length-set (l .inv .3),
+      t,
+      w .2 ∙ d .1,
+      w .1
+          ∙ d .0,
+    ))
     (λ w.
-    let e = live-passed (defAt (a .words .now) (a .bytes .now)) (a .base .now) (a .order .now) (l .i) (omega arith) (omega arith) (sym (q .0) ∙ w .0 .left) in
-    (omega (arith, w .2), f .0 ∙ l .inv .1, f .1 .0 ∙ l .inv .2, ap length (w .1) ∙ l .inv .3, t, w .2 ∙ rw e (l .inv .5), w .1 ∙ rw e (l .inv .6)))
+    let e = live-passed (defAt (a .words .now) (a .bytes .now)) (a .base .now) (a .order .now) (l .i) (omega arith) (omega arith)
+    (sym (q .0) ∙ w .0 .left) in (
+      omega (arith, w .2),
+      f .0 ∙ l .inv .1,
+      f .1 .0 ∙ l .inv .2,
+      ap length (w .1) ∙ l .inv .3,
+      t,
+      w .2 ∙ rw e (l .inv .5),
+      w .1
+          ∙ rw e (l .inv .6),
+    ))
     (c .if1 .came)
 
 same-length : tie.Need-same-length Inv-loop μ-loop

@@ -2,9 +2,9 @@
 use mathlib.Core.Path.{_≡_, refl, sym, _∙_}
 use mathlib.Core.List.{map}
 use native.Mathlib.Omega.{arith}
-use Rattle.log.specs.Record.{logCount}
-use Rattle.log.specs.ReadBack.{chainFrom, chainOf, defAt, readDefs}
-use Rattle.queries.specs.Live.{deletes, nodeAt, containsNode}
+use Rattle.log.specs.meaning.Record.{logCount}
+use Rattle.log.specs.meaning.ReadBack.{chainFrom, chainOf, defAt, readDefs}
+use Rattle.queries.specs.meaning.Live.{deletes, nodeAt, containsNode}
 use Rattle.queries.proofs.Chain.{goes-left}
 use Rattle.queries.proofs.Fold.{foundFrom, nodes-at, live-found-at, found-step, found-end}
 use borrow.Author.Needs.{needs}
@@ -12,7 +12,8 @@ use Rattle.queries.proofs.mir.contains_node_in.Statement.{statement}
 use Rattle.queries.proofs.mir.contains_node_in.Tie as tie
 
 abbrev Inv-loop : tie.InvT-loop
-Inv-loop words bytes first path found₀ r₀ left₀ found r left = containsNode path (readDefs words bytes first) ≡ foundFrom (nodeAt path) (deletes path) found (map (defAt words bytes) (chainFrom left words r))
+Inv-loop words bytes first path found₀ r₀ left₀ found r left = containsNode path (readDefs words bytes first) ≡ foundFrom (nodeAt path)
+    (deletes path) found (map (defAt words bytes) (chainFrom left words r))
 
 abbrev μ-loop : tie.MeasureT-loop
 μ-loop words bytes first path found₀ r₀ left₀ found r left = left
@@ -24,7 +25,8 @@ loop-holds : tie.Need-loop-holds Inv-loop μ-loop
 unfolding readDefs chainOf containsNode
 loop-holds c =
     let a = c .before .before .before .before .args in
-    live-found-at (nodes-at (a .path .now)) (map (defAt (a .words .now) (a .bytes .now)) (chainFrom (logCount (a .words .now)) (a .words .now) (a .first))) ∙ rw (c .log-count .ensures) refl
+    live-found-at (nodes-at (a .path .now)) (map (defAt (a .words .now) (a .bytes .now))
+    (chainFrom (logCount (a .words .now)) (a .words .now) (a .first))) ∙ rw (c .log-count .ensures) refl
 
 goes-on-requires : tie.Need-goes-on-requires Inv-loop μ-loop
 goes-on-requires c κs = search needs
@@ -38,24 +40,32 @@ next-of-requires c κs = search needs
 sub-left : tie.Need-sub-left Inv-loop μ-loop
 sub-left c =
     let l = c .before .before .before .before .loop in
-    goes-left (c .before .before .before .before .before .before .before .before .before .args .words .now) (l .r) (l .left) (sym (c .before .before .before .goes-on .ensures) ∙ c .before .before .if1 .taken)
+    goes-left (c .before .before .before .before .before .before .before .before .before .args .words .now) (l .r) (l .left)
+    (sym (c .before .before .before .goes-on .ensures) ∙ c .before .before .if1 .taken)
 
 loop-less : tie.Need-loop-less Inv-loop μ-loop
 loop-less c =
     let l = c .before .before .before .before .loop in
-    omega (arith, goes-left (c .before .before .before .before .before .before .before .before .before .args .words .now) (l .r) (l .left) (sym (c .before .before .before .goes-on .ensures) ∙ c .before .before .if1 .taken))
+    omega (
+      arith,
+      goes-left (c .before .before .before .before .before .before .before .before .before .args .words .now) (l .r) (l .left)
+          (sym (c .before .before .before .goes-on .ensures) ∙ c .before .before .if1 .taken),
+    )
 
 loop-again : tie.Need-loop-again Inv-loop μ-loop
 loop-again c =
     let a = c .before .before .before .before .before .before .before .before .before .args in
     let l = c .before .before .before .before .loop in
-    found-step (defAt (a .words .now) (a .bytes .now)) (nodeAt (a .path .now)) (deletes (a .path .now)) (a .words .now) (l .r) (l .left) (l .found) _ (l .inv) (sym (c .before .before .before .goes-on .ensures) ∙ c .before .before .if1 .taken) _ (c .before .contains-node-after .ensures) _ (c .next-of .ensures)
+    found-step (defAt (a .words .now) (a .bytes .now)) (nodeAt (a .path .now)) (deletes (a .path .now)) (a .words .now) (l .r) (l .left)
+    (l .found) _ (l .inv) (sym (c .before .before .before .goes-on .ensures) ∙ c .before .before .if1 .taken) _
+    (c .before .contains-node-after .ensures) _ (c .next-of .ensures)
 
 returns : tie.Need-returns Inv-loop μ-loop
 returns c =
     let a = c .before .before .before .before .before .before .before .args in
     let l = c .before .before .loop in
-    found-end (defAt (a .words .now) (a .bytes .now)) (nodeAt (a .path .now)) (deletes (a .path .now)) (a .words .now) (l .r) (l .left) (l .found) _ (l .inv) (sym (c .before .goes-on .ensures) ∙ c .if1 .left)
+    found-end (defAt (a .words .now) (a .bytes .now)) (nodeAt (a .path .now)) (deletes (a .path .now)) (a .words .now) (l .r) (l .left)
+    (l .found) _ (l .inv) (sym (c .before .goes-on .ensures) ∙ c .if1 .left)
 
 pub contains-node-in-spec : {M : Type 1} → statement M
 contains-node-in-spec =

@@ -1,8 +1,8 @@
 -- A base above the path makes no difference (Fold: live-base).
 use mathlib.Core.Path.{refl, sym, _∙_}
 use borrow.Author.Tests.{not-true, not-false}
-use Rattle.paths_numbers.specs.Path.{joined}
-use Rattle.log.specs.ReadBack.{readDefs}
+use Rattle.paths_numbers.specs.meaning.Path.{joined}
+use Rattle.log.specs.meaning.ReadBack.{readDefs}
 use Rattle.queries.proofs.Fold.{labels-at, live-base}
 use borrow.Author.Needs.{needs}
 use Rattle.queries.proofs.mir.unbinds_path.Statement.{statement}
@@ -14,7 +14,9 @@ lies-under-path-requires c κs = search needs
 returns : tie.Need-returns
 returns c =
     let a = c .before .before .before .before .before .before .before .before .before .args in
-    sym (live-base (labels-at (a .label .now) (a .path .now)) (joined (a .parent .now) (a .name .now) (a .unit .now)) (readDefs (a .words .now) (a .bytes .now) (a .first)) ∙ rw (sym (c .before .lies-under-path .ensures) ∙ not-true _ (c .if1 .taken)) refl)
+    sym (live-base (labels-at (a .label .now) (a .path .now)) (joined (a .parent .now) (a .name .now) (a .unit .now))
+    (readDefs (a .words .now) (a .bytes .now) (a .first)) ∙ rw (sym (c .before .lies-under-path .ensures) ∙ not-true _ (c .if1 .taken))
+    refl)
 
 unbinds-in-requires : tie.Need-unbinds-in-requires
 unbinds-in-requires c κs = search needs
@@ -22,7 +24,9 @@ unbinds-in-requires c κs = search needs
 returns-2 : tie.Need-returns-2
 returns-2 c =
     let a = c .before .before .before .before .before .before .before .before .before .before .args in
-    c .unbinds-in .ensures ∙ sym (live-base (labels-at (a .label .now) (a .path .now)) (joined (a .parent .now) (a .name .now) (a .unit .now)) (readDefs (a .words .now) (a .bytes .now) (a .first)) ∙ rw (sym (c .before .before .lies-under-path .ensures) ∙ not-false _ (c .before .if1 .left)) refl)
+    c .unbinds-in .ensures ∙ sym (live-base (labels-at (a .label .now) (a .path .now))
+    (joined (a .parent .now) (a .name .now) (a .unit .now)) (readDefs (a .words .now) (a .bytes .now) (a .first))
+    ∙ rw (sym (c .before .before .lies-under-path .ensures) ∙ not-false _ (c .before .if1 .left)) refl)
 
 pub unbinds-path-spec : {M : Type 1} → statement M
 unbinds-path-spec =

@@ -23,13 +23,15 @@ contains-node-in-requires c κs = search needs
 returns-2 : tie.Need-returns-2
 returns-2 c =
     let a = c .before .before .before .before .before .before .before .before .before .args in
-    contains-answered (a .words .now) (a .bytes .now) (a .path .now) _ _ _ _ (c .before .before .before .before .before .refused .ensures) (c .before .before .before .if1 .left) (c .before .before .out-field .ensures)
+    contains-answered (a .words .now) (a .bytes .now) (a .path .now) _ _ _ _ (c .before .before .before .before .before .refused .ensures)
+    (c .before .before .before .if1 .left) (c .before .before .out-field .ensures)
     (c .before .contains-node-in .ensures) (rw (c .if2 .taken) refl)
 
 returns-3 : tie.Need-returns-3
 returns-3 c =
     let a = c .before .before .before .before .before .before .before .before .before .args in
-    contains-answered (a .words .now) (a .bytes .now) (a .path .now) _ _ _ _ (c .before .before .before .before .before .refused .ensures) (c .before .before .before .if1 .left) (c .before .before .out-field .ensures)
+    contains-answered (a .words .now) (a .bytes .now) (a .path .now) _ _ _ _ (c .before .before .before .before .before .refused .ensures)
+    (c .before .before .before .if1 .left) (c .before .before .out-field .ensures)
     (c .before .contains-node-in .ensures) (rw (c .if2 .left) refl)
 
 pub contains-node-spec : {M : Type 1} → statement M

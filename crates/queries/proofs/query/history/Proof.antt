@@ -1,8 +1,8 @@
 -- Rows 8 and 9 first, then row 10 (Answers).
 use mathlib.Core.Path.{ap, _∙_}
 use lib.ListN.{length}
-use Rattle.queries.specs.Query.{historyAnswers}
-use Rattle.queries.specs.Table.{fitted}
+use Rattle.queries.specs.meaning.Query.{historyAnswers}
+use Rattle.queries.specs.machine.Table.{fitted}
 use Rattle.queries.proofs.Answers.{refused-answer, refused-out, listed-answer, fitted-out, history-of}
 use borrow.Author.Needs.{needs}
 use Rattle.queries.proofs.query.history.Statement.{statement}
@@ -15,8 +15,11 @@ returns : tie.Need-returns
 returns c =
     let a = c .before .before .before .before .before .before .before .args in
     let x = historyAnswers (a .words .now) (a .bytes .now) (a .path .now) in
-    let e = c .before .before .refused .ensures in
-    (refused-answer (a .words .now) (a .bytes .now) (a .path .now) (a .list .now) x _ e (c .if1 .taken), refused-out (a .words .now) (a .bytes .now) (a .path .now) (a .list .now) x _ e (c .if1 .taken))
+    let e = c .before .before .refused .ensures in (
+      refused-answer (a .words .now) (a .bytes .now) (a .path .now) (a .list .now) x _ e (c .if1 .taken),
+      refused-out (a .words .now)
+          (a .bytes .now) (a .path .now) (a .list .now) x _ e (c .if1 .taken),
+    )
 
 out-field-requires : tie.Need-out-field-requires
 out-field-requires c κs = search needs
@@ -37,7 +40,8 @@ returns-2 c =
     let e = c .before .before .before .before .before .before .before .before .refused .ensures in
     let n = c .before .before .before .before .before .before .if1 .left in
     let l = c .before .before .before .history-list in (
-      listed-answer (a .words .now) (a .bytes .now) (a .path .now) (a .list .now) _ _ e _ _ _ n (l .ensures .0 ∙ ap length of) (l .kept .1 .1 .1 .1 .0) (c .list-answer .ensures),
+      listed-answer (a .words .now) (a .bytes .now) (a .path .now) (a .list .now) _ _ e _ _ _ n (l .ensures .0 ∙ ap length of)
+          (l .kept .1 .1 .1 .1 .0) (c .list-answer .ensures),
       fitted-out (a .words .now) (a .bytes .now) (a .path .now) (a .list .now) _ _ e _ n (l .ensures .1 ∙ ap (fitted (a .list .now)) of),
     )
 

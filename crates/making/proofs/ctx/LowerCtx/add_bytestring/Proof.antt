@@ -30,7 +30,8 @@ with-part-requires c κs = search needs
 
 returns : tie.Need-returns
 returns c =
-    let o = count-missing (c .before .before .before .before .before .before .args .text .now) (sym (c .before .before .bytestring-len .ensures) ∙ c .enum-told .given .1) in
+    let o = count-missing (c .before .before .before .before .before .before .args .text .now)
+    (sym (c .before .before .bytestring-len .ensures) ∙ c .enum-told .given .1) in
     record { even = λ e. absurd (not-both o e); odd = λ e. (refl, refl, refl) }
 
 same-length : tie.Need-same-length
@@ -41,9 +42,17 @@ same-length-2 c = search needs
 
 returns-2 : tie.Need-returns-2
 returns-2 c =
-    let n = count-bytes (c .before .before .before .before .before .before .before .before .before .before .before .before .before .before .before .before .args .text .now) _ (sym (c .before .before .before .before .before .before .before .before .before .before .before .before .bytestring-len .ensures) ∙ c .before .before .before .before .before .before .before .before .before .before .enum-told2 .given .1) in
+    let n = count-bytes
+    (c .before .before .before .before .before .before .before .before .before .before .before .before .before .before .before
+    .before .args .text .now) _ (sym
+    (c .before .before .before .before .before .before .before .before .before .before .before .before .bytestring-len .ensures)
+    ∙ c .before .before .before .before .before .before .before .before .before .before .enum-told2 .given .1) in
     record {
-      even = λ e. makes-bytestring (c .before .before .before .before .before .before .before .before .before .before .before .before .before .before .before .before .args .text .now) e (c .before .before .before .before .before .make-bytestring .ensures .even e) (c .before .before .before .before .before .before .part-rec .ensures) (c .before .before .before .before .before .before .before .before .before .child-link .ensures) (c .with-part .ensures);
+      even = λ e. makes-bytestring
+          (c .before .before .before .before .before .before .before .before .before .before .before .before .before .before .before .before
+          .args .text .now) e (c .before .before .before .before .before .make-bytestring .ensures .even e)
+          (c .before .before .before .before .before .before .part-rec .ensures)
+          (c .before .before .before .before .before .before .before .before .before .child-link .ensures) (c .with-part .ensures);
       odd = λ e. absurd (not-both e (n .0));
     }
 

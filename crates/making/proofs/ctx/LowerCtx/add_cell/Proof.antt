@@ -19,7 +19,13 @@ same-length-2 : tie.Need-same-length-2
 same-length-2 c = search needs
 
 returns : tie.Need-returns
-returns c = record { made = c .before .before .before .before .before .make .result; told = rw (c .before .before .before .before .before .before .before .before .child-link .ensures) at (c .before .before .before .before .before .make .ensures); state = c .with-cell .ensures }
+returns c = record {
+  made = c .before .before .before .before .before .make .result;
+  told = rw
+      (c .before .before .before .before .before .before .before .before .child-link .ensures) at
+      (c .before .before .before .before .before .make .ensures);
+  state = c .with-cell .ensures;
+}
 
 pub add-cell-spec : {M : Type 1} → statement M
 add-cell-spec =

@@ -24,7 +24,9 @@ same-length-2 : tie.Need-same-length-2
 same-length-2 c = search needs
 
 returns : tie.Need-returns
-returns c = makes-cell-list (c .before .before .before .before .add-part .ensures) (c .before .before .before .before .before .before .before .before .before .before .before .before .args .width) refl refl (c .before .before .before .before .before .before .before .part-rec .ensures)
+returns c = makes-cell-list (c .before .before .before .before .add-part .ensures)
+    (c .before .before .before .before .before .before .before .before .before .before .before .before .args .width) refl refl
+    (c .before .before .before .before .before .before .before .part-rec .ensures)
 
 pub add-cell-list-spec : {M : Type 1} → statement M
 add-cell-list-spec =

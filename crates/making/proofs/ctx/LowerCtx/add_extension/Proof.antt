@@ -29,7 +29,15 @@ same-length-2 c = search needs
 
 returns : tie.Need-returns
 returns c =
-    record { made = c .before .before .before .before .before .make .result; told = rw (c .before .before .before .before .before .before .before .before .before .before .before .end-link .ensures, c .before .before .before .before .before .before .before .before .before .before .spanned-rec .ensures) at (c .before .before .before .before .before .make .ensures); state = c .with-ext .ensures }
+    record {
+      made = c .before .before .before .before .before .make .result;
+      told = rw (
+        c .before .before .before .before .before .before .before .before .before .before .before .end-link .ensures,
+        c .before .before .before .before .before .before .before .before .before .before .spanned-rec .ensures,
+      ) at
+          (c .before .before .before .before .before .make .ensures);
+      state = c .with-ext .ensures;
+    }
 
 pub add-extension-spec : {M : Type 1} → statement M
 add-extension-spec =

@@ -24,7 +24,9 @@ same-length-2 : tie.Need-same-length-2
 same-length-2 c = search needs
 
 returns : tie.Need-returns
-returns c = let a = c .before .before .before .before .before .before .before .before .before .before .before .before .args in makes-number (c .before .before .before .before .add-cell .ensures) (a .low) (a .high) refl refl (c .before .before .before .before .before .before .before .part-rec .ensures)
+returns c = let a = c .before .before .before .before .before .before .before .before .before .before .before .before .args in makes-number
+    (c .before .before .before .before .add-cell .ensures) (a .low) (a .high) refl refl
+    (c .before .before .before .before .before .before .before .part-rec .ensures)
 
 pub add-number-spec : {M : Type 1} → statement M
 add-number-spec =

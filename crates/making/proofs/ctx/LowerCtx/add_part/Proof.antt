@@ -20,7 +20,13 @@ same-length-2 : tie.Need-same-length-2
 same-length-2 c = search needs
 
 returns : tie.Need-returns
-returns c = record { made = c .before .before .before .before .before .make .result; told = rw (c .before .before .before .before .before .before .before .before .child-link .ensures) at (c .before .before .before .before .before .make .ensures); state = c .with-part .ensures }
+returns c = record {
+  made = c .before .before .before .before .before .make .result;
+  told = rw
+      (c .before .before .before .before .before .before .before .before .child-link .ensures) at
+      (c .before .before .before .before .before .make .ensures);
+  state = c .with-part .ensures;
+}
 
 pub add-part-spec : {M : Type 1} → statement M
 add-part-spec =

@@ -26,7 +26,11 @@ same-length-2 : tie.Need-same-length-2
 same-length-2 c = search needs
 
 returns : tie.Need-returns
-returns c = let a = c .before .before .before .before .before .before .before .before .before .before .before .before .before .before .before .args in makes-phandle (c .before .before .before .before .add-part .ensures) (a .kind) _ _ _ (c .before .before .before .before .before .before .before .before .before .part-rec .ensures) (c .before .before .before .before .before .before .before .before .before .before .target-number .ensures) (c .before .before .before .before .before .before .label-of .ensures) (c .before .before .before .before .before .path-of .ensures)
+returns c = let a = c .before .before .before .before .before .before .before .before .before .before .before .before .before .before
+    .before .args in makes-phandle (c .before .before .before .before .add-part .ensures) (a .kind) _ _ _
+    (c .before .before .before .before .before .before .before .before .before .part-rec .ensures)
+    (c .before .before .before .before .before .before .before .before .before .before .target-number .ensures)
+    (c .before .before .before .before .before .before .label-of .ensures) (c .before .before .before .before .before .path-of .ensures)
 
 pub add-phandle-spec : {M : Type 1} → statement M
 add-phandle-spec =

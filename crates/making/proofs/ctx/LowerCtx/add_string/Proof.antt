@@ -27,7 +27,8 @@ same-length-2 : tie.Need-same-length-2
 same-length-2 c = search needs
 
 returns : tie.Need-returns
-returns c = makes-string (c .before .before .before .before .add-part .ensures) refl (c .before .before .before .before .before .before .part-rec .ensures)
+returns c = makes-string (c .before .before .before .before .add-part .ensures) refl
+    (c .before .before .before .before .before .before .part-rec .ensures)
 
 pub add-string-spec : {M : Type 1} → statement M
 add-string-spec =

@@ -1,8 +1,8 @@
 -- A record made below another.
 use mathlib.Core.Path.{_≡_, ap, _∙_}
 use Prim.Native.Nat.{ℕ}
-use Rattle.log.specs.Record.{referenceKind}
-use Rattle.making.specs.Recs.{partRec}
+use Rattle.log.specs.meaning.Record.{referenceKind}
+use Rattle.making.specs.machine.Recs.{partRec}
 use borrow.Author.Needs.{needs}
 use Rattle.making.proofs.ctx.LowerCtx.add_target.Statement.{statement}
 use Rattle.making.proofs.ctx.LowerCtx.add_target.Tie as tie
@@ -33,7 +33,14 @@ same-length-2 c = search needs
 
 returns : tie.Need-returns
 returns c =
-    rw (c .before .before .before .before .before .before .before .before .before .before .before .child-link .ensures, c .before .before .before .before .before .before .before .before .before .part-rec .ensures, c .before .before .before .before .before .before .before .before .before .before .target-number .ensures, c .before .before .before .before .before .before .label-of .ensures, c .before .before .before .before .before .path-of .ensures) at (c .before .before .before .before .make .ensures)
+    rw (
+      c .before .before .before .before .before .before .before .before .before .before .before .child-link .ensures,
+      c .before .before .before .before .before .before .before .before .before .part-rec .ensures,
+      c .before .before .before .before .before .before .before .before .before .before .target-number .ensures,
+      c .before .before .before .before .before .before .label-of .ensures,
+      c .before .before .before .before .before .path-of .ensures,
+    )
+    at (c .before .before .before .before .make .ensures)
 
 pub add-target-spec : {M : Type 1} → statement M
 add-target-spec =

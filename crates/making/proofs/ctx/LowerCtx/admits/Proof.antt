@@ -21,7 +21,8 @@ has-room-requires c κs = search needs
 returns-3 : tie.Need-returns-3
 returns-3 c =
     let a = c .before .before .before .before .before .args in
-    c .has-room .ensures ∙ makes-room (a .self) (a .words .now) (a .bytes .now) (a .size) (a .link) (c .before .before .if1 .left) (c .before .if2 .left)
+    c .has-room .ensures ∙ makes-room (a .self) (a .words .now) (a .bytes .now) (a .size) (a .link) (c .before .before .if1 .left)
+    (c .before .if2 .left)
 
 pub admits-spec : {M : Type 1} → statement M
 admits-spec = tie.close (tie.spec returns returns-2 has-room-requires returns-3)

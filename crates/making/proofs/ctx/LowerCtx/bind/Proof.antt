@@ -23,7 +23,10 @@ same-length-2 : tie.Need-same-length-2
 same-length-2 c = search needs
 
 returns : tie.Need-returns
-returns c = makes-binding (c .before .before .before .before .before .make-bound .ensures) (c .before .before .before .before .before .before .before .before .before .before .before .before .before .args .span) (c .before .before .before .before .before .before .before .before .spanned-rec .ensures) (c .before .before .before .before .before .before .before .before .before .end-link .ensures) (c .with-bind .ensures)
+returns c = makes-binding (c .before .before .before .before .before .make-bound .ensures)
+    (c .before .before .before .before .before .before .before .before .before .before .before .before .before .args .span)
+    (c .before .before .before .before .before .before .before .before .spanned-rec .ensures)
+    (c .before .before .before .before .before .before .before .before .before .end-link .ensures) (c .with-bind .ensures)
 
 pub bind-spec : {M : Type 1} → statement M
 bind-spec =

@@ -1,6 +1,6 @@
 -- Field by field.
 use mathlib.Core.Path.{refl}
-use Rattle.making.specs.Made.{checked}
+use Rattle.making.specs.machine.Made.{checked}
 use Rattle.making.proofs.ctx.LowerCtx.checked.Statement.{statement}
 use Rattle.making.proofs.ctx.LowerCtx.checked.Tie as tie
 

@@ -1,6 +1,6 @@
 -- Field by field.
 use mathlib.Core.Path.{refl}
-use Rattle.making.specs.Made.{oneMore}
+use Rattle.making.specs.machine.Made.{oneMore}
 use borrow.Author.Needs.{needs}
 use Rattle.making.proofs.ctx.LowerCtx.count_one.Statement.{statement}
 use Rattle.making.proofs.ctx.LowerCtx.count_one.Tie as tie

@@ -30,7 +30,12 @@ same-length-2 : tie.Need-same-length-2
 same-length-2 c = search needs
 
 returns : tie.Need-returns
-returns c = let a = c .before .before .before .before .before .before .before .before .before .before .before .before .before .before .args in makes-def (c .before .before .before .before .before .make-copied .ensures) (a .kind) (a .span) (a .name-span) _ _ refl (c .before .before .before .before .before .before .before .before .spanned-rec .ensures) (c .before .before .before .before .before .before .before .before .before .before .kind-number .ensures) (c .before .before .before .before .before .before .before .before .before .omit-number .ensures) (c .before .before .before .before .before .before .before .before .before .before .before .end-link .ensures) (c .with-def .ensures)
+returns c = let a = c .before .before .before .before .before .before .before .before .before .before .before .before .before .before
+    .args in makes-def (c .before .before .before .before .before .make-copied .ensures) (a .kind) (a .span) (a .name-span) _ _ refl
+    (c .before .before .before .before .before .before .before .before .spanned-rec .ensures)
+    (c .before .before .before .before .before .before .before .before .before .before .kind-number .ensures)
+    (c .before .before .before .before .before .before .before .before .before .omit-number .ensures)
+    (c .before .before .before .before .before .before .before .before .before .before .before .end-link .ensures) (c .with-def .ensures)
 
 pub define-at-spec : {M : Type 1} → statement M
 define-at-spec =

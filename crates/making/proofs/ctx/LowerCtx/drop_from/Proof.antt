@@ -18,7 +18,11 @@ same-length-2 : tie.Need-same-length-2
 same-length-2 c = search needs
 
 returns-2 : tie.Need-returns-2
-returns-2 c = record { going = λ s. c .before .before .before .before .drop-records .ensures; over = λ s. absurd (not-both s (c .before .before .before .before .before .before .before .if1 .left)) }
+returns-2 c = record {
+  going = λ s. c .before .before .before .before .drop-records .ensures;
+  over = λ s. absurd
+      (not-both s (c .before .before .before .before .before .before .before .if1 .left));
+}
 
 pub drop-from-spec : {M : Type 1} → statement M
 drop-from-spec =

@@ -33,7 +33,10 @@ same-length-2 : tie.Need-same-length-2
 same-length-2 c = search needs
 
 returns : tie.Need-returns
-returns c = let a = c .before .before .before .before .before .before .before .before .before .before .before .before .before .before .args in makes-diag (c .before .before .before .before .before .make .ensures) (a .code) (a .span) (a .name-span) refl (c .before .before .before .before .before .before .before .before .before .spanned-rec .ensures) (c .before .before .before .before .before .before .before .before .before .before .end-link .ensures) (c .with-diag .ensures)
+returns c = let a = c .before .before .before .before .before .before .before .before .before .before .before .before .before .before
+    .args in makes-diag (c .before .before .before .before .before .make .ensures) (a .code) (a .span) (a .name-span) refl
+    (c .before .before .before .before .before .before .before .before .before .spanned-rec .ensures)
+    (c .before .before .before .before .before .before .before .before .before .before .end-link .ensures) (c .with-diag .ensures)
 
 pub emit-spec : {M : Type 1} → statement M
 emit-spec =

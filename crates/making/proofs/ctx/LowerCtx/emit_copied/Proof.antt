@@ -29,7 +29,8 @@ returns c =
     let a = c .before .before .before .before .before .before .before .before .before .before .before .before .args in
     let told = c .before .before .before .before .before .make-copied .ensures in
     let link = c .before .before .before .before .before .before .before .before .before .end-link .ensures in (
-      makes-diag told (a .code) (a .span) (a .name-span) refl (c .before .before .before .before .before .before .before .before .spanned-rec .ensures) link (c .with-diag .ensures),
+      makes-diag told (a .code) (a .span) (a .name-span) refl
+          (c .before .before .before .before .before .before .before .before .spanned-rec .ensures) link (c .with-diag .ensures),
       emit-keeps told link (c .with-diag .ensures),
     )
 

@@ -28,7 +28,8 @@ returns : tie.Need-returns
 returns c = let a = c .before .before .before .before .before .before .before .before .before .before .before .before .args in
     let told = c .before .before .before .before .before .make-joined-at .ensures in
     let link = c .before .before .before .before .before .before .before .before .before .end-link .ensures in (
-      makes-diag told (a .code) (a .span) _ refl (c .before .before .before .before .before .before .before .before .spanned-rec .ensures) link (c .with-diag .ensures),
+      makes-diag told (a .code) (a .span) _ refl (c .before .before .before .before .before .before .before .before .spanned-rec .ensures)
+          link (c .with-diag .ensures),
       emit-keeps told link (c .with-diag .ensures),
     )
 

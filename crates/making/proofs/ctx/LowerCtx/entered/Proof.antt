@@ -1,6 +1,6 @@
 -- Field by field.
 use mathlib.Core.Path.{refl}
-use Rattle.making.specs.Made.{entered}
+use Rattle.making.specs.machine.Made.{entered}
 use borrow.Author.Needs.{needs}
 use Rattle.making.proofs.ctx.LowerCtx.entered.Statement.{statement}
 use Rattle.making.proofs.ctx.LowerCtx.entered.Tie as tie

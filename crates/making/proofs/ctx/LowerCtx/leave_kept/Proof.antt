@@ -21,8 +21,11 @@ same-length-2 c = search needs
 
 returns : tie.Need-returns
 returns c =
-    let a = c .before .before .before .before .before .before .before .before .before .before .before .before .before .before .before .before .before .before .before .args in
-    keeps-body (a .span) (a .name-span) (a .kind) _ _ (c .before .before .before .before .before .before .before .before .before .before .before .before .add-extension .ensures) (c .before .before .before .before .before .add-target .ensures) (c .left-kept .ensures)
+    let a = c .before .before .before .before .before .before .before .before .before .before .before .before .before .before .before
+    .before .before .before .before .args in
+    keeps-body (a .span) (a .name-span) (a .kind) _ _
+    (c .before .before .before .before .before .before .before .before .before .before .before .before .add-extension .ensures)
+    (c .before .before .before .before .before .add-target .ensures) (c .left-kept .ensures)
 
 pub leave-kept-spec : {M : Type 1} → statement M
 leave-kept-spec =

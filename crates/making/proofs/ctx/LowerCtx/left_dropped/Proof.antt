@@ -1,6 +1,6 @@
 -- Field by field.
 use mathlib.Core.Path.{refl}
-use Rattle.making.specs.Made.{leftDropped}
+use Rattle.making.specs.machine.Made.{leftDropped}
 use Rattle.making.proofs.ctx.LowerCtx.left_dropped.Statement.{statement}
 use Rattle.making.proofs.ctx.LowerCtx.left_dropped.Tie as tie
 

@@ -1,6 +1,6 @@
 -- Field by field.
 use mathlib.Core.Path.{refl}
-use Rattle.making.specs.Made.{leftKept}
+use Rattle.making.specs.machine.Made.{leftKept}
 use Rattle.making.proofs.ctx.LowerCtx.left_kept.Statement.{statement}
 use Rattle.making.proofs.ctx.LowerCtx.left_kept.Tie as tie
 

@@ -29,7 +29,8 @@ returns c =
     let a = k .args in
     let x = a .first .now in
     let y = a .second .now in
-    tested-none (a .self) (a .words .now) (a .bytes .now) (a .rec) x y (a .link) (length x + length y) refl _ (c .before .before .admits .ensures) _ (c .before .if1 .taken) (c .run-short .ensures)
+    tested-none (a .self) (a .words .now) (a .bytes .now) (a .rec) x y (a .link) (length x + length y) refl _
+    (c .before .before .admits .ensures) _ (c .before .if1 .taken) (c .run-short .ensures)
 
 cast-write-two : tie.Need-cast-write-two
 cast-write-two c = search needs
@@ -40,7 +41,8 @@ write-two-requires c κs =
     let a = k .args in
     let x = a .first .now in
     let y = a .second .now in
-    let r = tested-room (a .self) (a .words .now) (a .bytes .now) (a .rec) x y (a .link) (length x + length y) refl _ (c .before .before .before .admits .ensures) (c .before .before .if1 .left) in
+    let r = tested-room (a .self) (a .words .now) (a .bytes .now) (a .rec) x y (a .link) (length x + length y) refl _
+    (c .before .before .before .admits .ensures) (c .before .before .if1 .left) in
     omega (arith, r .bytesFit)
 
 cast-put : tie.Need-cast-put
@@ -49,7 +51,9 @@ cast-put c =
     let a = k .args in
     let x = a .first .now in
     let y = a .second .now in
-    let r = tested-room (a .self) (a .words .now) (a .bytes .now) (a .rec) x y (a .link) (length x + length y) refl _ (c .before .before .before .before .before .before .before .admits .ensures) (c .before .before .before .before .before .before .if1 .left) in
+    let r = tested-room (a .self) (a .words .now) (a .bytes .now) (a .rec) x y (a .link) (length x + length y) refl _
+    (c .before .before .before .before .before .before .before .admits .ensures)
+    (c .before .before .before .before .before .before .if1 .left) in
     omega (arith, r .bytesMost)
 
 cast-put-2 : tie.Need-cast-put-2
@@ -58,7 +62,9 @@ cast-put-2 c =
     let a = k .args in
     let x = a .first .now in
     let y = a .second .now in
-    let r = tested-room (a .self) (a .words .now) (a .bytes .now) (a .rec) x y (a .link) (length x + length y) refl _ (c .before .before .before .before .before .before .before .admits .ensures) (c .before .before .before .before .before .before .if1 .left) in
+    let r = tested-room (a .self) (a .words .now) (a .bytes .now) (a .rec) x y (a .link) (length x + length y) refl _
+    (c .before .before .before .before .before .before .before .admits .ensures)
+    (c .before .before .before .before .before .before .if1 .left) in
     omega (arith, r .bytesMost)
 
 put-requires : tie.Need-put-requires
@@ -67,7 +73,9 @@ put-requires c κs =
     let a = k .args in
     let x = a .first .now in
     let y = a .second .now in
-    let r = tested-room (a .self) (a .words .now) (a .bytes .now) (a .rec) x y (a .link) (length x + length y) refl _ (c .before .before .before .before .before .before .before .admits .ensures) (c .before .before .before .before .before .before .if1 .left) in
+    let r = tested-room (a .self) (a .words .now) (a .bytes .now) (a .rec) x y (a .link) (length x + length y) refl _
+    (c .before .before .before .before .before .before .before .admits .ensures)
+    (c .before .before .before .before .before .before .if1 .left) in
     (r .recordsFit, r .linkFits, r .bytesMost)
 
 same-length-3 : tie.Need-same-length-3
@@ -78,11 +86,16 @@ same-length-4 c = search needs
 
 returns-2 : tie.Need-returns-2
 returns-2 c =
-    let k = c .before .before .before .before .before .before .before .before .before .before .before .before .before .before .before .before .before in
+    let k = c .before .before .before .before .before .before .before .before .before .before .before .before .before .before .before
+    .before .before in
     let a = k .args in
     let x = a .first .now in
     let y = a .second .now in
-    tested-made (a .self) (a .words .now) (a .bytes .now) (a .rec) x y (a .link) (length x + length y) refl _ (c .before .before .before .before .before .before .before .before .before .before .admits .ensures) _ _ _ (length x) (length y) (c .before .before .before .before .before .before .before .before .before .if1 .left) refl refl (c .before .before .put .ensures .0) (c .before .before .put .ensures .1) (c .before .before .before .before .before .before .write-two .ensures)
+    tested-made (a .self) (a .words .now) (a .bytes .now) (a .rec) x y (a .link) (length x + length y) refl _
+    (c .before .before .before .before .before .before .before .before .before .before .admits .ensures) _ _ _ (length x) (length y)
+    (c .before .before .before .before .before .before .before .before .before .if1 .left) refl refl
+    (c .before .before .put .ensures .0) (c .before .before .put .ensures .1)
+    (c .before .before .before .before .before .before .write-two .ensures)
 
 pub make-spec : {M : Type 1} → statement M
 make-spec =

@@ -5,10 +5,10 @@ use mathlib.Core.List.{[], append-nil}
 use native.Mathlib.Nat.{add-zero}
 use native.Mathlib.Omega.{arith}
 use lib.ListN.{length}
-use Rattle.paths_numbers.specs.Bytestring.{bytesOf}
+use Rattle.paths_numbers.specs.meaning.Bytestring.{bytesOf}
 use Rattle.paths_numbers.proofs.Texts.{not-both}
 use Rattle.paths_numbers.proofs.Bytestring.{count-missing, count-bytes, lowered-room}
-use Rattle.making.specs.Made.{makes}
+use Rattle.making.specs.machine.Made.{makes}
 use Rattle.making.proofs.Told.{tested-none, tested-room, tested-made}
 use borrow.Author.Needs.{needs}
 use Rattle.making.proofs.ctx.LowerCtx.make_bytestring.Statement.{statement}
@@ -40,10 +40,15 @@ returns c =
     let k = c .before .before .before .before .before .before .before .before .before .before .before .before in
     let a = k .args in
     let x = bytesOf (a .text .now) in
-    let e = sym (c .before .before .before .before .before .before .before .before .bytestring-len .ensures) ∙ c .before .before .before .before .before .before .size .given .1 in
+    let e = sym (c .before .before .before .before .before .before .before .before .bytestring-len .ensures)
+    ∙ c .before .before .before .before .before .before .size .given .1 in
     let n = count-bytes (a .text .now) _ e in
     let same = ap (λ (i : ℕ). makes (a .self) (a .words .now) (a .bytes .now) i (a .link)) (sym (add-zero (length x) ∙ n .1)) in
-    record { even = λ o. tested-none (a .self) (a .words .now) (a .bytes .now) (a .rec) x [] (a .link) _ same _ (c .before .before .admits .ensures) _ (c .before .if1 .taken) (c .run-short .ensures); odd = λ o. absurd (not-both o (n .0)) }
+    record {
+      even = λ o. tested-none (a .self) (a .words .now) (a .bytes .now) (a .rec) x [] (a .link) _ same _
+          (c .before .before .admits .ensures) _ (c .before .if1 .taken) (c .run-short .ensures);
+      odd = λ o. absurd (not-both o (n .0));
+    }
 
 cast-lower-bytestring : tie.Need-cast-lower-bytestring
 cast-lower-bytestring c = search needs
@@ -53,24 +58,34 @@ lower-bytestring-requires c κs = search needs
 
 cast-put : tie.Need-cast-put
 cast-put c =
-    let k = c .before .before .before .before .before .before .before .before .before .before .before .before .before .before .before .before .before in
+    let k = c .before .before .before .before .before .before .before .before .before .before .before .before .before .before .before
+    .before .before in
     let a = k .args in
     let x = bytesOf (a .text .now) in
-    let e = sym (c .before .before .before .before .before .before .before .before .before .before .before .before .before .bytestring-len .ensures) ∙ c .before .before .before .before .before .before .before .before .before .before .before .size .given .1 in
+    let e = sym
+    (c .before .before .before .before .before .before .before .before .before .before .before .before .before .bytestring-len
+    .ensures) ∙ c .before .before .before .before .before .before .before .before .before .before .before .size .given .1 in
     let n = count-bytes (a .text .now) _ e in
     let same = ap (λ (i : ℕ). makes (a .self) (a .words .now) (a .bytes .now) i (a .link)) (sym (add-zero (length x) ∙ n .1)) in
-    let r = tested-room (a .self) (a .words .now) (a .bytes .now) (a .rec) x [] (a .link) _ same _ (c .before .before .before .before .before .before .before .admits .ensures) (c .before .before .before .before .before .before .if1 .left) in
+    let r = tested-room (a .self) (a .words .now) (a .bytes .now) (a .rec) x [] (a .link) _ same _
+    (c .before .before .before .before .before .before .before .admits .ensures)
+    (c .before .before .before .before .before .before .if1 .left) in
     omega (arith, r .bytesMost, n .1)
 
 put-requires : tie.Need-put-requires
 put-requires c κs =
-    let k = c .before .before .before .before .before .before .before .before .before .before .before .before .before .before .before .before .before in
+    let k = c .before .before .before .before .before .before .before .before .before .before .before .before .before .before .before
+    .before .before in
     let a = k .args in
     let x = bytesOf (a .text .now) in
-    let e = sym (c .before .before .before .before .before .before .before .before .before .before .before .before .before .bytestring-len .ensures) ∙ c .before .before .before .before .before .before .before .before .before .before .before .size .given .1 in
+    let e = sym
+    (c .before .before .before .before .before .before .before .before .before .before .before .before .before .bytestring-len
+    .ensures) ∙ c .before .before .before .before .before .before .before .before .before .before .before .size .given .1 in
     let n = count-bytes (a .text .now) _ e in
     let same = ap (λ (i : ℕ). makes (a .self) (a .words .now) (a .bytes .now) i (a .link)) (sym (add-zero (length x) ∙ n .1)) in
-    let r = tested-room (a .self) (a .words .now) (a .bytes .now) (a .rec) x [] (a .link) _ same _ (c .before .before .before .before .before .before .before .admits .ensures) (c .before .before .before .before .before .before .if1 .left) in
+    let r = tested-room (a .self) (a .words .now) (a .bytes .now) (a .rec) x [] (a .link) _ same _
+    (c .before .before .before .before .before .before .before .admits .ensures)
+    (c .before .before .before .before .before .before .if1 .left) in
     (r .recordsFit, r .linkFits, omega (arith, r .bytesMost, n .1))
 
 returns-2 : tie.Need-returns-2
@@ -87,16 +102,26 @@ same-length-4 c = search needs
 
 returns-3 : tie.Need-returns-3
 returns-3 c =
-    let k = c .before .before .before .before .before .before .before .before .before .before .before .before .before .before .before .before .before .before .before .before in
+    let k = c .before .before .before .before .before .before .before .before .before .before .before .before .before .before .before
+    .before .before .before .before .before in
     let a = k .args in
     let x = bytesOf (a .text .now) in
-    let e = sym (c .before .before .before .before .before .before .before .before .before .before .before .before .before .before .before .before .bytestring-len .ensures) ∙ c .before .before .before .before .before .before .before .before .before .before .before .before .before .before .size .given .1 in
+    let e = sym
+    (c .before .before .before .before .before .before .before .before .before .before .before .before .before .before .before
+    .before .bytestring-len .ensures)
+    ∙ c .before .before .before .before .before .before .before .before .before .before .before .before .before .before .size .given
+    .1 in
     let n = count-bytes (a .text .now) _ e in
     let same = ap (λ (i : ℕ). makes (a .self) (a .words .now) (a .bytes .now) i (a .link)) (sym (add-zero (length x) ∙ n .1)) in
-    let r = tested-room (a .self) (a .words .now) (a .bytes .now) (a .rec) x [] (a .link) _ same _ (c .before .before .before .before .before .before .before .before .before .before .admits .ensures) (c .before .before .before .before .before .before .before .before .before .if1 .left) in
+    let r = tested-room (a .self) (a .words .now) (a .bytes .now) (a .rec) x [] (a .link) _ same _
+    (c .before .before .before .before .before .before .before .before .before .before .admits .ensures)
+    (c .before .before .before .before .before .before .before .before .before .if1 .left) in
     let w = lowered-room (a .text .now) (a .bytes .now) (a .self .bytes) _ e (omega (arith, r .bytesFit, n .1)) .1 in
     record {
-      even = λ o. tested-made (a .self) (a .words .now) (a .bytes .now) (a .rec) x [] (a .link) _ same _ (c .before .before .before .before .before .before .before .before .before .before .admits .ensures) _ _ _ _ 0 (c .before .before .before .before .before .before .before .before .before .if1 .left) (sym (n .1)) refl (c .before .before .put .ensures .0) (c .before .before .put .ensures .1)
+      even = λ o. tested-made (a .self) (a .words .now) (a .bytes .now) (a .rec) x [] (a .link) _ same _
+          (c .before .before .before .before .before .before .before .before .before .before .admits .ensures) _ _ _ _ 0
+          (c .before .before .before .before .before .before .before .before .before .if1 .left) (sym (n .1)) refl
+          (c .before .before .put .ensures .0) (c .before .before .put .ensures .1)
           (c .before .before .before .before .before .before .lower-bytestring .ensures .1 ∙ sym w ∙ rw append-nil refl);
       odd = λ o. absurd (not-both o (n .0));
     }

@@ -5,8 +5,8 @@ use mathlib.Core.List.{[], append-nil}
 use native.Mathlib.Omega.{arith}
 use lib.ListN.{length}
 use Rattle.making.specs.declared.place.PathAt.{PathAt}
-use Rattle.making.specs.PathPlaces.{pathOf, settled}
-use Rattle.making.specs.Made.{makes}
+use Rattle.making.specs.machine.PathPlaces.{pathOf, settled}
+use Rattle.making.specs.machine.Made.{makes}
 use Rattle.making.proofs.PathPlaces.{settled-in, path-length}
 use Rattle.making.proofs.Told.{tested-none, tested-room, tested-made}
 use borrow.Author.Needs.{needs}
@@ -44,10 +44,12 @@ returns c =
     let j : pathOf (a .bytes .now) q ≡ x = ap (λ (p : PathAt). pathOf (a .bytes .now) p) e in
     let s = settled-in (a .self .bytes) (a .bytes .now) (a .path) q e in
     let m = c .before .before .before .before .before .place-len .result in
-    let n : m ≡ length x = c .before .before .before .before .before .place-len .ensures ∙ sym (path-length (a .bytes .now) q (s .1)) ∙ ap length j in
+    let n : m ≡ length x = c .before .before .before .before .before .place-len .ensures ∙ sym (path-length (a .bytes .now) q (s .1))
+    ∙ ap length j in
     let z : m ≡ length x + 0 = omega arith in
     let same = ap (λ (i : ℕ). makes (a .self) (a .words .now) (a .bytes .now) i (a .link)) z in
-    tested-none (a .self) (a .words .now) (a .bytes .now) (a .rec) x [] (a .link) m same _ (c .before .before .admits .ensures) _ (c .before .if1 .taken) (c .run-short .ensures)
+    tested-none (a .self) (a .words .now) (a .bytes .now) (a .rec) x [] (a .link) m same _ (c .before .before .admits .ensures) _
+    (c .before .if1 .taken) (c .run-short .ensures)
 
 cast-write-path-at : tie.Need-cast-write-path-at
 cast-write-path-at c = search needs
@@ -62,10 +64,12 @@ write-path-at-requires c κs =
     let j : pathOf (a .bytes .now) q ≡ x = ap (λ (p : PathAt). pathOf (a .bytes .now) p) e in
     let s = settled-in (a .self .bytes) (a .bytes .now) (a .path) q e in
     let m = c .before .before .before .before .before .before .place-len .result in
-    let n : m ≡ length x = c .before .before .before .before .before .before .place-len .ensures ∙ sym (path-length (a .bytes .now) q (s .1)) ∙ ap length j in
+    let n : m ≡ length x = c .before .before .before .before .before .before .place-len .ensures
+    ∙ sym (path-length (a .bytes .now) q (s .1)) ∙ ap length j in
     let z : m ≡ length x + 0 = omega arith in
     let same = ap (λ (i : ℕ). makes (a .self) (a .words .now) (a .bytes .now) i (a .link)) z in
-    let r = tested-room (a .self) (a .words .now) (a .bytes .now) (a .rec) x [] (a .link) m same _ (c .before .before .before .admits .ensures) (c .before .before .if1 .left) in
+    let r = tested-room (a .self) (a .words .now) (a .bytes .now) (a .rec) x [] (a .link) m same _
+    (c .before .before .before .admits .ensures) (c .before .before .if1 .left) in
     (s .0, omega (arith, r .bytesFit, ap length j))
 
 put-requires : tie.Need-put-requires
@@ -78,10 +82,13 @@ put-requires c κs =
     let j : pathOf (a .bytes .now) q ≡ x = ap (λ (p : PathAt). pathOf (a .bytes .now) p) e in
     let s = settled-in (a .self .bytes) (a .bytes .now) (a .path) q e in
     let m = c .before .before .before .before .before .before .before .before .before .before .place-len .result in
-    let n : m ≡ length x = c .before .before .before .before .before .before .before .before .before .before .place-len .ensures ∙ sym (path-length (a .bytes .now) q (s .1)) ∙ ap length j in
+    let n : m ≡ length x = c .before .before .before .before .before .before .before .before .before .before .place-len .ensures
+    ∙ sym (path-length (a .bytes .now) q (s .1)) ∙ ap length j in
     let z : m ≡ length x + 0 = omega arith in
     let same = ap (λ (i : ℕ). makes (a .self) (a .words .now) (a .bytes .now) i (a .link)) z in
-    let r = tested-room (a .self) (a .words .now) (a .bytes .now) (a .rec) x [] (a .link) m same _ (c .before .before .before .before .before .before .before .admits .ensures) (c .before .before .before .before .before .before .if1 .left) in
+    let r = tested-room (a .self) (a .words .now) (a .bytes .now) (a .rec) x [] (a .link) m same _
+    (c .before .before .before .before .before .before .before .admits .ensures)
+    (c .before .before .before .before .before .before .if1 .left) in
     (r .recordsFit, r .linkFits, omega (arith, r .bytesMost))
 
 same-length-3 : tie.Need-same-length-3
@@ -92,18 +99,27 @@ same-length-4 c = search needs
 
 returns-2 : tie.Need-returns-2
 returns-2 c =
-    let k = c .before .before .before .before .before .before .before .before .before .before .before .before .before .before .before .before .before .before in
+    let k = c .before .before .before .before .before .before .before .before .before .before .before .before .before .before .before
+    .before .before .before in
     let a = k .args in
-    let q = c .before .before .before .before .before .before .before .before .before .before .before .before .before .before .settle .result in
-    let e = c .before .before .before .before .before .before .before .before .before .before .before .before .before .before .settle .ensures in
+    let q = c .before .before .before .before .before .before .before .before .before .before .before .before .before .before .settle
+    .result in
+    let e = c .before .before .before .before .before .before .before .before .before .before .before .before .before .before .settle
+    .ensures in
     let x = pathOf (a .bytes .now) (settled (a .self .bytes) (a .bytes .now) (a .path)) in
     let j : pathOf (a .bytes .now) q ≡ x = ap (λ (p : PathAt). pathOf (a .bytes .now) p) e in
     let s = settled-in (a .self .bytes) (a .bytes .now) (a .path) q e in
     let m = c .before .before .before .before .before .before .before .before .before .before .before .before .before .place-len .result in
-    let n : m ≡ length x = c .before .before .before .before .before .before .before .before .before .before .before .before .before .place-len .ensures ∙ sym (path-length (a .bytes .now) q (s .1)) ∙ ap length j in
+    let n : m ≡ length
+    x = c .before .before .before .before .before .before .before .before .before .before .before .before .before .place-len
+    .ensures ∙ sym (path-length (a .bytes .now) q (s .1)) ∙ ap length j in
     let z : m ≡ length x + 0 = omega arith in
     let same = ap (λ (i : ℕ). makes (a .self) (a .words .now) (a .bytes .now) i (a .link)) z in
-    tested-made (a .self) (a .words .now) (a .bytes .now) (a .rec) x [] (a .link) m same _ (c .before .before .before .before .before .before .before .before .before .before .admits .ensures) _ _ _ m 0 (c .before .before .before .before .before .before .before .before .before .if1 .left) n refl (c .before .before .put .ensures .0) (c .before .before .put .ensures .1) (c .before .before .before .before .before .before .write-path-at .ensures ∙ rw (j, append-nil) refl)
+    tested-made (a .self) (a .words .now) (a .bytes .now) (a .rec) x [] (a .link) m same _
+    (c .before .before .before .before .before .before .before .before .before .before .admits .ensures) _ _ _ m 0
+    (c .before .before .before .before .before .before .before .before .before .if1 .left) n refl (c .before .before .put .ensures .0)
+    (c .before .before .put .ensures .1) (c .before .before .before .before .before .before .write-path-at .ensures
+    ∙ rw (j, append-nil) refl)
 
 pub make-copied-spec : {M : Type 1} → statement M
 make-copied-spec =

@@ -3,9 +3,9 @@ use mathlib.Core.Path.{_≡_, refl, ap, _∙_}
 use mathlib.Core.List.{[], append-nil}
 use native.Mathlib.Omega.{arith}
 use lib.ListN.{length}
-use Rattle.paths_numbers.specs.Path.{joined}
+use Rattle.paths_numbers.specs.meaning.Path.{joined}
 use Rattle.making.specs.declared.place.PathAt.{PathAt}
-use Rattle.making.specs.PathPlaces.{pathOf, settled}
+use Rattle.making.specs.machine.PathPlaces.{pathOf, settled}
 use Rattle.making.proofs.PathPlaces.{settled-in}
 use Rattle.making.proofs.Told.{tested-none, tested-room, tested-made, makes-joined, joined-size}
 use borrow.Author.Needs.{needs}
@@ -16,7 +16,8 @@ settle-requires : tie.Need-settle-requires
 settle-requires c κs = search needs
 
 joined-len-requires : tie.Need-joined-len-requires
-joined-len-requires c κs = let a = c .before .before .before .before .before .before .before .args in settled-in (a .self .bytes) (a .bytes .now) (a .path) _ (c .before .settle .ensures) .1
+joined-len-requires c κs = let a = c .before .before .before .before .before .before .before .args in settled-in (a .self .bytes)
+    (a .bytes .now) (a .path) _ (c .before .settle .ensures) .1
 
 admits-requires : tie.Need-admits-requires
 admits-requires c κs = search needs
@@ -37,10 +38,13 @@ returns c =
     let q = c .before .before .before .before .before .before .before .settle .result in
     let e = c .before .before .before .before .before .before .before .settle .ensures in
     let x = joined (pathOf (a .bytes .now) (settled (a .self .bytes) (a .bytes .now) (a .path))) (a .name .now) (a .unit .now) in
-    let j : joined (pathOf (a .bytes .now) q) (a .name .now) (a .unit .now) ≡ x = ap (λ (p : PathAt). joined (pathOf (a .bytes .now) p) (a .name .now) (a .unit .now)) e in
+    let j : joined (pathOf (a .bytes .now) q) (a .name .now) (a .unit .now) ≡ x = ap
+    (λ (p : PathAt). joined (pathOf (a .bytes .now) p) (a .name .now) (a .unit .now)) e in
     let n = c .before .before .before .before .before .joined-len .ensures in
     let same = makes-joined (a .self) (a .words .now) (a .bytes .now) x (a .link) _ _ j n in
-    tested-none (a .self) (a .words .now) (a .bytes .now) (a .rec) x [] (a .link) (c .before .before .before .before .before .joined-len .result) same _ (c .before .before .admits .ensures) _ (c .before .if1 .taken) (c .run-short .ensures)
+    tested-none (a .self) (a .words .now) (a .bytes .now) (a .rec) x [] (a .link)
+    (c .before .before .before .before .before .joined-len .result) same _ (c .before .before .admits .ensures) _
+    (c .before .if1 .taken) (c .run-short .ensures)
 
 cast-write-joined : tie.Need-cast-write-joined
 cast-write-joined c = search needs
@@ -52,36 +56,49 @@ write-joined-requires c κs =
     let q = c .before .before .before .before .before .before .before .before .settle .result in
     let e = c .before .before .before .before .before .before .before .before .settle .ensures in
     let x = joined (pathOf (a .bytes .now) (settled (a .self .bytes) (a .bytes .now) (a .path))) (a .name .now) (a .unit .now) in
-    let j : joined (pathOf (a .bytes .now) q) (a .name .now) (a .unit .now) ≡ x = ap (λ (p : PathAt). joined (pathOf (a .bytes .now) p) (a .name .now) (a .unit .now)) e in
+    let j : joined (pathOf (a .bytes .now) q) (a .name .now) (a .unit .now) ≡ x = ap
+    (λ (p : PathAt). joined (pathOf (a .bytes .now) p) (a .name .now) (a .unit .now)) e in
     let n = c .before .before .before .before .before .before .joined-len .ensures in
     let same = makes-joined (a .self) (a .words .now) (a .bytes .now) x (a .link) _ _ j n in
-    let r = tested-room (a .self) (a .words .now) (a .bytes .now) (a .rec) x [] (a .link) (c .before .before .before .before .before .before .joined-len .result) same _ (c .before .before .before .admits .ensures) (c .before .before .if1 .left) in
+    let r = tested-room (a .self) (a .words .now) (a .bytes .now) (a .rec) x [] (a .link)
+    (c .before .before .before .before .before .before .joined-len .result) same _ (c .before .before .before .admits .ensures)
+    (c .before .before .if1 .left) in
     (settled-in (a .self .bytes) (a .bytes .now) (a .path) q e .0, omega (arith, r .bytesFit, ap length j))
 
 cast-put : tie.Need-cast-put
 cast-put c =
-    let k = c .before .before .before .before .before .before .before .before .before .before .before .before .before .before .before .before .before .before in
+    let k = c .before .before .before .before .before .before .before .before .before .before .before .before .before .before .before
+    .before .before .before in
     let a = k .args in
     let q = c .before .before .before .before .before .before .before .before .before .before .before .before .settle .result in
     let e = c .before .before .before .before .before .before .before .before .before .before .before .before .settle .ensures in
     let x = joined (pathOf (a .bytes .now) (settled (a .self .bytes) (a .bytes .now) (a .path))) (a .name .now) (a .unit .now) in
-    let j : joined (pathOf (a .bytes .now) q) (a .name .now) (a .unit .now) ≡ x = ap (λ (p : PathAt). joined (pathOf (a .bytes .now) p) (a .name .now) (a .unit .now)) e in
+    let j : joined (pathOf (a .bytes .now) q) (a .name .now) (a .unit .now) ≡ x = ap
+    (λ (p : PathAt). joined (pathOf (a .bytes .now) p) (a .name .now) (a .unit .now)) e in
     let n = c .before .before .before .before .before .before .before .before .before .before .joined-len .ensures in
     let same = makes-joined (a .self) (a .words .now) (a .bytes .now) x (a .link) _ _ j n in
-    let r = tested-room (a .self) (a .words .now) (a .bytes .now) (a .rec) x [] (a .link) (c .before .before .before .before .before .before .before .before .before .before .joined-len .result) same _ (c .before .before .before .before .before .before .before .admits .ensures) (c .before .before .before .before .before .before .if1 .left) in
+    let r = tested-room (a .self) (a .words .now) (a .bytes .now) (a .rec) x [] (a .link)
+    (c .before .before .before .before .before .before .before .before .before .before .joined-len .result) same _
+    (c .before .before .before .before .before .before .before .admits .ensures)
+    (c .before .before .before .before .before .before .if1 .left) in
     omega (arith, r .bytesMost, joined-size x _ _ j n (omega (arith, r .bytesMost)))
 
 put-requires : tie.Need-put-requires
 put-requires c κs =
-    let k = c .before .before .before .before .before .before .before .before .before .before .before .before .before .before .before .before .before .before in
+    let k = c .before .before .before .before .before .before .before .before .before .before .before .before .before .before .before
+    .before .before .before in
     let a = k .args in
     let q = c .before .before .before .before .before .before .before .before .before .before .before .before .settle .result in
     let e = c .before .before .before .before .before .before .before .before .before .before .before .before .settle .ensures in
     let x = joined (pathOf (a .bytes .now) (settled (a .self .bytes) (a .bytes .now) (a .path))) (a .name .now) (a .unit .now) in
-    let j : joined (pathOf (a .bytes .now) q) (a .name .now) (a .unit .now) ≡ x = ap (λ (p : PathAt). joined (pathOf (a .bytes .now) p) (a .name .now) (a .unit .now)) e in
+    let j : joined (pathOf (a .bytes .now) q) (a .name .now) (a .unit .now) ≡ x = ap
+    (λ (p : PathAt). joined (pathOf (a .bytes .now) p) (a .name .now) (a .unit .now)) e in
     let n = c .before .before .before .before .before .before .before .before .before .before .joined-len .ensures in
     let same = makes-joined (a .self) (a .words .now) (a .bytes .now) x (a .link) _ _ j n in
-    let r = tested-room (a .self) (a .words .now) (a .bytes .now) (a .rec) x [] (a .link) (c .before .before .before .before .before .before .before .before .before .before .joined-len .result) same _ (c .before .before .before .before .before .before .before .admits .ensures) (c .before .before .before .before .before .before .if1 .left) in
+    let r = tested-room (a .self) (a .words .now) (a .bytes .now) (a .rec) x [] (a .link)
+    (c .before .before .before .before .before .before .before .before .before .before .joined-len .result) same _
+    (c .before .before .before .before .before .before .before .admits .ensures)
+    (c .before .before .before .before .before .before .if1 .left) in
     (r .recordsFit, r .linkFits, omega (arith, r .bytesMost, joined-size x _ _ j n (omega (arith, r .bytesMost))))
 
 same-length-3 : tie.Need-same-length-3
@@ -92,16 +109,29 @@ same-length-4 c = search needs
 
 returns-2 : tie.Need-returns-2
 returns-2 c =
-    let k = c .before .before .before .before .before .before .before .before .before .before .before .before .before .before .before .before .before .before .before .before .before in
+    let k = c .before .before .before .before .before .before .before .before .before .before .before .before .before .before .before
+    .before .before .before .before .before .before in
     let a = k .args in
-    let q = c .before .before .before .before .before .before .before .before .before .before .before .before .before .before .before .settle .result in
-    let e = c .before .before .before .before .before .before .before .before .before .before .before .before .before .before .before .settle .ensures in
+    let q = c .before .before .before .before .before .before .before .before .before .before .before .before .before .before .before
+    .settle .result in
+    let e = c .before .before .before .before .before .before .before .before .before .before .before .before .before .before .before
+    .settle .ensures in
     let x = joined (pathOf (a .bytes .now) (settled (a .self .bytes) (a .bytes .now) (a .path))) (a .name .now) (a .unit .now) in
-    let j : joined (pathOf (a .bytes .now) q) (a .name .now) (a .unit .now) ≡ x = ap (λ (p : PathAt). joined (pathOf (a .bytes .now) p) (a .name .now) (a .unit .now)) e in
-    let n = c .before .before .before .before .before .before .before .before .before .before .before .before .before .joined-len .ensures in
+    let j : joined (pathOf (a .bytes .now) q) (a .name .now) (a .unit .now) ≡ x = ap
+    (λ (p : PathAt). joined (pathOf (a .bytes .now) p) (a .name .now) (a .unit .now)) e in
+    let n = c .before .before .before .before .before .before .before .before .before .before .before .before .before .joined-len .ensures
+    in
     let same = makes-joined (a .self) (a .words .now) (a .bytes .now) x (a .link) _ _ j n in
-    let r = tested-room (a .self) (a .words .now) (a .bytes .now) (a .rec) x [] (a .link) (c .before .before .before .before .before .before .before .before .before .before .before .before .before .joined-len .result) same _ (c .before .before .before .before .before .before .before .before .before .before .admits .ensures) (c .before .before .before .before .before .before .before .before .before .if1 .left) in
-    tested-made (a .self) (a .words .now) (a .bytes .now) (a .rec) x [] (a .link) (c .before .before .before .before .before .before .before .before .before .before .before .before .before .joined-len .result) same _ (c .before .before .before .before .before .before .before .before .before .before .admits .ensures) _ _ _ _ 0 (c .before .before .before .before .before .before .before .before .before .if1 .left) (joined-size x _ _ j n (omega (arith, r .bytesMost))) refl (c .before .before .put .ensures .0) (c .before .before .put .ensures .1) (c .before .before .before .before .before .before .write-joined .ensures ∙ rw (j, append-nil) refl)
+    let r = tested-room (a .self) (a .words .now) (a .bytes .now) (a .rec) x [] (a .link)
+    (c .before .before .before .before .before .before .before .before .before .before .before .before .before .joined-len .result)
+    same _ (c .before .before .before .before .before .before .before .before .before .before .admits .ensures)
+    (c .before .before .before .before .before .before .before .before .before .if1 .left) in
+    tested-made (a .self) (a .words .now) (a .bytes .now) (a .rec) x [] (a .link)
+    (c .before .before .before .before .before .before .before .before .before .before .before .before .before .joined-len .result) same
+    _ (c .before .before .before .before .before .before .before .before .before .before .admits .ensures) _ _ _ _ 0
+    (c .before .before .before .before .before .before .before .before .before .if1 .left)
+    (joined-size x _ _ j n (omega (arith, r .bytesMost))) refl (c .before .before .put .ensures .0) (c .before .before .put .ensures .1)
+    (c .before .before .before .before .before .before .write-joined .ensures ∙ rw (j, append-nil) refl)
 
 pub make-joined-spec : {M : Type 1} → statement M
 make-joined-spec =

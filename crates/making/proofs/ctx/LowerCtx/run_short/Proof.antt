@@ -1,6 +1,6 @@
 -- Field by field.
 use mathlib.Core.Path.{refl}
-use Rattle.making.specs.Made.{ranShort}
+use Rattle.making.specs.machine.Made.{ranShort}
 use Rattle.making.proofs.ctx.LowerCtx.run_short.Statement.{statement}
 use Rattle.making.proofs.ctx.LowerCtx.run_short.Tie as tie
 

@@ -2,7 +2,7 @@
 use mathlib.Core.Path.{ap, _∙_}
 use mathlib.Core.List.{List}
 use Prim.Native.Nat.{ℕ}
-use Rattle.making.specs.Removed.{setNext}
+use Rattle.making.specs.machine.Removed.{setNext}
 use Rattle.making.proofs.Removing.{removes-going}
 use Rattle.making.proofs.Unlinking.{unlinks, unlinks-short}
 use borrow.Author.Needs.{needs}
@@ -10,7 +10,8 @@ use Rattle.making.proofs.ctx.LowerCtx.unlink_binding.Statement.{stateme
 use Rattle.making.proofs.ctx.LowerCtx.unlink_binding.Tie as tie
 
 returns : tie.Need-returns
-returns c = let a = c .before .before .before .args in unlinks-short (a .self) (a .words .now) (a .bytes .now) (a .previous) (a .r) (c .if1 .taken)
+returns c = let a = c .before .before .before .args in unlinks-short (a .self) (a .words .now) (a .bytes .now) (a .previous) (a .r)
+    (c .if1 .taken)
 
 next-of-requires : tie.Need-next-of-requires
 next-of-requires c κs = search needs
@@ -35,11 +36,18 @@ same-length-2 c = search needs
 
 returns-2 : tie.Need-returns-2
 returns-2 c =
-    let a = c .before .before .before .before .before .before .before .before .before .before .before .before .before .before .before .before .before .before .before .args in
-    let going = c .before .before .before .before .before .before .before .before .before .before .before .before .before .before .before .before .if1 .left in
+    let a = c .before .before .before .before .before .before .before .before .before .before .before .before .before .before .before
+    .before .before .before .before .args in
+    let going = c .before .before .before .before .before .before .before .before .before .before .before .before .before .before .before
+    .before .if1 .left in
     unlinks (a .self) _ (a .words .now) (a .bytes .now) _ _ (a .previous) (a .r) _ (c .without-bind .ensures) going
-    (removes-going (a .self) _ (a .words .now) (a .bytes .now) _ _ (a .previous) (a .r) _ going (c .before .before .before .before .before .before .before .before .before .before .before .before .before .before .next-of .ensures) (c .without-bind .ensures)
-    (c .before .before .before .set-next .ensures ∙ ap (λ (v : List ℕ). setNext (a .previous) (c .before .before .before .before .before .before .before .before .before .before .before .before .before .before .next-of .result) v) (c .before .before .before .before .before .before .before .clear-words .ensures)) (c .before .before .before .before .before .before .before .before .before .before .before .clear-texts .ensures))
+    (removes-going (a .self) _ (a .words .now) (a .bytes .now) _ _ (a .previous) (a .r) _ going
+    (c .before .before .before .before .before .before .before .before .before .before .before .before .before .before .next-of
+    .ensures) (c .without-bind .ensures)
+    (c .before .before .before .set-next .ensures ∙ ap (λ (v : List ℕ). setNext (a .previous)
+    (c .before .before .before .before .before .before .before .before .before .before .before .before .before .before .next-of .result)
+    v) (c .before .before .before .before .before .before .before .clear-words .ensures))
+    (c .before .before .before .before .before .before .before .before .before .before .before .clear-texts .ensures))
 
 pub unlink-binding-spec : {M : Type 1} → statement M
 unlink-binding-spec =

@@ -1,6 +1,6 @@
 -- Field by field.
 use mathlib.Core.Path.{refl}
-use Rattle.making.specs.Made.{withBind}
+use Rattle.making.specs.machine.Made.{withBind}
 use borrow.Author.Needs.{needs}
 use Rattle.making.proofs.ctx.LowerCtx.with_bind.Statement.{statement}
 use Rattle.making.proofs.ctx.LowerCtx.with_bind.Tie as tie

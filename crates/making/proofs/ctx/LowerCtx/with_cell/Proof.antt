@@ -1,6 +1,6 @@
 -- Field by field.
 use mathlib.Core.Path.{refl}
-use Rattle.making.specs.Made.{withLastCell}
+use Rattle.making.specs.machine.Made.{withLastCell}
 use Rattle.making.proofs.ctx.LowerCtx.with_cell.Statement.{statement}
 use Rattle.making.proofs.ctx.LowerCtx.with_cell.Tie as tie
 

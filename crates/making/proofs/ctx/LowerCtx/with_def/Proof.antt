@@ -1,6 +1,6 @@
 -- Field by field.
 use mathlib.Core.Path.{refl}
-use Rattle.making.specs.Made.{withDef}
+use Rattle.making.specs.machine.Made.{withDef}
 use borrow.Author.Needs.{needs}
 use Rattle.making.proofs.ctx.LowerCtx.with_def.Statement.{statement}
 use Rattle.making.proofs.ctx.LowerCtx.with_def.Tie as tie

@@ -1,6 +1,6 @@
 -- Field by field.
 use mathlib.Core.Path.{refl}
-use Rattle.making.specs.Made.{withDiag}
+use Rattle.making.specs.machine.Made.{withDiag}
 use borrow.Author.Needs.{needs}
 use Rattle.making.proofs.ctx.LowerCtx.with_diag.Statement.{statement}
 use Rattle.making.proofs.ctx.LowerCtx.with_diag.Tie as tie

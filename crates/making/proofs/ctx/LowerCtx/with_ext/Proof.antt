@@ -1,6 +1,6 @@
 -- Field by field.
 use mathlib.Core.Path.{refl}
-use Rattle.making.specs.Made.{withExt}
+use Rattle.making.specs.machine.Made.{withExt}
 use borrow.Author.Needs.{needs}
 use Rattle.making.proofs.ctx.LowerCtx.with_ext.Statement.{statement}
 use Rattle.making.proofs.ctx.LowerCtx.with_ext.Tie as tie

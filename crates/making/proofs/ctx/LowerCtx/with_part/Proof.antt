@@ -1,6 +1,6 @@
 -- Field by field.
 use mathlib.Core.Path.{refl}
-use Rattle.making.specs.Made.{withPart}
+use Rattle.making.specs.machine.Made.{withPart}
 use Rattle.making.proofs.ctx.LowerCtx.with_part.Statement.{statement}
 use Rattle.making.proofs.ctx.LowerCtx.with_part.Tie as tie
 

@@ -1,6 +1,6 @@
 -- Field by field.
 use mathlib.Core.Path.{refl}
-use Rattle.making.specs.Removed.{withoutBind}
+use Rattle.making.specs.machine.Removed.{withoutBind}
 use borrow.Author.Needs.{needs}
 use Rattle.making.proofs.ctx.LowerCtx.without_bind.Statement.{statement}
 use Rattle.making.proofs.ctx.LowerCtx.without_bind.Tie as tie

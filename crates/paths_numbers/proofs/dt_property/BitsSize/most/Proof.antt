@@ -1,7 +1,7 @@
 -- The largest number of each width, by the power of two that defines it.
 use mathlib.Core.Path.{sym, ap}
 use borrow.Author.Needs.{needs}
-use Rattle.paths_numbers.specs.Cell.{largest}
+use Rattle.paths_numbers.specs.meaning.Cell.{largest}
 use Rattle.paths_numbers.proofs.dt_property.BitsSize.most.Tie as tie
 use Rattle.paths_numbers.proofs.dt_property.BitsSize.most.Statement.{statement}
 

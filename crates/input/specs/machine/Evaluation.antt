@@ -1,0 +1,24 @@
+-- What the evaluation of an expression answers, and the outcome that it stands for: a failure's diagnostic is known by the record it speaks
+-- of.
+use Prim.Native.Nat.{ℕ}
+use mathlib.Core.Bool.{Bool, false, not, cond}
+use mathlib.Core.List.{List, [], _∷_}
+use lib.Dec.{eqb}
+use lib.IntN.{ℤ}
+use Rattle.paths_numbers.specs.meaning.Expression.{isTrue}
+use Rattle.input.specs.meaning.Report.{undefinedMacro}
+use Rattle.input.specs.meaning.Expr.{Outcome, value, fails, missing, failsWith}
+use Rattle.input.specs.meaning.Input.{spanAt, recordAt}
+use Rattle.input.specs.declared.expr_eval.Evaluation.{Evaluation}
+use Rattle.input.specs.declared.expr_eval.Evaluation.the-variants as E
+
+-- a value; a failure without a code; an undefined macro, code 10; or another code, at a record
+abbrev pub outcomeOf : List ℕ → List ℕ → Evaluation → Outcome
+outcomeOf words text (E.Value z) = value z
+outcomeOf words text E.Missing = missing
+outcomeOf words text (E.Macro r) = fails (undefinedMacro (recordAt words text r) ∷ [])
+outcomeOf words text (E.Failed code r) = failsWith code (spanAt words r)
+
+-- "&&, || … evaluate only what they need": whether the first operand decides
+unfoldable pub decides : ℕ → ℤ → Bool
+decides op a = cond (eqb op 11) (not (isTrue a)) (cond (eqb op 12) (isTrue a) false)

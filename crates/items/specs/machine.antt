@@ -1,0 +1,9 @@
+-- Steps of the code, which contracts inside the library cite.
+pub mod Labelled
+pub mod Opened
+pub mod NodePlaced
+pub mod NodeLowered
+pub mod Filled
+pub mod PropertyMade
+pub mod Unbinding
+pub mod Deleting

@@ -1,0 +1,3 @@
+-- Examples, computed by the checker.
+pub mod ListingExample
+pub mod ProgramExample

@@ -1,0 +1,4 @@
+-- Steps of the code, which contracts inside the library cite.
+pub mod Good
+pub mod Walk
+pub mod Parts

@@ -1,0 +1,4 @@
+-- Examples, computed by the checker.
+pub mod Example
+pub mod InputExample
+pub mod Slips

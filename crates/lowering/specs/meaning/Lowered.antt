@@ -1,0 +1,58 @@
+-- What a lowering answers and leaves for any input and any buffers, by 01's table: the contract of lowering.
+use Prim.Native.Nat.{ℕ, _+_}
+use mathlib.Core.Bool.{Bool, true, false, cond}
+use mathlib.Core.Path.{_≡_}
+use mathlib.Core.List.{List, []}
+use lib.Dec.{leb}
+use lib.ListN.{length, replicate}
+use Rattle.log.specs.meaning.Contents.{Diag}
+use Rattle.log.specs.meaning.ReadBack.{Log}
+use Rattle.log.specs.meaning.Record.{outCount, mostRecords, mostBytes}
+use Rattle.log.specs.meaning.Written.{Written}
+use Rattle.log.specs.meaning.Answer.{Answered, success, refusedRoom}
+use Rattle.input.specs.meaning.Tree.{Trees}
+use Rattle.making.specs.meaning.State.{State, diagsBytes}
+use Rattle.items.specs.meaning.Lower.{lowered}
+use Rattle.post_checks.specs.meaning.Post.{postChecks}
+use Rattle.input.specs.meaning.Input.{description}
+use Rattle.input.specs.meaning.Rows.{Verdict, accepted, refused, verdict}
+
+-- the log of a state after the post checks
+unfoldable pub logOf : State → Log
+logOf s = record { defs = s .defs; exts = s .exts; binds = s .binds; diags = s .diags; post = postChecks s }
+
+-- row 7's counts, the post checks' diagnostics among them
+unfoldable pub recordsMade : State → ℕ
+recordsMade s = s .records + length (postChecks s)
+
+unfoldable pub bytesMade : State → ℕ
+bytesMade s = s .bytes + diagsBytes (postChecks s)
+
+-- "records or bytes made exceed the buffers, or 65,536 records or 2^24 bytes"; a buffer holds its whole records
+unfoldable pub fitsIn : State → List ℕ → List ℕ → Bool
+fitsIn s out bytes =
+    cond (leb (recordsMade s) (outCount out))
+    (cond (leb (recordsMade s) mostRecords)
+    (cond (leb (bytesMade s) (length bytes)) (leb (bytesMade s) mostBytes) false)
+    false)
+    false
+
+-- what the description of an input lowers to
+abbrev pub meaning : List ℕ → List ℕ → State
+meaning words text = lowered (description words text)
+
+-- lowering `words` and `text` into buffers that held `out₀` and `bytes₀` answers `answer` and leaves `out` and `bytes`
+pub data Lowered (words text out₀ bytes₀ : List ℕ) (answer : Answered) (out bytes : List ℕ) : Type 0 where
+  -- rows 1 to 6: all is left
+  turnedDown : {number returned : ℕ} → verdict words text ≡ refused number returned
+      → answer ≡ record { number = number; returned = returned } → out ≡ out₀ → bytes ≡ bytes₀
+      → Lowered words text out₀ bytes₀ answer out bytes
+  -- row 7: zeros, in every word and byte that was lent
+  short : verdict words text ≡ accepted → fitsIn (meaning words text) out₀ bytes₀ ≡ false
+      → answer ≡ record { number = refusedRoom; returned = 0 } → out ≡ replicate (length out₀) 0 → bytes ≡ replicate (length bytes₀) 0
+      → Lowered words text out₀ bytes₀ answer out bytes
+  -- number 0: the log is written
+  done : verdict words text ≡ accepted → fitsIn (meaning words text) out₀ bytes₀ ≡ true
+      → answer ≡ record { number = success; returned = 0 } → length out ≡ length out₀ → length bytes ≡ length bytes₀
+      → Written out bytes (recordsMade (meaning words text)) (bytesMade (meaning words text)) (logOf (meaning words text))
+      → Lowered words text out₀ bytes₀ answer out bytes

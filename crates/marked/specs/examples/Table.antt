@@ -1,0 +1,105 @@
+-- The cases that 01 marks with a dot for proof, in its order, each computed by the checker from the definitions.
+use Prim.Native.Nat.{ℕ, _-_, _^_}
+use mathlib.Core.Bool.{true}
+use mathlib.Core.Path.{_≡_, refl}
+use mathlib.Core.List.{List, [], _∷_}
+use lib.IntN.{pos, negsuc}
+use Rattle.paths_numbers.specs.meaning.Byte.{digitOf}
+use Rattle.paths_numbers.specs.meaning.Text.{begins, same, startsWith}
+use Rattle.paths_numbers.specs.meaning.Path.{strip, found, nothing, join}
+use Rattle.paths_numbers.specs.meaning.Number.{unsignedNumber, unsigned, signedNumber, signed, digits, behindSign, behindPrefix, baseOf}
+use Rattle.paths_numbers.specs.meaning.Number.{trimmed, isSuffix, intCode}
+use Rattle.paths_numbers.specs.meaning.Expression.{evalInfix, quotient, shiftLeft}
+use Rattle.paths_numbers.specs.meaning.Cell.{exprCell, cellCode, largest}
+use Rattle.paths_numbers.specs.meaning.Bytestring.{countOf, countCode, nibbles, pairs}
+use Rattle.paths_numbers.specs.meaning.Reference.{target, isBraced, innerText, inBraces, hasSlash, beforeSlash, behindSlash, labelPath}
+use Rattle.log.specs.meaning.Contents.{Span, Def, Binding}
+use Rattle.queries.specs.meaning.Live.{containsNode}
+use Rattle.input.specs.meaning.Tree.{tree, empty, more}
+use Rattle.input.specs.meaning.Report.{noSpan}
+use Rattle.input.specs.meaning.Expr.{eval, evals, value}
+use Rattle.resolving.specs.meaning.Resolve.{resolve, reaches, firstBinding}
+use Rattle.paths_numbers.specs.declared.expr_eval.IntErrorKind.the-variants.{Empty, PosOverflow}
+use Rattle.paths_numbers.specs.declared.expr_eval.ParsedInt.the-variants as Parsed
+use Rattle.paths_numbers.specs.declared.operators.Evaluated.the-variants as Evaluated
+use Rattle.paths_numbers.specs.declared.dt_property.BitsSize.the-variants.{Bits8}
+use Rattle.paths_numbers.specs.declared.dt_property.Cell.the-variants as Cell
+
+-- path "/ab", base "/a": nothing
+pub child-by-letters : strip (47 ∷ 97 ∷ 98 ∷ []) (47 ∷ 97 ∷ []) ≡ nothing
+unfolding strip same begins startsWith
+child-by-letters = refl
+
+-- path "", base "/": nothing
+pub empty-under-root : strip [] (47 ∷ []) ≡ nothing
+unfolding strip same begins startsWith
+empty-under-root = refl
+
+-- path "/", base "": "/"
+pub root-under-empty : strip (47 ∷ []) [] ≡ found (47 ∷ [])
+unfolding strip same begins startsWith
+root-under-empty = refl
+
+-- 8 bits: -128 gives 128
+pub smallest-in-8-bits : exprCell 8 (negsuc 127) ≡ Cell.Number 128
+unfolding exprCell
+smallest-in-8-bits = refl
+
+-- -129 gives 15
+pub below-8-bits : cellCode (exprCell 8 (negsuc 128)) ≡ 15
+unfolding exprCell
+below-8-bits = refl
+
+-- "0x" gives 16
+pub prefix-alone : unsignedNumber (largest Bits8) (48 ∷ 120 ∷ []) ≡ Parsed.Failed Empty
+unfolding unsignedNumber unsigned digits behindSign behindPrefix baseOf trimmed isSuffix digitOf
+prefix-alone = refl
+
+prefix-alone-code : intCode Empty ≡ 16
+prefix-alone-code = refl
+
+-- "256" in 8 bits gives 18
+pub above-8-bits : unsignedNumber (largest Bits8) (50 ∷ 53 ∷ 54 ∷ []) ≡ Parsed.Failed PosOverflow
+unfolding unsignedNumber unsigned digits behindSign behindPrefix baseOf trimmed isSuffix digitOf
+above-8-bits = refl
+
+above-8-bits-code : intCode PosOverflow ≡ 18
+above-8-bits-code = refl
+
+-- "010" gives 10
+pub leading-zero : unsignedNumber (largest Bits8) (48 ∷ 49 ∷ 48 ∷ []) ≡ Parsed.Value 10
+unfolding unsignedNumber unsigned digits behindSign behindPrefix baseOf trimmed isSuffix digitOf
+leading-zero = refl
+
+-- 0 && 1/0 is 0: an infix record && with the number 0 and an infix record / with the numbers 1 and 0
+pub and-decides-early :
+    eval
+    (tree 20 [] 11 noSpan
+    (more (tree 15 (48 ∷ []) 0 noSpan empty empty)
+    (more (tree 20 [] 4 noSpan (more (tree 15 (49 ∷ []) 0 noSpan empty empty) (more (tree 15 (48 ∷ []) 0 noSpan empty empty) empty)) empty)
+    empty))
+    empty)
+    ≡ value (pos 0)
+unfolding eval evals signedNumber signed digits behindSign behindPrefix baseOf trimmed isSuffix digitOf evalInfix quotient
+and-decides-early = refl
+
+-- 1 << 63 is -2^63
+pub shift-to-the-sign : evalInfix 9 (pos 1) (pos 63) ≡ Evaluated.Value (negsuc (2 ^ 63 - 1))
+unfolding evalInfix shiftLeft
+shift-to-the-sign = refl
+
+-- [1 2 a] gives 11
+pub odd-digits : countCode (countOf (91 ∷ 49 ∷ 32 ∷ 50 ∷ 32 ∷ 97 ∷ 93 ∷ [])) ≡ 11
+unfolding countOf nibbles pairs digitOf
+odd-digits = refl
+
+-- `&{l//}` with l bound reaches "/" if live: the text is the label l with the path "/", and whatever l is bound to, it leads to "/" where
+-- that is a live node
+pub label-with-root : target (38 ∷ 123 ∷ 108 ∷ 47 ∷ 47 ∷ 125 ∷ []) ≡ labelPath (108 ∷ []) (47 ∷ [])
+unfolding target isBraced innerText inBraces hasSlash beforeSlash behindSlash begins startsWith
+label-with-root = refl
+
+pub label-reaches-root : (base : List ℕ) (span : Span) (binds : List Binding) (defs : List Def) → containsNode (47 ∷ []) defs ≡ true
+    → resolve (labelPath (108 ∷ []) (47 ∷ [])) (record { label = 108 ∷ []; path = base; span = span } ∷ binds) defs ≡ reaches (47 ∷ [])
+unfolding resolve firstBinding same join
+label-reaches-root base span binds defs live = rw live refl

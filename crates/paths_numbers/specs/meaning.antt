@@ -1,0 +1,11 @@
+-- What a reader must believe.
+pub mod Code
+pub mod Byte
+pub mod Text
+pub mod Lists
+pub mod Path
+pub mod Number
+pub mod Expression
+pub mod Cell
+pub mod Bytestring
+pub mod Reference

@@ -1,0 +1,104 @@
+-- 01, "Numbers": what a number's text reads as, at an unsigned limit and signed in 64 bits.
+use Prim.Native.Nat.{ℕ, _+_, _*_, _-_, _^_, _≤_}
+use mathlib.Core.Bool.{Bool, true, false, _||_, cond}
+use mathlib.Core.List.{List, [], _∷_}
+use lib.Dec.{eqb, ltb, leb}
+use lib.IntN.{pos, negℤ}
+use lib.ListN.{getD, drop}
+use Rattle.paths_numbers.specs.meaning.Code.{numberEmpty, notADigit, numberTooLarge, numberTooSmall}
+use Rattle.paths_numbers.specs.meaning.Byte.{digitOf, plus, minus}
+use Rattle.paths_numbers.specs.declared.expr_eval.IntErrorKind.{IntErrorKind}
+use Rattle.paths_numbers.specs.declared.expr_eval.IntErrorKind.the-variants.{Empty, InvalidDigit, PosOverflow, NegOverflow}
+use Rattle.paths_numbers.specs.declared.expr_eval.ParsedInt.{ParsedInt}
+use Rattle.paths_numbers.specs.declared.expr_eval.ParsedInt.the-variants as U
+use Rattle.paths_numbers.specs.declared.expr_eval.ParsedI64.{ParsedI64}
+use Rattle.paths_numbers.specs.declared.expr_eval.ParsedI64.the-variants as I
+
+-- the diagnostic code of each way to fail
+abbrev pub intCode : IntErrorKind → ℕ
+intCode Empty = numberEmpty
+intCode InvalidDigit = notADigit
+intCode PosOverflow = numberTooLarge
+intCode NegOverflow = numberTooSmall
+
+-- u, U, l and L
+unfoldable pub isSuffix : ℕ → Bool
+isSuffix b = cond (eqb b 117) true (cond (eqb b 85) true (cond (eqb b 108) true (eqb b 76)))
+
+-- b in front of what is left of the text behind it: gone where it is a suffix and nothing is left
+abbrev pub kept : ℕ → List ℕ → List ℕ
+kept b [] = cond (isSuffix b) [] (b ∷ [])
+kept b (c ∷ s) = b ∷ c ∷ s
+
+-- "Strip all trailing u, U, l, L."
+unfoldable pub trimmed : List ℕ → List ℕ
+trimmed [] = []
+trimmed (b ∷ s) = kept b (trimmed s)
+
+-- the base that the letter behind a leading 0 gives
+abbrev pub baseOfLetter : ℕ → ℕ
+baseOfLetter c =
+    cond (eqb c 120) 16
+    (cond (eqb c 88) 16
+    (cond (eqb c 98) 2
+    (cond (eqb c 66) 2
+    (cond (eqb c 111) 8
+    (cond (eqb c 79) 8
+    10)))))
+
+-- "After 0x/0X … base 16, after 0b/0B base 2, after 0o/0O base 8, else base 10, leading zeros included."
+unfoldable pub baseOf : List ℕ → ℕ
+baseOf s = cond (eqb (getD s 0 0) 48) (baseOfLetter (getD s 1 0)) 10
+
+-- the part behind the prefix, all of it where there is none
+unfoldable pub behindPrefix : List ℕ → List ℕ
+behindPrefix s = cond (eqb (baseOf s) 10) s (drop 2 s)
+
+-- the digits s behind those that gave acc: "the first digit that fails decides", not a digit before too large
+unfoldable pub digits : ℕ → ℕ → IntErrorKind → ℕ → List ℕ → ParsedInt
+digits base most over acc [] = U.Value acc
+digits base most over acc (b ∷ s) =
+    cond (ltb (digitOf b) base)
+    (cond (leb (acc * base + digitOf b) most) (digits base most over (acc * base + digitOf b) s) (U.Failed over))
+    (U.Failed InvalidDigit)
+
+-- what stands behind a sign: a lone sign is no digit
+unfoldable pub behindSign : ℕ → ℕ → IntErrorKind → List ℕ → ParsedInt
+behindSign base most over [] = U.Failed InvalidDigit
+behindSign base most over (b ∷ s) = digits base most over 0 (b ∷ s)
+
+-- an unsigned reading up to most: "One leading + is allowed … Empty: code 16."
+unfoldable pub unsigned : ℕ → ℕ → List ℕ → ParsedInt
+unsigned base most [] = U.Failed Empty
+unsigned base most (b ∷ s) =
+    cond (eqb b plus) (behindSign base most PosOverflow s) (digits base most PosOverflow 0 (b ∷ s))
+
+-- an unsigned number's text, at the largest value most
+unfoldable pub unsignedNumber : ℕ → List ℕ → ParsedInt
+unsignedNumber most text = unsigned (baseOf (trimmed text)) most (behindPrefix (trimmed text))
+
+-- a reading as a positive and as a negative number
+abbrev pub positive : ParsedInt → ParsedI64
+positive (U.Value n) = I.Value (pos n)
+positive (U.Failed e) = I.Failed e
+
+abbrev pub negative : ParsedInt → ParsedI64
+negative (U.Value n) = I.Value (negℤ (pos n))
+negative (U.Failed e) = I.Failed e
+
+-- the signed 64-bit reading: "One leading + is allowed, and - for the signed 64-bit reading."
+unfoldable pub signed : ℕ → List ℕ → ParsedI64
+signed base [] = I.Failed Empty
+signed base (b ∷ s) =
+    cond (eqb b plus) (positive (behindSign base (2 ^ 63 - 1) PosOverflow s))
+    (cond (eqb b minus) (negative (behindSign base (2 ^ 63) NegOverflow s))
+    (positive (digits base (2 ^ 63 - 1) PosOverflow 0 (b ∷ s))))
+
+-- a signed number's text
+unfoldable pub signedNumber : List ℕ → ParsedI64
+signedNumber text = signed (baseOf (trimmed text)) (behindPrefix (trimmed text))
+
+-- a reading that is at most m, where it is a number
+abbrev pub Within : ℕ → ParsedInt → Type 0
+Within m (U.Value n) = n ≤ m
+Within m (U.Failed e) = Unit {0}

@@ -1,0 +1,3 @@
+-- Steps of the code, which contracts inside the library cite.
+pub mod Pass
+pub mod Table

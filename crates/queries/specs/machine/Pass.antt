@@ -1,0 +1,26 @@
+-- What one pass over a chain does at a record. These are the steps of the code, and no part of what the queries mean.
+use Prim.Native.Nat.{ℕ}
+use mathlib.Core.Bool.{Bool, true, false, cond}
+use mathlib.Core.List.{List}
+use lib.Dec.{eqb}
+use Rattle.paths_numbers.specs.meaning.Text.{same}
+use Rattle.log.specs.meaning.Contents.{Def}
+use Rattle.log.specs.meaning.Record.{leads}
+use Rattle.queries.specs.meaning.Live.{deletes}
+use Rattle.queries.specs.meaning.History.{definedBy}
+
+-- whether a chain of which so many records may be left has one at r
+unfoldable pub goesOn : List ℕ → ℕ → ℕ → Bool
+goesOn words r left = cond (eqb left 0) false (leads words r)
+
+-- what is found after a definition that sets or clears it
+abbrev pub foundAfter : Bool → Bool → Bool → Bool
+foundAfter sets clears found = cond sets true (cond clears false found)
+
+-- whether a definition is in a path's history, where the path was defined before it or not, and whether the path is defined after it
+unfoldable pub isListed : List ℕ → Def → Bool → Bool
+isListed path d defined = cond (same (d .path) path) true (cond defined (deletes path d) false)
+
+unfoldable pub definedAfter : List ℕ → Def → Bool → Bool
+definedAfter path d defined =
+    cond (same (d .path) path) (definedBy d defined) (cond (cond defined (deletes path d) false) false defined)

@@ -1,0 +1,315 @@
+-- The search for the first record of a chain with a text, and where a reference leads by it.
+use Prim.Native.Nat.{ℕ, suc, _-_, _<_}
+use mathlib.Core.Path.{_≡_, refl, sym, ap, _∙_}
+use mathlib.Core.Bool.{Bool, true, false, cond}
+use mathlib.Core.List.{List, [], _∷_, _++_, map, append-assoc, append-nil, map-append}
+use mathlib.Core.Option.{some, none}
+use native.Mathlib.Omega.{arith}
+use borrow.Author.Tests.{eqb-false}
+use lib.Dec.{eqb}
+use lib.Seq.{append-snoc}
+use Rattle.paths_numbers.specs.meaning.Text.{same, isEmpty}
+use Rattle.paths_numbers.specs.meaning.Path.{join, joined, withUnit}
+use Rattle.paths_numbers.proofs.Texts.{by-test, not-both, same-true, same-refl}
+use Rattle.log.specs.meaning.Contents.{Def, Binding, Span}
+use Rattle.log.specs.meaning.Record.{nextOf, firstText, secondText, leads, logCount}
+use Rattle.log.specs.meaning.ReadBack.{chainFrom, chainOf, bindingAt, defAt, readBindings, readDefs}
+use Rattle.making.specs.machine.Represents.{lastNumber, Context, Represents, Steps}
+use Rattle.paths_numbers.specs.meaning.Lists.{any}
+use Rattle.queries.specs.machine.Pass.{goesOn}
+use Rattle.queries.specs.meaning.Live.{containsNode}
+use Rattle.queries.proofs.Chain.{goes, stops}
+use Rattle.paths_numbers.specs.meaning.Reference.{Target, label, labelPath, path}
+use Rattle.resolving.specs.meaning.Resolve.{firstBinding, byLabel, belowLabel, liveAt, resolve, reaches, missing}
+use Rattle.input.specs.machine.PhandleRead.{labelAt, pathAt, phandleRead}
+use Rattle.input.specs.declared.phandle.PhandleRead.{PhandleRead}
+use Rattle.input.specs.declared.phandle.PhandleRead.the-variants as P
+use Rattle.resolving.specs.machine.Leading.{hasText, FirstAt, FirstWith, resolution, InChain, boundBy, Leads, ReportsMissing}
+use Rattle.making.specs.machine.PathPlaces.{placedIn}
+use Rattle.making.specs.declared.ctx.LowerCtx.{LowerCtx}
+use Rattle.making.specs.machine.PathPlaces.{pathIn}
+use Rattle.making.specs.declared.place.PathAt.{PathAt}
+use Rattle.log.specs.declared.parts.Span.{Span as LogSpan}
+use Rattle.making.specs.machine.Recs.{diagMade, noSpan}
+use Rattle.log.specs.machine.Parts.{meant}
+use Rattle.making.specs.meaning.State.{State, emit}
+use Rattle.making.proofs.InHand.{represents-defs, binding-path as path-of-binding}
+use Rattle.queries.specs.meaning.Kind.{setsOverlay}
+use Rattle.input.specs.meaning.Report.{report}
+use Rattle.resolving.specs.declared.resolve.Found.{Found}
+use Rattle.resolving.specs.declared.resolve.Resolved.{Resolved}
+use Rattle.resolving.proofs.Under.{emit-none}
+use Rattle.resolving.specs.declared.resolve.Resolved.the-variants as R
+
+-- the last number of a list with one more
+pub last-snoc : (ns : List ℕ) (n : ℕ) → lastNumber (ns ++ n ∷ []) ≡ n
+unfolding lastNumber
+last-snoc [] n = refl
+last-snoc (a ∷ []) n = refl
+last-snoc (a ∷ b ∷ l) n = last-snoc (b ∷ l) n
+
+-- whether some element of two lists passes a test
+pub any-append : {A : Type 0} (f : A → Bool) (xs ys : List A) → any f xs ≡ false → any f (xs ++ ys) ≡ any f ys
+unfolding any
+any-append f [] ys h = refl
+any-append f (x ∷ xs) ys h =
+    by-test (f x) (λ q. absurd (not-both (rw q refl) h)) (λ q. rw q (any-append f xs ys (rw q at h)))
+
+-- a chain that goes on is at a record
+pub goes-there : (words : List ℕ) (r left : ℕ) → goesOn words r left ≡ true → r ≡ 0 → ⊥
+unfolding goesOn
+goes-there words r left t e =
+    by-test (eqb left 0) (λ q. not-both (rw q at t) refl) (λ q. not-both (rw (q, e) at t) refl)
+
+-- what a walk along a chain has passed: none of it has the text
+pub record Passed (words bytes : List ℕ) (first : ℕ) (t : List ℕ) (previous r left : ℕ) : Type 0 where
+  pub before : List ℕ
+  pub chain : chainOf words first ≡ before ++ chainFrom left words r
+  pub previousIs : previous ≡ lastNumber before
+  pub others : any (hasText words bytes t) before ≡ false
+
+pub passed-none : (words bytes : List ℕ) (first : ℕ) (t : List ℕ) (left : ℕ) → left ≡ logCount words
+    → Passed words bytes first t 0 first left
+unfolding chainOf lastNumber any
+passed-none words bytes first t left e = record { before = []; chain = rw e refl; previousIs = refl; others = refl }
+
+module _ {words bytes : List ℕ} {first : ℕ} {t : List ℕ} {previous r left : ℕ} (p : Passed words bytes first t previous r left) where
+  pub passed-one : goesOn words r left ≡ true → hasText words bytes t r ≡ false → (next : ℕ) → next ≡ nextOf words r
+      → Passed words bytes first t r next (left - 1)
+  unfolding any
+  passed-one g h next e =
+      record {
+        before = p .before ++ r ∷ [];
+        chain = p .chain ∙ rw (goes words r left g, e, append-snoc) refl;
+        previousIs = sym (last-snoc (p .before) r);
+        others = any-append (hasText words bytes t) (p .before) (r ∷ []) (p .others) ∙ rw h refl;
+      }
+
+  pub passed-found : goesOn words r left ≡ true → hasText words bytes t r ≡ true
+      → FirstWith words bytes first t (record { number = r; previous = previous })
+  passed-found g h =
+      record {
+        none-there = λ z. absurd (goes-there words r left g z);
+        there = λ n.
+            record {
+              before = p .before;
+              after = chainFrom (left - 1) words (nextOf words r);
+              chain = p .chain ∙ rw (goes words r left g) refl;
+              previousIs = p .previousIs;
+              others = p .others;
+              has = same-true (firstText words bytes r) t h;
+            };
+      }
+
+  pub passed-all : goesOn words r left ≡ false → FirstWith words bytes first t (record { number = 0; previous = 0 })
+  passed-all g =
+      record {
+        none-there = λ z. ap (any (hasText words bytes t)) (p .chain ∙ rw (stops words r left g, append-nil) refl) ∙ p .others;
+        there = λ n. absurd (n refl);
+      }
+
+-- the same of bindings: the label's first
+module _ (words bytes : List ℕ) (l : List ℕ) where
+  pub no-binding : (ns : List ℕ) → any (hasText words bytes l) ns ≡ false → firstBinding l (map (bindingAt words bytes) ns) ≡ none
+  unfolding any firstBinding bindingAt
+  no-binding [] h = refl
+  no-binding (n ∷ ns) h =
+      by-test (hasText words bytes l n) (λ q. absurd (not-both (rw q refl) h)) (λ q. rw q (no-binding ns (rw q at h)))
+
+  pub a-binding : (ns : List ℕ) (n : ℕ) (ms : List ℕ) → any (hasText words bytes l) ns ≡ false → firstText words bytes n ≡ l
+      → firstBinding l (map (bindingAt words bytes) (ns ++ n ∷ ms)) ≡ some (secondText words bytes n)
+  unfolding any firstBinding bindingAt
+  a-binding [] n ms h e = rw (e, same-refl l) refl
+  a-binding (m ∷ ns) n ms h e =
+      by-test (hasText words bytes l m) (λ q. absurd (not-both (rw q refl) h)) (λ q. rw q (a-binding ns n ms (rw q at h) e))
+
+  module _ {first : ℕ} {f : Found} (w : FirstWith words bytes first l f) where
+    pub label-missing : f .number ≡ 0 → firstBinding l (readBindings words bytes first) ≡ none
+    unfolding readBindings
+    label-missing e = no-binding (chainOf words first) (w .none-there e)
+
+    pub label-there : (f .number ≡ 0 → ⊥) → firstBinding l (readBindings words bytes first) ≡ some (secondText words bytes (f .number))
+    unfolding readBindings
+    label-there n =
+        let x = w .there n in
+        ap (λ (c : List ℕ). firstBinding l (map (bindingAt words bytes) c)) (x .chain)
+        ∙ a-binding (x .before) (f .number) (x .after) (x .others) (x .has)
+
+-- a name without a unit address
+pub joined-plain : (parent name : List ℕ) → joined parent name [] ≡ join parent name
+unfolding joined withUnit isEmpty
+joined-plain parent name = refl
+
+-- where a reference leads
+module _ (words bytes : List ℕ) {first : ℕ} (l p : List ℕ) {f : Found} (w : FirstWith words bytes first l f) where
+  pub leads-label : (f .number ≡ 0 → ⊥) → resolution words bytes l p (R.Bound (f .number)) ≡ byLabel l
+      (firstBinding l (readBindings words bytes first))
+  unfolding resolution
+  leads-label n = rw (label-there words bytes l w n) refl
+
+  pub no-label : f .number ≡ 0 → resolution words bytes l p R.NoLabel ≡ byLabel l (firstBinding l (readBindings words bytes first))
+  unfolding resolution
+  no-label e = rw (label-missing words bytes l w e) refl
+
+  module _ (defs : List Def) where
+    pub no-label-below : f .number ≡ 0 → resolution words bytes l p R.NoLabel ≡ belowLabel l p
+        (firstBinding l (readBindings words bytes first)) defs
+    unfolding resolution
+    no-label-below e = rw (label-missing words bytes l w e) refl
+
+    module _ (n : f .number ≡ 0 → ⊥) where
+      pub leads-below : containsNode (joined (secondText words bytes (f .number)) p []) defs ≡ true
+          → resolution words bytes l p (R.BoundPath (f .number)) ≡ belowLabel l p (firstBinding l (readBindings words bytes first)) defs
+      unfolding resolution
+      leads-below h =
+          let j = joined-plain (secondText words bytes (f .number)) p in
+          rw (label-there words bytes l w n, ← j, h) refl
+
+      pub no-node-below : containsNode (joined (secondText words bytes (f .number)) p []) defs ≡ false
+          → resolution words bytes l p (R.NoNodeBelow (f .number)) ≡ belowLabel l p (firstBinding l (readBindings words bytes first)) defs
+      unfolding resolution
+      no-node-below h =
+          let j = joined-plain (secondText words bytes (f .number)) p in
+          rw (label-there words bytes l w n, ← j, h) refl
+
+module _ (words bytes l p : List ℕ) (defs : List Def) where
+  pub leads-path : containsNode p defs ≡ true → resolution words bytes l p R.AtPath ≡ liveAt p defs
+  unfolding resolution
+  leads-path h = rw h refl
+
+  pub no-node : containsNode p defs ≡ false → resolution words bytes l p R.NoNode ≡ liveAt p defs
+  unfolding resolution
+  no-node h = rw h refl
+
+-- a reference by what it was read as
+module _ (words text : List ℕ) (r : ℕ) (k : PhandleRead) (t : Target) (e : phandleRead words text r k .result ≡ some t) where
+  abbrev l : List ℕ
+  l = labelAt words text r
+
+  abbrev p : List ℕ
+  p = pathAt words text r
+
+  module _ (binds : List Binding) (defs : List Def) where
+    pub read-label : k ≡ P.Label → byLabel l (firstBinding l binds) ≡ resolve t binds defs
+    unfolding phandleRead resolve
+    read-label h = let q : label l ≡ t = cc (rw h at e) in rw (← q) refl
+
+    pub read-below : k ≡ P.LabelPath → belowLabel l p (firstBinding l binds) defs ≡ resolve t binds defs
+    unfolding phandleRead resolve
+    read-below h = let q : labelPath l p ≡ t = cc (rw h at e) in rw (← q) refl
+
+    pub read-path : k ≡ P.Path → liveAt p defs ≡ resolve t binds defs
+    unfolding phandleRead resolve
+    read-path h = let q : path p ≡ t = cc (rw h at e) in rw (← q) refl
+
+  -- one that cannot be read names nothing
+  pub read-macro : (m : ℕ) → k ≡ P.Macro m → ⊥
+  unfolding phandleRead
+  read-macro m h = let z : _≡_ {A = ℕ} 0 1 = cc (rw h at e) in omega arith
+
+  pub read-nothing : k ≡ P.Unreadable → ⊥
+  unfolding phandleRead
+  read-nothing h = let z : _≡_ {A = ℕ} 0 1 = cc (rw h at e) in omega arith
+
+-- a binding that was found is one of the log's
+pub bound-there : {words bytes : List ℕ} {first : ℕ} {t : List ℕ} {f : Found} → FirstWith words bytes first t f → (f .number ≡ 0 → ⊥)
+    → InChain words first (f .number)
+bound-there w n = let x = w .there n in record { before = x .before; after = x .after; chain = x .chain }
+
+module _ {words bytes : List ℕ} {binds defs : ℕ} {l p : List ℕ} (v : Resolved) where
+  pub bound-in : {f : Found} → FirstWith words bytes binds l f → (f .number ≡ 0 → ⊥) → boundBy v ≡ some (f .number)
+      → Leads words bytes binds defs l p v
+  bound-in {f} w z e =
+      record {
+        there = λ r q. let i : f .number ≡ r = cc in rw (← i) (bound-there w z);
+        first = λ r q. let i : f .number ≡ r = cc in rw (← i) (label-there words bytes l w z);
+        alive = λ q. let i : none ≡ some (f .number) = sym (ap boundBy q) ∙ e in let x : _≡_ {A = ℕ} 0 1 = cc in absurd (omega arith);
+      }
+
+  pub none-in : boundBy v ≡ none → (v ≡ R.AtPath → containsNode p (readDefs words bytes defs) ≡ true) → Leads words bytes binds defs l p v
+  none-in e a =
+      record {
+        there = λ r q. let z : _≡_ {A = ℕ} 0 1 = cc in absurd (omega arith);
+        first = λ r q. let z : _≡_ {A = ℕ} 0 1 = cc in absurd (omega arith);
+        alive = a;
+      }
+
+-- one that leads nowhere by its label
+pub never-at : {A : Type 0} → R.NoLabel ≡ R.AtPath → A
+never-at q = let z : _≡_ {A = ℕ} 0 1 = cc in absurd (omega arith)
+
+pub never-there : {A : Type 0} → R.NoNode ≡ R.AtPath → A
+never-there q = let z : _≡_ {A = ℕ} 0 1 = cc in absurd (omega arith)
+
+-- what a reference that leads nowhere reports
+pub reports-overlay : {v : Resolved} {l p : List ℕ} {span : Span} {c : LowerCtx} {words bytes : List ℕ}
+    → setsOverlay (readDefs words bytes (c .defs .first)) ≡ true
+    → ReportsMissing v l p span c c words bytes words bytes
+reports-overlay o =
+    record {
+      reports = λ k s code text h n i e.
+          let t : setsOverlay (s .defs) ≡ true = ap setsOverlay (sym (represents-defs h n)) ∙ o in
+          rw (t, emit-none s) h;
+    }
+
+module _ {v : Resolved} {l p : List ℕ} {span : Span} {c d : LowerCtx} {words bytes w b : List ℕ} where
+  module _ (o : setsOverlay (readDefs words bytes (c .defs .first)) ≡ false) where
+    pub reports-one : (code : ℕ) (text told : List ℕ) → resolution words bytes l p v ≡ missing code text
+        → ((k : Context) (s : State) → Represents k c words bytes s → c .short ≡ false
+        → Leads words bytes (c .binds .first) (c .defs .first) l p v → told ≡ text)
+        → Steps c d words bytes w b (emit (report code told span ∷ [])) → ReportsMissing v l p span c d words bytes w b
+    reports-one code text told r g f =
+        record {
+          reports = λ k s code' text' h n i e.
+              let t : setsOverlay (s .defs) ≡ false = ap setsOverlay (sym (represents-defs h n)) ∙ o in
+              let x : code ≡ code' = cc in
+              let y : text ≡ text' = cc in
+              rw (t, ← x, ← y, ← g k s h n i) (f .steps k s h n);
+        }
+
+  pub reports-never : (q : List ℕ) → resolution words bytes l p v ≡ reaches q → ReportsMissing v l p span c d words bytes w b
+  reports-never q r = record { reports = λ k s code text h n i e. let z : _≡_ {A = ℕ} 0 1 = cc in absurd (omega arith) }
+
+-- the text of a path below a binding's
+pub below-text : {k : Context} {c : LowerCtx} {words bytes : List ℕ} {s : State} (r : ℕ) {l : List ℕ} (p : List ℕ)
+    → Represents k c words bytes s → c .short ≡ false
+    → Leads words bytes (c .binds .first) (c .defs .first) l p (R.NoNodeBelow r)
+    → joined (pathIn (c .bytes) bytes (placedIn words r 4)) p [] ≡ joined (secondText words bytes r) p []
+below-text r p h n i =
+    let x = i .there r refl in
+    ap (λ (q : List ℕ). joined q p []) (path-of-binding h n (x .before) (x .after) r (x .chain))
+
+-- a report by what was not found
+module _ {v : Resolved} {l p : List ℕ} {span : LogSpan} {c d : LowerCtx} {words bytes w b : List ℕ} where
+  pub missing-label : v ≡ R.NoLabel → setsOverlay (readDefs words bytes (c .defs .first)) ≡ false
+      → Steps c d words bytes w b (emit (diagMade 3 l span noSpan ∷ []))
+      → ReportsMissing v l p (meant span) c d words bytes w b
+  unfolding resolution
+  missing-label e o f = rw e (reports-one o 3 l l refl (λ k s h n i. refl) f)
+
+  pub missing-node : v ≡ R.NoNode → setsOverlay (readDefs words bytes (c .defs .first)) ≡ false
+      → Steps c d words bytes w b (emit (diagMade 4 p span noSpan ∷ []))
+      → ReportsMissing v l p (meant span) c d words bytes w b
+  unfolding resolution
+  missing-node e o f = rw e (reports-one o 4 p p refl (λ k s h n i. refl) f)
+
+  pub missing-below : {r : ℕ} {place : PathAt} {unit : List ℕ} → v ≡ R.NoNodeBelow r → place ≡ placedIn words r 4 → unit ≡ []
+      → setsOverlay (readDefs words bytes (c .defs .first)) ≡ false
+      → Steps c d words bytes w b (emit (diagMade 4 (joined (pathIn (c .bytes) bytes place) p unit) span noSpan ∷ []))
+      → ReportsMissing v l p (meant span) c d words bytes w b
+  unfolding resolution
+  missing-below {r} e x y o f =
+      rw e (reports-one o 4 (joined (secondText words bytes r) p []) (joined (pathIn (c .bytes) bytes (placedIn words r 4)) p []) refl
+      (λ k s h n i. below-text r p h n i) (rw (x, y) at f))
+
+  pub never-bound : {r : ℕ} → v ≡ R.Bound r → ReportsMissing v l p (meant span) c d words bytes w b
+  unfolding resolution
+  never-bound {r} e = rw e (reports-never (secondText words bytes r) refl)
+
+  pub never-below : {r : ℕ} → v ≡ R.BoundPath r → ReportsMissing v l p (meant span) c d words bytes w b
+  unfolding resolution
+  never-below {r} e = rw e (reports-never (joined (secondText words bytes r) p []) refl)
+
+  pub never-path : v ≡ R.AtPath → ReportsMissing v l p (meant span) c d words bytes w b
+  unfolding resolution
+  never-path e = rw e (reports-never p refl)

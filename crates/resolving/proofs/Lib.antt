@@ -1,0 +1,4 @@
+pub mod Lowers
+pub mod Under
+pub mod Leading
+pub mod Targets

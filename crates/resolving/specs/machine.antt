@@ -1,0 +1,3 @@
+-- Steps of the code, which contracts inside the library cite.
+pub mod Leading
+pub mod Lowers

@@ -1,0 +1,82 @@
+-- What the search for where a reference leads answers, as the resolution that it stands for.
+use Prim.Native.Nat.{ℕ, _+_}
+use mathlib.Core.Path.{_≡_}
+use mathlib.Core.Bool.{Bool, true, false, cond}
+use mathlib.Core.List.{List, [], _∷_, _++_}
+use mathlib.Core.Option.{Option, some, none}
+use Rattle.paths_numbers.specs.meaning.Text.{same}
+use Rattle.paths_numbers.specs.meaning.Path.{joined}
+use Rattle.making.specs.declared.ctx.LowerCtx.{LowerCtx}
+use Rattle.making.specs.declared.place.PathAt.{PathAt}
+use Rattle.log.specs.meaning.Contents.{Span}
+use Rattle.making.specs.meaning.State.{State, emit}
+use lib.Dec.{eqb}
+use Rattle.log.specs.meaning.Record.{nOf, firstText, secondText}
+use Rattle.log.specs.meaning.ReadBack.{chainOf, readBindings, readDefs}
+use Rattle.making.specs.machine.Represents.{Context, Represents, lastNumber}
+use Rattle.queries.specs.meaning.Kind.{setsOverlay}
+use Rattle.paths_numbers.specs.meaning.Lists.{any}
+use Rattle.queries.specs.meaning.Live.{containsNode}
+use Rattle.input.specs.meaning.Report.{report}
+use Rattle.resolving.specs.meaning.Resolve.{firstBinding, Resolution, reaches, missing}
+use Rattle.resolving.specs.declared.resolve.Found.{Found}
+use Rattle.resolving.specs.declared.resolve.Resolved.{Resolved}
+use Rattle.resolving.specs.declared.resolve.Resolved.the-variants as R
+
+-- where a reference with this label and this path leads
+unfoldable pub resolution : List ℕ → List ℕ → List ℕ → List ℕ → Resolved → Resolution
+resolution words bytes l p (R.Bound r) = reaches (secondText words bytes r)
+resolution words bytes l p (R.BoundPath r) = reaches (joined (secondText words bytes r) p [])
+resolution words bytes l p R.AtPath = reaches p
+resolution words bytes l p R.NoLabel = missing 3 l
+resolution words bytes l p R.NoNode = missing 4 p
+resolution words bytes l p (R.NoNodeBelow r) = missing 4 (joined (secondText words bytes r) p [])
+
+-- the label that a reference of a log names, empty where it names none
+unfoldable pub targetLabel : List ℕ → List ℕ → ℕ → List ℕ
+targetLabel words bytes r = cond (eqb (nOf words r) 1) (firstText words bytes r) (cond (eqb (nOf words r) 2) (firstText words bytes r) [])
+
+-- whether a record has this first text: a binding this label, a definition this path
+abbrev pub hasText : List ℕ → List ℕ → List ℕ → ℕ → Bool
+hasText words bytes t r = same (firstText words bytes r) t
+
+-- the first record of a chain with this first text, and what stands before it
+pub record FirstAt (words bytes : List ℕ) (first : ℕ) (t : List ℕ) (number previous : ℕ) : Type 0 where
+  pub before : List ℕ
+  pub after : List ℕ
+  pub chain : chainOf words first ≡ before ++ number ∷ after
+  pub previousIs : previous ≡ lastNumber before
+  pub others : any (hasText words bytes t) before ≡ false
+  pub has : firstText words bytes number ≡ t
+
+pub record FirstWith (words bytes : List ℕ) (first : ℕ) (t : List ℕ) (f : Found) : Type 0 where
+  pub none-there : f .number ≡ 0 → any (hasText words bytes t) (chainOf words first) ≡ false
+  pub there : (f .number ≡ 0 → ⊥) → FirstAt words bytes first t (f .number) (f .previous)
+
+-- a record of a chain
+pub record InChain (words : List ℕ) (first r : ℕ) : Type 0 where
+  pub before : List ℕ
+  pub after : List ℕ
+  pub chain : chainOf words first ≡ before ++ r ∷ after
+
+-- the binding by which a reference leads or would lead
+abbrev pub boundBy : Resolved → Option ℕ
+boundBy (R.Bound r) = some r
+boundBy (R.BoundPath r) = some r
+boundBy R.AtPath = none
+boundBy R.NoLabel = none
+boundBy R.NoNode = none
+boundBy (R.NoNodeBelow r) = some r
+
+-- is one of the log's, the label's first; and at the path by which a reference leads there is a live node
+pub record Leads (words bytes : List ℕ) (binds defs : ℕ) (l p : List ℕ) (v : Resolved) : Type 0 where
+  pub there : (r : ℕ) → boundBy v ≡ some r → InChain words binds r
+  pub first : (r : ℕ) → boundBy v ≡ some r → firstBinding l (readBindings words bytes binds) ≡ some (secondText words bytes r)
+  pub alive : v ≡ R.AtPath → containsNode p (readDefs words bytes defs) ≡ true
+
+-- a reference that leads nowhere reported, but in an overlay
+pub record ReportsMissing (v : Resolved) (l p : List ℕ) (span : Span) (c d : LowerCtx) (words bytes w b : List ℕ) : Type 0 where
+  pub reports : (k : Context) (s : State) (code : ℕ) (text : List ℕ) → Represents k c words bytes s → c .short ≡ false
+      → Leads words bytes (c .binds .first) (c .defs .first) l p v
+      → resolution words bytes l p v ≡ missing code text → Represents k d w b
+      (emit (cond (setsOverlay (s .defs)) [] (report code text span ∷ [])) s)

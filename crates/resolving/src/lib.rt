@@ -1,0 +1,2 @@
+// Where references lead.
+pub mod resolve;

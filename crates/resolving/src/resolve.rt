@@ -1,0 +1,215 @@
+// Where references lead: resolve_phandle of lowering/mod.rs. What is asked of the log in hand is asked
+// by the heads of its chains, of any words and bytes.
+ghost use mathlib.Core.Path.{_≡_};
+ghost use mathlib.Core.List.{List};
+ghost use mathlib.Core.Option.{some};
+ghost use Prim.Native.Nat.{ℕ};
+ghost use Rattle.paths_numbers.specs.meaning.Reference.{Target};
+ghost use Rattle.log.specs.machine.Parts.{meant};
+ghost use Rattle.log.specs.meaning.Record.{secondText};
+ghost use Rattle.log.specs.meaning.ReadBack.{targetAt, readBindings, readDefs};
+ghost use Rattle.resolving.specs.meaning.Resolve.{byLabel, belowLabel, liveAt, firstBinding, resolve};
+ghost use Rattle.input.specs.machine.PhandleRead.{labelAt, pathAt, phandleRead};
+ghost use Rattle.resolving.specs.machine.Leading.{targetLabel, FirstWith, resolution, Leads, ReportsMissing};
+ghost use Rattle.making.specs.machine.PathPlaces.{placedIn};
+use input::phandle::PhandleRead;
+use input::phandle::phandle_label_at;
+use input::phandle::phandle_path_at;
+use input::record::no_text;
+use log::layout;
+use log::parts::Span;
+use log::record::first_text;
+use log::record::log_count;
+use log::record::next_of;
+use log::record::out_field;
+use log::record::second_text;
+use making::ctx::LowerCtx;
+use making::place::PathAt;
+use making::place::second_place;
+use paths_numbers::codes::LABEL_NOT_FOUND;
+use paths_numbers::codes::NODE_NOT_FOUND;
+use paths_numbers::text::equals;
+use queries::definition::goes_on;
+use queries::mir::contains_node_in;
+use queries::mir::contains_node_path;
+use queries::mir::sets_overlay_in;
+
+// Where a reference leads: to the path of a binding, to its own path below that, or to its own path;
+// or nowhere, for its label, for its own path, or for the path below a binding's.
+pub enum Resolved {
+    Bound(u32),
+    BoundPath(u32),
+    AtPath,
+    NoLabel,
+    NoNode,
+    NoNodeBelow(u32),
+}
+
+// A record of a chain, and the one before it, 0 where there is none.
+pub struct Found {
+    pub number: u32,
+    pub previous: u32,
+}
+
+// Where a reference leads that can be read.
+pub fn resolve_phandle(
+    words: &[u32],
+    text: &[u8],
+    r: u32,
+    read: PhandleRead,
+    out: &[u32],
+    bytes: &[u8],
+    binds: u32,
+    defs: u32,
+) -> Resolved
+    ensures { λ v. ⌜ ((t : Target) → phandleRead (now (words .entry)) (now (text .entry)) r read .result ≡ some t
+        → resolution (now (out .entry)) (now (bytes .entry)) (labelAt (now (words .entry)) (now (text .entry)) r)
+        (pathAt (now (words .entry)) (now (text .entry)) r) v ≡ resolve t (readBindings (now (out .entry)) (now (bytes .entry)) binds)
+        (readDefs (now (out .entry)) (now (bytes .entry)) defs)) ⌝ }
+    ensures { λ v. ⌜ Leads (now (out .entry)) (now (bytes .entry)) binds defs (labelAt (now (words .entry)) (now (text .entry)) r)
+        (pathAt (now (words .entry)) (now (text .entry)) r) v ⌝ }
+{
+    let label = phandle_label_at(words, text, r);
+    let path = phandle_path_at(words, text, r);
+    match read {
+        PhandleRead::Label => resolve_label(out, bytes, binds, label),
+        PhandleRead::LabelPath => resolve_below(out, bytes, binds, defs, label, path),
+        PhandleRead::Path => resolve_path(out, bytes, defs, path),
+        PhandleRead::Macro(_) => Resolved::NoLabel,
+        PhandleRead::Unreadable => Resolved::NoLabel,
+    }
+}
+
+// Where a reference of a log leads, by its record.
+pub fn resolve_target(out: &[u32], bytes: &[u8], binds: u32, defs: u32, r: u32) -> Resolved
+    ensures { λ v. ⌜ resolution (now (out .entry)) (now (bytes .entry)) (targetLabel (now (out .entry)) (now (bytes .entry)) r)
+        (secondText (now (out .entry)) (now (bytes .entry)) r) v ≡ resolve (targetAt (now (out .entry)) (now (bytes .entry)) r)
+        (readBindings (now (out .entry)) (now (bytes .entry)) binds) (readDefs (now (out .entry)) (now (bytes .entry)) defs) ⌝ }
+    ensures { λ v. ⌜ Leads (now (out .entry)) (now (bytes .entry)) binds defs (targetLabel (now (out .entry)) (now (bytes .entry)) r)
+        (secondText (now (out .entry)) (now (bytes .entry)) r) v ⌝ }
+{
+    let n = out_field(out, r, layout::N);
+    let label = first_text(out, bytes, r);
+    let path = second_text(out, bytes, r);
+    if n == 1 {
+        return resolve_label(out, bytes, binds, label);
+    }
+    if n == 2 {
+        return resolve_below(out, bytes, binds, defs, label, path);
+    }
+    if n == 3 {
+        return resolve_path(out, bytes, defs, path);
+    }
+    Resolved::NoLabel
+}
+
+// Where a label leads.
+pub fn resolve_label(out: &[u32], bytes: &[u8], binds: u32, label: &[u8]) -> Resolved
+    ensures { λ v. ⌜ ((p : List ℕ) → resolution (now (out .entry)) (now (bytes .entry)) (now (label .entry)) p v ≡ byLabel
+        (now (label .entry)) (firstBinding (now (label .entry)) (readBindings (now (out .entry)) (now (bytes .entry)) binds))) ⌝ }
+    ensures { λ v. ⌜ ((p : List ℕ) (defs : ℕ) → Leads (now (out .entry)) (now (bytes .entry)) binds defs (now (label .entry)) p v) ⌝ }
+{
+    let found = first_with(out, bytes, binds, label);
+    if found.number == 0 {
+        return Resolved::NoLabel;
+    }
+    Resolved::Bound(found.number)
+}
+
+// Where a path below a label leads.
+pub fn resolve_below(
+    out: &[u32],
+    bytes: &[u8],
+    binds: u32,
+    defs: u32,
+    label: &[u8],
+    path: &[u8],
+) -> Resolved
+    ensures { λ v. ⌜ resolution (now (out .entry)) (now (bytes .entry)) (now (label .entry)) (now (path .entry)) v ≡ belowLabel
+        (now (label .entry)) (now (path .entry)) (firstBinding (now (label .entry))
+        (readBindings (now (out .entry)) (now (bytes .entry)) binds)) (readDefs (now (out .entry)) (now (bytes .entry)) defs) ⌝ }
+    ensures { λ v. ⌜ Leads (now (out .entry)) (now (bytes .entry)) binds defs (now (label .entry)) (now (path .entry)) v ⌝ }
+{
+    let found = first_with(out, bytes, binds, label);
+    let number = found.number;
+    if number == 0 {
+        return Resolved::NoLabel;
+    }
+    let base = second_text(out, bytes, number);
+    if contains_node_path(out, bytes, defs, base, path, no_text(path)) {
+        return Resolved::BoundPath(number);
+    }
+    Resolved::NoNodeBelow(number)
+}
+
+// Where a path leads.
+pub fn resolve_path(out: &[u32], bytes: &[u8], defs: u32, path: &[u8]) -> Resolved
+    ensures { λ v. ⌜ ((l : List ℕ) → resolution (now (out .entry)) (now (bytes .entry)) l (now (path .entry)) v ≡ liveAt (now (path .entry))
+        (readDefs (now (out .entry)) (now (bytes .entry)) defs)) ⌝ }
+    ensures { λ v. ⌜ ((l : List ℕ) (binds : ℕ) → Leads (now (out .entry)) (now (bytes .entry)) binds defs l (now (path .entry)) v) ⌝ }
+{
+    if contains_node_in(out, bytes, defs, path) {
+        return Resolved::AtPath;
+    }
+    Resolved::NoNode
+}
+
+// The first record of a chain with this first text, number 0 where there is none: a label's first
+// binding, a definition with a path.
+pub fn first_with(out: &[u32], bytes: &[u8], first: u32, text: &[u8]) -> Found
+    ensures { λ f. ⌜ FirstWith (now (out .entry)) (now (bytes .entry)) first (now (text .entry)) f ⌝ }
+{
+    let mut previous: u32 = 0;
+    let mut r = first;
+    let mut left = log_count(out);
+    while goes_on(out, r, left) {
+        if equals(first_text(out, bytes, r), text) {
+            return Found {
+                number: r,
+                previous: previous,
+            };
+        }
+        previous = r;
+        r = next_of(out, r);
+        left -= 1;
+    }
+    Found {
+        number: 0,
+        previous: 0,
+    }
+}
+
+// Reports a reference that leads nowhere, unless the log in hand is an overlay.
+pub fn report_unresolved(
+    ctx: LowerCtx,
+    out: &mut [u32],
+    bytes: &mut [u8],
+    v: Resolved,
+    label: &[u8],
+    path: &[u8],
+    span: Span,
+) -> LowerCtx
+    ensures { λ d. ⌜ ReportsMissing v (now (label .entry)) (now (path .entry)) (meant span) ctx d (now (out .entry)) (now (bytes .entry))
+        (now (out .exit)) (now (bytes .exit)) ⌝ }
+{
+    if sets_overlay_in(out, ctx.defs.first) {
+        return ctx;
+    }
+    let none = Span { from: 0, to: 0 };
+    match v {
+        Resolved::NoLabel => ctx.emit(out, bytes, LABEL_NOT_FOUND, label, span, none),
+        Resolved::NoNode => ctx.emit(out, bytes, NODE_NOT_FOUND, path, span, none),
+        Resolved::NoNodeBelow(b) => ctx.emit_joined(
+            out,
+            bytes,
+            NODE_NOT_FOUND,
+            span,
+            second_place(out, b),
+            path,
+            no_text(path),
+        ),
+        Resolved::Bound(_) => ctx,
+        Resolved::BoundPath(_) => ctx,
+        Resolved::AtPath => ctx,
+    }
+}

@@ -1,0 +1,98 @@
+-- An instance of demand 3's premises that is not the easy one: the two stand in a node that a reference reopened, before a node of the same
+-- path is made, the new subnode has a labelled node and a property in it, and a later deletion and re-creation follow.
+use Prim.Native.Nat.{ℕ}
+use mathlib.Core.Bool.{true, false}
+use mathlib.Core.Path.{_≡_, refl}
+use mathlib.Core.List.{List, [], _∷_}
+use mathlib.Core.Option.{some, none}
+use Rattle.paths_numbers.specs.meaning.Byte.{digitOf}
+use Rattle.paths_numbers.specs.meaning.Text.{same, isEmpty, begins, startsWith}
+use Rattle.paths_numbers.specs.meaning.Path.{join, atOrUnder, strip}
+use Rattle.log.specs.meaning.Contents.{Span}
+use Rattle.queries.specs.meaning.Kind.{setsOverlay}
+use Rattle.paths_numbers.specs.meaning.Lists.{any}
+use Rattle.queries.specs.meaning.Live.{live, isLive, gone, containsNode}
+use Rattle.input.specs.meaning.Tree.{Tree, Trees, tree, empty, more, firstOf, has}
+use Rattle.input.specs.meaning.Name.{nameOrMacro, fullName, nodeNameSpan, propertyNameSpan, labelsOf}
+use Rattle.input.specs.meaning.Phandle.{lowerPhandle}
+use Rattle.resolving.specs.meaning.Resolve.{resolve, firstBinding}
+use Rattle.input.specs.meaning.Property.{lowerValues}
+use Rattle.making.specs.meaning.State.{State, start, define, bind, emit, bindingsBytes, diagsBytes, textsBytes, valuesRecords, valuesBytes}
+use Rattle.making.specs.meaning.State.{dropped, apart, extended}
+use Rattle.items.specs.meaning.Unbind.{without, unbind}
+use Rattle.items.specs.meaning.Lower.{lowered, lowerItem, lowerItems, lowerNode, lowerProperty, lowerDirective, lowerDeleteNode, deleteNode}
+use Rattle.items.specs.meaning.Lower.{placeOf, opened, labelTexts}
+use Rattle.two_runs.specs.meaning.TwoRuns.{plainName, quietDirective, quiet, quietIn, Names, Pair, Inserted, here, after, within}
+use Rattle.input.specs.meaning.GoodName.{goodNames, goodNamesIn}
+use Rattle.lowering.specs.examples.Example.{span, part}
+
+-- a node of this name and label with these items
+abbrev nodeNamed : ℕ → Trees → Trees → Tree
+nodeNamed name labels items = tree 1 [] 0 (span 20 30) (part 5 (name ∷ []) 20 21 empty labels) items
+
+-- the deletion of a node by name
+abbrev deletionOf : ℕ → Tree
+deletionOf name = tree 3 [] 4 (span 40 50) (part 5 (name ∷ []) 45 46 empty empty) empty
+
+-- l: c { p; }, in a new node b, and the deletion of b
+abbrev pub subnode : Tree
+subnode =
+    nodeNamed 98 empty
+    (more
+    (nodeNamed 99 (part 7 [] 20 21 (part 5 (108 ∷ []) 20 21 empty empty) empty)
+    (more (tree 2 [] 0 (span 24 26) (part 5 (112 ∷ []) 24 25 empty empty) empty) empty))
+    empty)
+
+abbrev pub deletion : Tree
+deletion = deletionOf 98
+
+-- b made, deleted and made again, after the two
+abbrev pub rest : Trees
+rest = more (nodeNamed 98 empty empty) (more (deletionOf 98) (more (nodeNamed 98 empty empty) empty))
+
+-- / { x: x { }; }; &x { body }; of which the body is the rest, or the two and the rest
+abbrev pub whole : Trees → Trees
+whole body =
+    more
+    (tree 1 [] 0 (span 0 9) (part 10 [] 0 1 empty empty)
+    (more (nodeNamed 120 (part 7 [] 3 5 (part 5 (120 ∷ []) 3 4 empty empty) empty) empty) empty))
+    (more (tree 1 [] 0 (span 10 60) (part 8 (120 ∷ []) 10 12 empty empty) body) empty)
+
+-- "/x/b"
+abbrev pub newPath : List ℕ
+newPath = 47 ∷ 120 ∷ 47 ∷ 98 ∷ []
+
+-- the state in which run B comes to the two
+abbrev pub before : State
+before = opened (47 ∷ 120 ∷ []) (part 8 (120 ∷ []) 10 12 empty empty) (span 10 60)
+    (emit [] (lowerItem (tree 1 [] 0 (span 0 9) (part 10 [] 0 1 empty empty)
+    (more (nodeNamed 120 (part 7 [] 3 5 (part 5 (120 ∷ []) 3 4 empty empty) empty) empty) empty)) [] start))
+
+pair : Pair newPath (47 ∷ 120 ∷ []) before subnode deletion
+unfolding lowered lowerItem lowerItems lowerNode lowerProperty lowerDirective lowerDeleteNode deleteNode placeOf opened labelTexts define
+    bind emit unbind without labelsOf nameOrMacro fullName nodeNameSpan propertyNameSpan firstOf has join same isEmpty lowerPhandle resolve
+    firstBinding lowerValues live isLive gone atOrUnder strip begins startsWith any setsOverlay quiet quietIn plainName quietDirective
+pair =
+    record {
+      inBody = refl;
+      subnode = refl;
+      newPath = record { name = 98 ∷ []; named = refl; path = refl };
+      deletion = refl;
+      deletesNode = refl;
+      samePath = record { name = 98 ∷ []; named = refl; path = refl };
+      quietNode = refl;
+      quietDeletion = refl;
+      silent = refl;
+      nothingLive = refl;
+      nothingBound = refl;
+    }
+
+pub inserted : Inserted newPath [] start (whole rest) (whole (more subnode (more deletion rest)))
+unfolding lowered lowerItem lowerItems lowerNode lowerProperty lowerDirective lowerDeleteNode deleteNode placeOf opened labelTexts define
+    bind emit unbind without labelsOf nameOrMacro fullName nodeNameSpan propertyNameSpan firstOf has join same isEmpty lowerPhandle resolve
+    firstBinding lowerValues live isLive gone atOrUnder strip begins startsWith any setsOverlay
+inserted = after (within {p = 47 ∷ 120 ∷ []} refl (here pair))
+
+pub good : goodNamesIn (whole (more subnode (more deletion rest))) ≡ true
+unfolding goodNames goodNamesIn any
+good = refl
