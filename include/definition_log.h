@@ -1,18 +1,18 @@
-/* The definition log: lowering, which makes it of a description, and the queries: what of it is live, what a path's history is, and whether a node is
- * there. Proved in Rattle; docs/01-scope.md says what each gives, and "01" below is that page.
+/* The definition log: lowering, which makes it of a description, and the queries: what of it is live, what a path's history is, and
+ * whether a node is there. Proved in Rattle; docs/01-scope.md says what each gives, and "01" below is that page.
  *
  * A slice is a pointer and a length in elements: `words_len` counts words of 32 bits, not bytes. What a caller keeps:
  *   - the length is true: that many elements can be read there, and of `out`, `bytes` of lowering, and `list` written;
  *   - `words`, `out` and `list` are aligned as a uint32_t is;
- *   - a slice that is written overlaps no other slice of the call: `list`, and `out` and `bytes` of lowering; the others are only read, and may share
- *     memory, as a path that stands in `bytes`;
+ *   - a slice that is written overlaps no other slice of the call: `list`, and `out` and `bytes` of lowering; the others are only read,
+ *     and may share memory, as a path that stands in `bytes`;
  *   - a pointer is null only with length 0.
- * Every function answers every input: a description or a log that is broken is refused, never followed. None keeps a pointer, none writes anything but the
- * slices named above, and none takes heap.
+ * Every function answers every input: a description or a log that is broken is refused, never followed. None keeps a pointer, none writes
+ * anything but the slices named above, and none takes heap.
  *
- * Stack: lowering takes up to about 1.5 MB, a live list up to about 1.2 MB, a history up to about 600 KB, dl_contains_node up to about 350 KB (measured;
- * docs/PERFORMANCE.md says how). What lowering takes is bounded whatever it is lent: arrays of fixed sizes, and calls that go down one level for each of
- * the 64 that a description may have.
+ * Stack: lowering takes up to about 1.5 MB, a live list up to about 1.2 MB, a history up to about 600 KB, dl_contains_node up to about
+ * 350 KB (measured; docs/PERFORMANCE.md says how). What lowering takes is bounded whatever it is lent: arrays of fixed sizes, and calls
+ * that go down one level for each of the 64 that a description may have.
  *
  * Link with libdefinition_log_c.a (`rt staticlib definition_log_c`). */
 #ifndef DEFINITION_LOG_H
@@ -33,8 +33,8 @@ struct DlAnswer {
     uint32_t returned;
 };
 
-/* The numbers. A lowering tries 1 to 7 in this order, each over all records before the next, and a query 8 to 10. "First" is the lowest record. After 1 to
- * 6 both buffers of a lowering are as they were, and after 8 to 10 the list of a query is. */
+/* The numbers. A lowering tries 1 to 7 in this order, each over all records before the next, and a query 8 to 10. "First" is the lowest
+ * record. After 1 to 6 both buffers of a lowering are as they were, and after 8 to 10 the list of a query is. */
 enum {
     /* The answer is there.
      * Of dl_lower: the log is written, and every word and byte of the buffers that is no part of it is 0. Returned: 0.
@@ -42,22 +42,25 @@ enum {
     DL_ANSWERED = 0,
     /* The words are not 8 times 1 to 2,048, or the text has over 65,536 bytes. Returned: 0. */
     DL_WRONG_SIZE = 1,
-    /* A link does not lead above its own record, leads past the last record, or leads to one already linked: next and child of every record, and W of
-     * nodes and properties. Returned: the first record with such a link. */
+    /* A link does not lead above its own record, leads past the last record, or leads to one already linked: next and child of every
+     * record, and W of nodes and properties. Returned: the first record with such a link. */
     DL_BAD_LINK = 2,
-    /* A text does not end inside the text that is lent; an empty one has a start too. Every record has one. Returned: the first such record. */
+    /* A text does not end inside the text that is lent; an empty one has a start too. Every record has one. Returned: the first such
+     * record. */
     DL_BAD_TEXT = 3,
-    /* A kind is unfit for its place, has a child where it has none, W is outside its list or is no character, a span ends before its start, or a word of
-     * record 0 other than its child is not 0. Returned: the first such record. 4 to 6 look only at records reached from record 0. */
+    /* A kind is unfit for its place, has a child where it has none, W is outside its list or is no character, a span ends before its
+     * start, or a word of record 0 other than its child is not 0. Returned: the first such record. 4 to 6 look only at records reached
+     * from record 0. */
     DL_UNFIT_RECORD = 4,
     /* A name is empty or holds "/", or a reference by name holds "/". Returned: the first such record. */
     DL_BAD_NAME = 5,
     /* More than 64 child, item or value links lead from record 0 to a record; next links do not count. Returned: the first such record. */
     DL_TOO_DEEP = 6,
-    /* The records or bytes made are more than the buffers hold, or more than 65,536 records or 2^24 bytes. Bodies that are dropped and bindings that are
-     * removed again count. Returned: 0. Every word and byte of both buffers is 0. */
+    /* The records or bytes made are more than the buffers hold, or more than 65,536 records or 2^24 bytes. Bodies that are dropped and
+     * bindings that are removed again count. Returned: 0. Every word and byte of both buffers is 0. */
     DL_NO_ROOM = 7,
-    /* The log breaks a rule for logs, listed below. Returned: the lowest record at fault, which is 0 also where the count of words is wrong. */
+    /* The log breaks a rule for logs, listed below. Returned: the lowest record at fault, which is 0 also where the count of words is
+     * wrong. */
     DL_BROKEN_LOG = 8,
     /* The path is not empty, not "/", and not "/" before each of its nonempty components, as "a", "/a/" and "//" are not. Returned: 0. */
     DL_BAD_PATH = 9,
@@ -65,9 +68,9 @@ enum {
     DL_LIST_TOO_SHORT = 10
 };
 
-/* ---- Descriptions: what lowering reads. A description is words, 8 to a record, and a text, where the texts of the records are: a start and a length
- * there, with no end mark. Links are record numbers, and chains of them end in 0. A link leads above its own record, and no record has two links to it.
- * Record 0 has only the first top item, as its child; its other words are 0. */
+/* ---- Descriptions: what lowering reads. A description is words, 8 to a record, and a text, where the texts of the records are: a start
+ * and a length there, with no end mark. Links are record numbers, and chains of them end in 0. A link leads above its own record, and no
+ * record has two links to it. Record 0 has only the first top item, as its child; its other words are 0. */
 
 /* The words of a record, by their index. */
 enum {
@@ -91,7 +94,8 @@ enum {
     DL_IN_NAME = 5, /* text: the name */
     DL_IN_UNIT_ADDRESS = 6, /* child: a name or a macro */
     DL_IN_LABEL = 7, /* child: a name or a macro */
-    DL_IN_REFERENCE = 8, /* W 0, by name: text is the name, of length 0 where it is missing; W 1, raw: text is `&{..}`. child: a macro or none */
+    /* W 0, by name: text is the name, of length 0 where it is missing; W 1, raw: text is `&{..}`. child: a macro or none */
+    DL_IN_REFERENCE = 8,
     DL_IN_MACRO = 9, /* text: as it stands */
     DL_IN_SLASH = 10, /* a root node's mark */
     DL_IN_OMIT = 11, /* the mark that a node may be left out */
@@ -157,7 +161,8 @@ enum {
     DL_W_CONDITIONAL = 19 /* ?:, which has three operands */
 };
 
-/* The limits of a description, and of the log that is made of one. No description needs larger buffers than DL_MOST_WORDS and DL_MOST_BYTES. */
+/* The limits of a description, and of the log that is made of one. No description needs larger buffers than DL_MOST_WORDS and
+ * DL_MOST_BYTES. */
 enum {
     DL_MOST_IN_RECORDS = 2048,
     DL_MOST_TEXT = 65536,
@@ -167,8 +172,9 @@ enum {
     DL_MOST_BYTES = 16777216
 };
 
-/* ---- The log. It is words, 16 to a record, and bytes, where the texts of the records are; a text is a start and a length there, with no end mark.
- * Links are record numbers, and chains of them end in 0. A larger buffer than the log may be lent; records from 65,536 on are no part of it. */
+/* ---- The log. It is words, 16 to a record, and bytes, where the texts of the records are; a text is a start and a length there, with no
+ * end mark. Links are record numbers, and chains of them end in 0. A larger buffer than the log may be lent; records from 65,536 on are
+ * no part of it. */
 
 /* The words of a record other than record 0, by their index. */
 enum {
@@ -255,33 +261,35 @@ enum {
     DL_CODE_SHIFT_AMOUNT = 26 /* a shift amount outside of 0 to 63 */
 };
 
-/* The rules that number 8 speaks of: the count of words is 16 times 1 or more; each link leads to a record of the log, up or down, and no record is
- * reached twice; a child is 0 where the kind has none; texts end inside `bytes`; a kind fits the chain that it is in; no span ends before its start;
- * paths of definitions and bindings are as number 9 asks and not empty, but a version's or plugin directive's may be. Only record 0 and what links
- * lead to from it is looked at, and its two counts are not. */
+/* The rules that number 8 speaks of: the count of words is 16 times 1 or more; each link leads to a record of the log, up or down, and no
+ * record is reached twice; a child is 0 where the kind has none; texts end inside `bytes`; a kind fits the chain that it is in; no span
+ * ends before its start; paths of definitions and bindings are as number 9 asks and not empty, but a version's or plugin directive's may
+ * be. Only record 0 and what links lead to from it is looked at, and its two counts are not. */
 
 /* ---- Lowering. */
 
-/* Lowers the description in `words` and `text` into `out` and `bytes`: the log of its top items, then of the post checks. What the buffers held before does
- * not matter. `out` holds as many records as it has times 16 words, and DL_RECORDS_USED and DL_BYTES_USED of the log say how much was needed. Words of
- * `out` behind its last whole record are 0 then; leave them out where the log is lent to a query, which asks for 16 times 1 or more. */
-struct DlAnswer dl_lower(const uint32_t *words, size_t words_len, const uint8_t *text, size_t text_len, uint32_t *out, size_t out_len, uint8_t *bytes,
-                         size_t bytes_len);
+/* Lowers the description in `words` and `text` into `out` and `bytes`: the log of its top items, then of the post checks. What the
+ * buffers held before does not matter. `out` holds as many records as it has times 16 words, and DL_RECORDS_USED and DL_BYTES_USED of the
+ * log say how much was needed. Words of `out` behind its last whole record are 0 then; leave them out where the log is lent to a query,
+ * which asks for 16 times 1 or more. */
+struct DlAnswer dl_lower(const uint32_t *words, size_t words_len, const uint8_t *text, size_t text_len,
+                         uint32_t *out, size_t out_len, uint8_t *bytes, size_t bytes_len);
 
 /* ---- Queries. An answer is the number of a record of the chain that starts at DL_FIRST_DEFINITION. */
 
-/* The definitions that are live at or under `base`, latest first: those that are no deletion, have no later deleted node at or above their path and, of
- * properties, no later property or deleted property with their path. */
-struct DlAnswer dl_iter_live_defs_under(const uint32_t *words, size_t words_len, const uint8_t *bytes, size_t bytes_len, const uint8_t *base,
-                                        size_t base_len, uint32_t *list, size_t list_len);
+/* The definitions that are live at or under `base`, latest first: those that are no deletion, have no later deleted node at or above
+ * their path and, of properties, no later property or deleted property with their path. */
+struct DlAnswer dl_iter_live_defs_under(const uint32_t *words, size_t words_len,
+                                        const uint8_t *bytes, size_t bytes_len, const uint8_t *base, size_t base_len,
+                                        uint32_t *list, size_t list_len);
 
 /* The history of `path`, earliest first: its definitions and deletions, and each deletion of a node above it by which it went. */
-struct DlAnswer dl_history(const uint32_t *words, size_t words_len, const uint8_t *bytes, size_t bytes_len, const uint8_t *path, size_t path_len,
-                           uint32_t *list, size_t list_len);
+struct DlAnswer dl_history(const uint32_t *words, size_t words_len, const uint8_t *bytes, size_t bytes_len,
+                           const uint8_t *path, size_t path_len, uint32_t *list, size_t list_len);
 
 /* Whether a node is live at `path`: returned is 1 or 0. */
-struct DlAnswer dl_contains_node(const uint32_t *words, size_t words_len, const uint8_t *bytes, size_t bytes_len, const uint8_t *path,
-                                 size_t path_len);
+struct DlAnswer dl_contains_node(const uint32_t *words, size_t words_len, const uint8_t *bytes, size_t bytes_len,
+                                 const uint8_t *path, size_t path_len);
 
 #ifdef __cplusplus
 }

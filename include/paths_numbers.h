@@ -1,13 +1,14 @@
-/* Paths, numbers, operators, cells, bytestrings and references, proved in Rattle; docs/01-scope.md says what each gives, and "01" below is that page.
+/* Paths, numbers, operators, cells, bytestrings and references, proved in Rattle; docs/01-scope.md says what each gives, and "01" below
+ * is that page.
  *
  * A slice is a pointer and a length in bytes. What a caller keeps:
  *   - the length is true: that many bytes can be read there, and of `out` written;
  *   - `out` overlaps no other slice of the call;
- *   - a pointer is null only with length 0.
- * Every function answers every input; none keeps a pointer, and only `out` is written. A path has no end mark, and texts are bytes.
+ *   - a pointer is null only with length 0. Every function answers every input; none keeps a pointer, and only `out` is written. A path
+ *     has no end mark, and texts are bytes.
  *
- * Codes are 01's: 11 a hex digit is missing, 12 no cell width, 13 character too large, 15 expression outside the width, 16 empty, 17 not a
- * digit, 18 too large, 19 too small, 24 result outside 64 bits, 25 zero divisor, 26 shift amount outside 0 to 63.
+ * Codes are 01's: 11 a hex digit is missing, 12 no cell width, 13 character too large, 15 expression outside the width, 16 empty, 17 not
+ * a digit, 18 too large, 19 too small, 24 result outside 64 bits, 25 zero divisor, 26 shift amount outside 0 to 63.
  *
  * Link with libpaths_numbers_c.a (`rt staticlib paths_numbers_c`). */
 #ifndef PATHS_NUMBERS_H
@@ -38,8 +39,9 @@ struct PnWritten {
     size_t len;
 };
 
-/* What a raw reference names: kind 1 a label, 2 a label and a path, 3 a path, 0 it cannot be read. The parts stand in the raw text: the label
- * from 2 on; the path from 2 on where the kind is 3, from 3 + label_len on where it is 2. A part that the kind does not name has length 0. */
+/* What a raw reference names: kind 1 a label, 2 a label and a path, 3 a path, 0 it cannot be read. The parts stand in the raw text: the
+ * label from 2 on; the path from 2 on where the kind is 3, from 3 + label_len on where it is 2. A part that the kind does not name has
+ * length 0. */
 struct PnReference {
     uint32_t kind;
     size_t label_len;
