@@ -124,19 +124,19 @@ under-antisym p b u v =
 
 -- how two texts relate that each stand before a "/" of one text
 data Line (a b : List ℕ) : Type 0 where
-  nesting : a ≡ b → Line a b
+  level : a ≡ b → Line a b
   first : (rest : List ℕ) → a ≡ b ++ slash ∷ rest → Line a b
   second : (rest : List ℕ) → b ≡ a ++ slash ∷ rest → Line a b
 
 -- the same behind one byte more
 line-cons : {a b : List ℕ} (x : ℕ) → Line a b → Line (x ∷ a) (x ∷ b)
-line-cons x (nesting e) = nesting (ap (λ (s : List ℕ). x ∷ s) e)
+line-cons x (level e) = level (ap (λ (s : List ℕ). x ∷ s) e)
 line-cons x (first rest e) = first rest (ap (λ (s : List ℕ). x ∷ s) e)
 line-cons x (second rest e) = second rest (ap (λ (s : List ℕ). x ∷ s) e)
 
 -- and so they do
 line : (a b r t : List ℕ) → a ++ slash ∷ r ≡ b ++ slash ∷ t → Line a b
-line [] [] r t e = nesting refl
+line [] [] r t e = level refl
 line [] (y ∷ b) r t e = second b (rw (head-eq-of-cons-eq e) refl)
 line (x ∷ a) [] r t e = first a (rw (head-eq-of-cons-eq e) refl)
 line (x ∷ a) (y ∷ b) r t e = rw (head-eq-of-cons-eq e) (line-cons y (line a b r t (tail-eq-of-cons-eq e)))
@@ -149,7 +149,7 @@ line-root p (x ∷ b) rest s e = inr (below-root refl (rw e at s))
 
 -- so that one lies at or under the other
 line-under : {a b : List ℕ} → Line a b → Under a b ⊎ Under b a
-line-under (nesting e) = inl (whole e)
+line-under (level e) = inl (whole e)
 line-under (first rest e) = inl (below rest e)
 line-under (second rest e) = inr (below rest e)
 
