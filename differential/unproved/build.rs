@@ -2,18 +2,16 @@
 
 use std::{env, fs, path::Path, path::PathBuf};
 
-/// Our crates that are read, lowest first.
-const CRATES: [&str; 9] = [
-    "paths_numbers",
-    "log",
-    "making",
-    "queries",
-    "input",
-    "post_checks",
-    "items",
-    "lowering",
-    "definition_log_c",
-];
+/// The repository's crates, each with those that it uses.
+const LISTED: &str = "../../crates.txt";
+
+/// Our crates that are read, lowest first: lowering with all that it uses, and what C links.
+fn crates_read() -> Vec<String> {
+    println!("cargo::rerun-if-changed={LISTED}");
+    let listed = fs::read_to_string(LISTED).unwrap_or_else(|error| panic!("{LISTED}: {error}"));
+    let used = listed.lines().find_map(|line| line.strip_prefix("lowering: ")).expect("lowering is listed");
+    used.split(' ').chain(["lowering", "definition_log_c"]).map(str::to_owned).collect()
+}
 
 fn main() {
     println!("cargo::rerun-if-env-changed=OURS_CRATES");
@@ -21,20 +19,21 @@ fn main() {
     let crates = env::var_os("OURS_CRATES").map_or_else(|| PathBuf::from("../../crates"), PathBuf::from);
     let out = PathBuf::from(env::var_os("OUT_DIR").expect("set by cargo"));
     let mut modules = String::new();
-    for name in CRATES.into_iter().filter(|name| crates.join(name).is_dir()) {
-        read_crate(name, &crates.join(name).join("src"), &out.join(name));
+    let names = crates_read();
+    for name in &names {
+        read_crate(name, &names, &crates.join(name).join("src"), &out.join(name));
         modules += &format!("#[allow(dead_code, unused, clippy::all)]\nmod {name};\n");
     }
     fs::write(out.join("modules.rs"), modules).expect("the build's folder can be written");
 }
 
 /// Writes a crate's sources as a module; `lowers` is set if it is the one with lowering's entry.
-fn read_crate(name: &str, from: &Path, to: &Path) {
+fn read_crate(name: &str, names: &[String], from: &Path, to: &Path) {
     println!("cargo::rerun-if-changed={}", from.display());
     fs::create_dir_all(to).expect("the build's folder");
     for entry in fs::read_dir(from).unwrap_or_else(|error| panic!("{}: {error}", from.display())) {
         let file = entry.expect("a file").path();
-        let text = as_rust(name, &fs::read_to_string(&file).expect("a text"));
+        let text = as_rust(name, names, &fs::read_to_string(&file).expect("a text"));
         if text.contains("pub fn dl_lower(") {
             println!("cargo::rustc-cfg=lowers");
         }
@@ -45,7 +44,7 @@ fn read_crate(name: &str, from: &Path, to: &Path) {
 }
 
 /// A source without ghost lines and contracts, its own crate and the others as modules of one.
-fn as_rust(name: &str, source: &str) -> String {
+fn as_rust(name: &str, names: &[String], source: &str) -> String {
     let mut out = String::new();
     let mut open = 0;
     for line in source.lines() {
@@ -62,7 +61,7 @@ fn as_rust(name: &str, source: &str) -> String {
             }
             let line = line.replace("pub extern \"C\" fn", "pub fn");
             let line = line.replace("crate::", &format!("crate::{name}::"));
-            out += &CRATES.iter().fold(line, |line, other| as_module(&line, other));
+            out += &names.iter().fold(line, |line, other| as_module(&line, other));
             out += "\n";
         }
     }

@@ -39,9 +39,14 @@ const IN_A_FILE: usize = 10;
 /// What no small description can show.
 const LIMITS: [&str; 4] = ["2048 records", "65536 bytes of text", "64 links", "path of 40 components"];
 
-/// The crates whose definitions are computed through.
-const USED: [&str; 8] =
-    ["paths_numbers", "log", "making", "queries", "input", "post_checks", "items", "lowering"];
+/// The repository's crates, each with those that it uses.
+const LISTED: &str = include_str!("../../../../crates.txt");
+
+/// The crates whose definitions are computed through: lowering and all that it uses.
+fn used() -> impl Iterator<Item = &'static str> {
+    let below = LISTED.lines().find_map(|line| line.strip_prefix("lowering: ")).expect("lowering is listed");
+    below.split(' ').chain(["lowering"])
+}
 
 /// A description of the sample.
 struct Sample {
@@ -204,8 +209,8 @@ fn asked(queries: &[Query]) -> Vec<&Query> {
 /// computed only where it is named.
 fn computed(crates: &Path) -> Result<String, String> {
     let mut names = Vec::new();
-    for used in USED {
-        let specs = crates.join(used).join("specs");
+    for used in used() {
+        let specs = crates.join(used).join("specs/meaning");
         let fault = |error: std::io::Error| format!("{}: {error}", specs.display());
         let mut files = Vec::new();
         for entry in fs::read_dir(&specs).map_err(fault)? {
@@ -215,7 +220,9 @@ fn computed(crates: &Path) -> Result<String, String> {
         for file in files.iter().filter(|file| file.extension().is_some_and(|ending| ending == "antt")) {
             let module = file.file_stem().unwrap_or_default().to_string_lossy();
             let text = fs::read_to_string(file).map_err(fault)?;
-            names.extend(unfoldable(&text).iter().map(|name| format!("Rattle.{used}.specs.{module}.{name}")));
+            names.extend(
+                unfoldable(&text).iter().map(|name| format!("Rattle.{used}.specs.meaning.{module}.{name}")),
+            );
         }
     }
     Ok(format!("{COMPUTED}unfolding {}\ncomputed words text = meaning words text\n", names.join(" ")))
@@ -239,10 +246,10 @@ const COMPUTED: &str =
     "-- What the theorems share: short names, and one name for all that they compute through.
 use Prim.Native.Nat.{ℕ}
 use mathlib.Core.List.{List}
-use Rattle.log.specs.Meaning.{Span, DefValue, Def, Ext, Binding, Diag}
-use Rattle.making.specs.State.{State}
-use Rattle.lowering.specs.Lowered.{meaning}
-use Rattle.paths_numbers.specs.Reference.{Target}
+use Rattle.log.specs.meaning.Contents.{Span, DefValue, Def, Ext, Binding, Diag}
+use Rattle.making.specs.meaning.State.{State}
+use Rattle.lowering.specs.meaning.Lowered.{meaning}
+use Rattle.paths_numbers.specs.meaning.Reference.{Target}
 
 abbrev pub span : ℕ → ℕ → Span
 span a b = record { from = a; to = b }

@@ -17,14 +17,14 @@ use Prim.Native.Nat.{ℕ}
 use mathlib.Core.Bool.{true, false}
 use mathlib.Core.Path.{_≡_, refl}
 use mathlib.Core.List.{List, [], _∷_}
-use Rattle.paths_numbers.specs.Reference.{label, labelPath, path}
-use Rattle.log.specs.Meaning.{Def, number, reference, string, cellList, bytestring, phandle, node, property, deletedNode, deletedProperty, version, plugin}
-use Rattle.queries.specs.Live.{live, containsNode}
-use Rattle.queries.specs.History.{history}
-use Rattle.making.specs.State.{State}
-use Rattle.post_checks.specs.Post.{postChecks}
-use Rattle.input.specs.Rows.{verdict, accepted, refused}
-use Rattle.lowering.specs.Lowered.{meaning, recordsMade, bytesMade}
+use Rattle.paths_numbers.specs.meaning.Reference.{label, labelPath, path}
+use Rattle.log.specs.meaning.Contents.{Def, number, reference, string, cellList, bytestring, phandle, node, property, deletedNode, deletedProperty, version, plugin}
+use Rattle.queries.specs.meaning.Live.{live, containsNode}
+use Rattle.queries.specs.meaning.History.{history}
+use Rattle.making.specs.meaning.State.{State}
+use Rattle.post_checks.specs.meaning.Post.{postChecks}
+use Rattle.input.specs.meaning.Rows.{verdict, accepted, refused}
+use Rattle.lowering.specs.meaning.Lowered.{meaning, recordsMade, bytesMade}
 use Rattle.judged.specs.Computed.{computed, span, definition, extension, binding, diagnostic}
 ";
 
