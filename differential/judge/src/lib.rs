@@ -4,6 +4,7 @@ pub mod answer;
 pub mod build;
 pub mod by_01;
 pub mod codes;
+pub mod counts;
 pub mod coverage;
 pub mod crate_tree;
 pub mod damaged;

@@ -4,7 +4,13 @@ use std::{env, fs, io::Write, process::ExitCode};
 
 use judge::{
     answer::{Answer, Query},
-    by_01, definitions, generate, listing_input, logs, memory, notation, ours, panics, parts, recorded,
+    by_01,
+    counts::Counts,
+    definitions, generate,
+    library::Library,
+    listing_input, logs, memory, notation, ours, panics,
+    parts::{self, ALL, SHORT, Sizes},
+    recorded,
     records::{self, RECORD, Records},
     speed, text_form, trees, worked,
 };
@@ -15,13 +21,10 @@ const RECORDED: &str = concat!(env!("CARGO_MANIFEST_DIR"), "/../../crates/replay
 /// Where the repository's crates are, unless OURS_CRATES names another folder.
 const CRATES: &str = concat!(env!("CARGO_MANIFEST_DIR"), "/../../crates");
 
-const NO_QUERIES: &str = "our library with the queries is not there (rt staticlib definition_log_c)";
-const NO_LOWERING: &str = "our library with lowering is not there (dl_lower of definition_log_c)";
-
-const USAGE: &str =
-    "usage: run [all [CASES]] | worked FILE | numbers | small | trees FROM CASES | damaged [FROM CASES] | pairs [FROM CASES]
-       | queries [FROM LOGS]
-       | planted | speed | ask DESCRIPTION | show SEED | input SEED | write FILE | judge FILE | listing FILE | record FOLDER | definitions FOLDER [COUNT] [SEED]";
+const USAGE: &str = "usage: run [all [CASES]] | short | worked FILE | numbers | small | trees FROM CASES
+       | damaged [FROM CASES] | pairs [FROM CASES] | queries [FROM LOGS] | planted | speed
+       | ask DESCRIPTION | show SEED | input SEED | write FILE | judge FILE | listing FILE
+       | record FOLDER | definitions FOLDER [COUNT] [SEED]";
 
 fn main() -> ExitCode {
     panics::install_hook();
@@ -39,22 +42,23 @@ fn main() -> ExitCode {
 /// What the words ask for.
 fn command(words: &[&str]) -> Result<(), String> {
     match *words {
-        [] | ["all"] => all(parts::CASES),
+        [] | ["all"] => all(ALL.descriptions),
         ["all", cases] => number(cases).and_then(all),
+        ["short"] => short(),
         ["worked", file] => worked::run(file),
-        ["numbers"] => parts::closing(parts::numbers(), 0),
-        ["small"] => parts::small(ours::library().as_ref()).and_then(|counts| parts::closing(counts, 0)),
-        ["trees", from, cases] => part(descriptions, from, cases),
-        ["damaged"] => damaged_part(0, parts::DAMAGED).and_then(|counts| parts::closing(counts, 0)),
-        ["damaged", from, cases] => part(damaged_part, from, cases),
-        ["pairs"] => pairs_part(0, parts::PAIRS).and_then(|counts| parts::closing(counts, 0)),
-        ["pairs", from, cases] => part(pairs_part, from, cases),
-        ["queries"] => queries_part(0, parts::LOGS).and_then(|counts| parts::closing(counts, 0)),
-        ["queries", from, logs] => part(queries_part, from, logs),
+        ["numbers"] => parts::numbers(&ours::leaves()?).closing(),
+        ["small"] => parts::small(&ours::library()?)?.closing(),
+        ["trees", from, cases] => part(parts::descriptions, number(from)?, number(cases)?),
+        ["damaged"] => part(parts::damaged, 0, ALL.damaged),
+        ["damaged", from, cases] => part(parts::damaged, number(from)?, number(cases)?),
+        ["pairs"] => part(parts::pairs, 0, ALL.pairs),
+        ["pairs", from, cases] => part(parts::pairs, number(from)?, number(cases)?),
+        ["queries"] => part(parts::queries, 0, ALL.logs),
+        ["queries", from, logs] => part(parts::queries, number(from)?, number(logs)?),
         ["memory", program] => memory::run(program, None),
-        ["memory", program, cases] => number(cases).and_then(|cases| memory::run(program, Some(cases))),
+        ["memory", program, cases] => memory::run(program, Some(number(cases)?)),
         ["speed"] => speed_part(),
-        ["planted"] => planted_part(),
+        ["planted"] => ours::library().and_then(|_| parts::planted()),
         ["ask", description] => ask(description),
         ["show", seed] => show(seed),
         ["input", seed] => input(seed),
@@ -79,70 +83,43 @@ fn print_bytes(bytes: &[u8]) -> Result<(), String> {
     std::io::stdout().write_all(bytes).map_err(|error| error.to_string())
 }
 
-/// One part alone, from a seed on, with the closing line.
-fn part(part: fn(u64, u64) -> Result<parts::Counts, String>, from: &str, cases: &str) -> Result<(), String> {
-    parts::closing(part(number(from)?, number(cases)?)?, 0)
+/// One part of lowering or queries alone, from a seed on, with the closing line.
+fn part(part: fn(&Library, u64, u64) -> Result<Counts, String>, from: u64, cases: u64) -> Result<(), String> {
+    part(&ours::library()?, from, cases)?.closing()
+}
+
+/// What every run of several parts has, with the sizes of some of them.
+fn parts_of(sizes: &Sizes) -> Result<Counts, String> {
+    let (leaves, ours) = (ours::leaves()?, ours::library()?);
+    let parts = [
+        parts::numbers(&leaves),
+        parts::small(&ours)?,
+        parts::descriptions(&ours, 0, sizes.descriptions)?,
+        parts::damaged(&ours, 0, sizes.damaged)?,
+        parts::pairs(&ours, 0, sizes.pairs)?,
+        parts::queries(&ours, 0, sizes.logs)?,
+    ];
+    println!("{}", recorded::check(RECORDED)?);
+    Ok(parts.into_iter().sum())
 }
 
 /// All parts, and the closing line.
-fn all(cases: u64) -> Result<(), String> {
-    let ours = ours::library();
-    let mut counts =
-        vec![parts::numbers(), parts::small(ours.as_ref())?, descriptions(0, cases)?, parts::sentences()];
-    if let Some(ours) = &ours {
-        counts.push(parts::damaged(ours, 0, parts::DAMAGED)?);
-        counts.push(parts::pairs(ours, 0, parts::PAIRS)?);
-    }
-    counts.push(queries_part(0, parts::LOGS)?);
-    planted_part()?;
-    println!("{}", recorded::check(RECORDED)?);
-    let sum = |total: parts::Counts, part: &parts::Counts| (total.0 + part.0, total.1 + part.1);
-    parts::closing(counts.iter().fold((0, 0), sum), 0)
+fn all(descriptions: u64) -> Result<(), String> {
+    let counts = parts_of(&Sizes { descriptions, ..ALL })? + parts::sentences();
+    parts::planted()?;
+    counts.closing()
 }
 
-/// Descriptions, with our lowering if it is there.
-fn descriptions(from: u64, cases: u64) -> Result<parts::Counts, String> {
-    let ours = ours::library();
-    if ours.is_none() {
-        println!("{NO_LOWERING}: lowering through C is left out");
-    }
-    parts::descriptions(ours.as_ref(), from, cases)
+/// Less of each part, and the closing line.
+fn short() -> Result<(), String> {
+    parts_of(&SHORT)?.closing()
 }
 
-fn damaged_part(from: u64, cases: u64) -> Result<parts::Counts, String> {
-    parts::damaged(&ours::library().ok_or(NO_LOWERING)?, from, cases)
-}
-
-fn pairs_part(from: u64, cases: u64) -> Result<parts::Counts, String> {
-    parts::pairs(&ours::library().ok_or(NO_LOWERING)?, from, cases)
-}
-
-fn queries_part(from: u64, logs: u64) -> Result<parts::Counts, String> {
-    let Some(ours) = ours::queries() else {
-        println!("{NO_QUERIES}: queries are not compared with it");
-        return Ok((0, 0));
-    };
-    parts::queries(&ours, from, logs)
-}
-
-/// The tables of queries, and those of lowering if it is there.
+/// The tables of queries and of lowering.
 fn speed_part() -> Result<(), String> {
-    logs::speed::run(&ours::queries().ok_or(NO_QUERIES)?)?;
-    match ours::library() {
-        Some(ours) => speed::run(&ours),
-        None => {
-            println!("{NO_LOWERING}: it is not measured");
-            Ok(())
-        }
-    }
-}
-
-fn planted_part() -> Result<(), String> {
-    if ours::queries().is_none() {
-        println!("{NO_QUERIES}: no fault is planted into its answers");
-        return Ok(());
-    }
-    parts::planted()
+    let ours = ours::library()?;
+    logs::speed::run(&ours.queries)?;
+    speed::run(&ours)
 }
 
 /// Theorems on small descriptions, for the checker.

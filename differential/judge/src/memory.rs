@@ -4,13 +4,14 @@
 use std::{env, iter, process::Stdio, slice::Iter, sync::Mutex, thread};
 
 use crate::{
+    counts::Counts,
     coverage::Coverage,
     damaged,
     library::Library,
     logs,
     ours::served::{self, FAULTS, FOUND, Served},
     pairs,
-    parts::{self, Counts},
+    parts::{self, ALL},
     trees,
 };
 
@@ -25,38 +26,38 @@ struct Part {
 static PARTS: [Part; 4] = [
     Part {
         name: "descriptions",
-        all: |side| parts::descriptions(Some(side), 0, parts::CASES),
+        all: |side| parts::descriptions(side, 0, ALL.descriptions),
         some: |side, cases| {
-            let counts = trees::compare(Some(side), 0, cases, &mut Coverage::empty());
-            println!("{} descriptions lowered, {} different", counts.lowered, counts.lowered_different);
-            (counts.lowered, counts.lowered_different)
+            let counts = trees::compare(side, 0, cases, &mut Coverage::empty());
+            println!("{}", counts.line());
+            counts.total()
         },
     },
     Part {
         name: "queries",
-        all: |side| parts::queries(&side.queries, 0, parts::LOGS),
+        all: |side| parts::queries(side, 0, ALL.logs),
         some: |side, cases| {
             let counts = logs::compare(&side.queries, 0, cases, &mut Coverage::empty());
             println!("{}", counts.line());
-            (counts.calls, counts.different)
+            counts.total()
         },
     },
     Part {
         name: "pairs",
-        all: |side| parts::pairs(side, 0, parts::PAIRS),
+        all: |side| parts::pairs(side, 0, ALL.pairs),
         some: |side, cases| {
             let counts = pairs::compare(side, 0, cases, &mut Coverage::empty());
             println!("{}", counts.line());
-            (counts.alike, counts.different)
+            counts.total()
         },
     },
     Part {
         name: "damaged",
-        all: |side| parts::damaged(side, 0, parts::DAMAGED),
+        all: |side| parts::damaged(side, 0, ALL.damaged),
         some: |side, cases| {
             let counts = damaged::compare(side, 0, cases, &mut Coverage::empty());
             println!("{}", counts.line());
-            (counts.inputs, counts.different)
+            counts.total()
         },
     },
 ];
@@ -85,7 +86,7 @@ pub fn run(program: &str, cases: Option<u64>) -> Result<(), String> {
     })?;
     let (counts, calls) = totals.into_iter().fold(Total::default(), sum);
     println!("valgrind: {calls} calls, 0 errors");
-    parts::closing(counts, 0)
+    counts.closing()
 }
 
 fn processes() -> Result<usize, String> {
@@ -111,7 +112,7 @@ fn some_parts(program: &str, cases: Option<u64>, left: &Mutex<Iter<Part>>) -> Re
 }
 
 fn sum((one, calls): Total, (other, more): Total) -> Total {
-    ((one.0 + other.0, one.1 + other.1), calls + more)
+    (one + other, calls + more)
 }
 
 /// The faults that the program can make, in its order. All but the last are valgrind's to find.

@@ -6,6 +6,7 @@ use dt_tools_lowering::mir::MirPhandleTarget;
 use crate::{
     answer::Target,
     by_01::{self, paths},
+    counts::Counts,
     inputs::{boundary_values, near_limits, pairs, pairs_of, texts},
     leaves::{self, INTS, Int},
     ours::Leaves,
@@ -47,70 +48,58 @@ fn with_unit(name: &[u8], unit: &[u8]) -> Vec<u8> {
 }
 
 /// What a comparison counted, by leaf.
-#[derive(Default)]
-pub struct Counts {
-    pub lines: Vec<(&'static str, u64, u64)>,
-}
-
-impl Counts {
-    pub fn compared(&self) -> u64 {
-        self.lines.iter().map(|(_, compared, _)| compared).sum()
-    }
-
-    pub fn different(&self) -> u64 {
-        self.lines.iter().map(|(_, _, different)| different).sum()
-    }
-}
+pub type Lines = Vec<(&'static str, Counts)>;
 
 /// One leaf's comparison, of at most `most` cases.
 struct Run {
     leaf: &'static str,
     most: u64,
-    compared: u64,
-    different: u64,
+    counts: Counts,
 }
 
 impl Run {
     fn new(leaf: &'static str, most: u64) -> Self {
-        Self { leaf, most, compared: 0, different: 0 }
+        Self { leaf, most, counts: Counts::default() }
     }
 
     fn full(&self) -> bool {
-        self.compared >= self.most
+        self.counts.compared >= self.most
     }
 
     fn compare<T: PartialEq + std::fmt::Debug>(&mut self, input: impl Fn() -> String, rust: T, other: T) {
-        self.compared += 1;
+        self.counts.compared += 1;
         if rust != other {
-            self.different += 1;
-            if self.different <= 3 {
-                println!(
-                    "{} {}: case {}: Rust {rust:?}, other side {other:?}",
-                    self.leaf,
-                    input(),
-                    self.compared
-                );
+            self.counts.different += 1;
+            if self.counts.different <= 3 {
+                let (leaf, case) = (self.leaf, self.counts.compared);
+                println!("{leaf} {}: case {case}: Rust {rust:?}, other side {other:?}", input());
             }
         }
     }
 
-    fn end(self, counts: &mut Counts) {
-        counts.lines.push((self.leaf, self.compared, self.different));
+    /// Compares an operator; where the Rust panics, with 01's code for it.
+    fn compare_operator(&mut self, input: impl Fn() -> String, rust: Outcome, other: Result<i64, u32>) {
+        self.counts.aside += u64::from(matches!(rust, Outcome::Panics(_)));
+        self.compare(input, coded(rust), other);
+    }
+
+    fn end(self, lines: &mut Lines) {
+        lines.push((self.leaf, self.counts));
     }
 }
 
 /// Compares docs/src with a side, on at most about `most` cases for each leaf.
-pub fn compare(side: &Leaves, most: u64) -> Counts {
-    let mut counts = Counts::default();
+pub fn compare(side: &Leaves, most: u64) -> Lines {
+    let mut lines = Lines::new();
     let random = &mut Random::new(3);
-    compare_paths(side, most, &mut counts);
-    compare_ints(side, most, random, &mut counts);
-    compare_values(side, most, random, &mut counts);
-    compare_operators(side, most, random, &mut counts);
-    counts
+    compare_paths(side, most, &mut lines);
+    compare_ints(side, most, random, &mut lines);
+    compare_values(side, most, random, &mut lines);
+    compare_operators(side, most, random, &mut lines);
+    lines
 }
 
-fn compare_paths(side: &Leaves, most: u64, counts: &mut Counts) {
+fn compare_paths(side: &Leaves, most: u64, lines: &mut Lines) {
     let long = texts(&["/", "a", "b"], 7);
     if let Some(strip) = side.strip {
         let mut run = Run::new("strip", most);
@@ -121,7 +110,7 @@ fn compare_paths(side: &Leaves, most: u64, counts: &mut Counts) {
             let rust = leaves::strip(path, base).map(|rest| path.len() - rest.len());
             run.compare(|| format!("{path:?} {base:?}"), rust, strip(path.as_bytes(), base.as_bytes()));
         }
-        run.end(counts);
+        run.end(lines);
     }
     let (parents, names) = (texts(&["/", "a", "b"], 6), texts(&["/", "a", "b"], 5));
     // The Rust puts a name and its unit address together before it builds a path.
@@ -143,7 +132,7 @@ fn compare_paths(side: &Leaves, most: u64, counts: &mut Counts) {
                 );
             }
         }
-        run.end(counts);
+        run.end(lines);
     }
     if let Some(against_joined) = side.against_joined {
         let mut run = Run::new("paths against joined ones", most);
@@ -163,7 +152,7 @@ fn compare_paths(side: &Leaves, most: u64, counts: &mut Counts) {
                 );
             }
         }
-        run.end(counts);
+        run.end(lines);
     }
     if let Some(is_path) = side.is_path {
         // The Rust has no such function: the other side is compared with 01's sentence.
@@ -174,11 +163,11 @@ fn compare_paths(side: &Leaves, most: u64, counts: &mut Counts) {
             }
             run.compare(|| format!("{path:?}"), paths::is_path(path.as_bytes()), is_path(path.as_bytes()));
         }
-        run.end(counts);
+        run.end(lines);
     }
 }
 
-fn compare_ints(side: &Leaves, most: u64, random: &mut Random, counts: &mut Counts) {
+fn compare_ints(side: &Leaves, most: u64, random: &mut Random, lines: &mut Lines) {
     let short = texts(&["0", "1", "7", "9", "a", "f", "x", "b", "o", "+", "-", "u", "L", "z"], 5);
     let near = near_limits(random, 200_000);
     // Both from the start, so that a fault is found early.
@@ -192,7 +181,7 @@ fn compare_ints(side: &Leaves, most: u64, random: &mut Random, counts: &mut Coun
                 }
                 run.compare(|| format!("{text:?}"), leaves::int(kind, text), int(kind, text.as_bytes()));
             }
-            run.end(counts);
+            run.end(lines);
         }
     }
     if let Some(width) = side.width {
@@ -204,11 +193,11 @@ fn compare_ints(side: &Leaves, most: u64, random: &mut Random, counts: &mut Coun
             }
             run.compare(|| format!("{text:?}"), leaves::width(text), width(text.as_bytes()));
         }
-        run.end(counts);
+        run.end(lines);
     }
 }
 
-fn compare_values(side: &Leaves, most: u64, random: &mut Random, counts: &mut Counts) {
+fn compare_values(side: &Leaves, most: u64, random: &mut Random, lines: &mut Lines) {
     if let Some(bytes) = side.bytes {
         let mut run = Run::new("bytes", most);
         for text in texts(&["[", "]", "0", "9", "a", "F", "g", " "], 6) {
@@ -217,7 +206,7 @@ fn compare_values(side: &Leaves, most: u64, random: &mut Random, counts: &mut Co
             }
             run.compare(|| format!("{text:?}"), leaves::bytes(&text), bytes(text.as_bytes()));
         }
-        run.end(counts);
+        run.end(lines);
     }
     if let Some(reference) = side.reference {
         let mut run = Run::new("reference", most);
@@ -232,7 +221,7 @@ fn compare_values(side: &Leaves, most: u64, random: &mut Random, counts: &mut Co
                 reference(raw.as_bytes()),
             );
         }
-        run.end(counts);
+        run.end(lines);
     }
     if let Some(cell) = side.cell {
         let mut run = Run::new("cell", most);
@@ -245,7 +234,7 @@ fn compare_values(side: &Leaves, most: u64, random: &mut Random, counts: &mut Co
                 run.compare(|| format!("{bits} {value}"), leaves::cell(bits, value), cell(bits, value));
             }
         }
-        run.end(counts);
+        run.end(lines);
     }
     if let Some(character) = side.character {
         let mut run = Run::new("char", most);
@@ -259,7 +248,7 @@ fn compare_values(side: &Leaves, most: u64, random: &mut Random, counts: &mut Co
                 run.compare(|| format!("{bits} {}", u32::from(point)), leaves::character(bits, point), other);
             }
         }
-        run.end(counts);
+        run.end(lines);
     }
 }
 
@@ -282,7 +271,7 @@ fn coded(outcome: Outcome) -> Result<i64, u32> {
 }
 
 /// Operators, and `?:` on three values.
-fn compare_operators(side: &Leaves, most: u64, random: &mut Random, counts: &mut Counts) {
+fn compare_operators(side: &Leaves, most: u64, random: &mut Random, lines: &mut Lines) {
     let values = boundary_values();
     let mut any =
         |_| ((random.next() as i64) >> random.below(64), (random.next() as i64) >> random.below(64));
@@ -294,10 +283,14 @@ fn compare_operators(side: &Leaves, most: u64, random: &mut Random, counts: &mut
                 break;
             }
             for op in 1..=4 {
-                run.compare(|| format!("{op} {value}"), coded(leaves::prefix(op, value)), prefix(op, value));
+                run.compare_operator(
+                    || format!("{op} {value}"),
+                    leaves::prefix(op, value),
+                    prefix(op, value),
+                );
             }
         }
-        run.end(counts);
+        run.end(lines);
     }
     if let Some(infix) = side.infix {
         let mut run = Run::new("infix", most);
@@ -306,20 +299,21 @@ fn compare_operators(side: &Leaves, most: u64, random: &mut Random, counts: &mut
                 break;
             }
             for op in 1..=18 {
-                let rust = coded(leaves::infix(op, &[left, right]));
-                run.compare(|| format!("{op} {left} {right}"), rust, infix(op, left, right));
+                let rust = leaves::infix(op, &[left, right]);
+                run.compare_operator(|| format!("{op} {left} {right}"), rust, infix(op, left, right));
             }
         }
-        run.end(counts);
+        run.end(lines);
     }
     if let Some(conditional) = side.conditional {
         let mut run = Run::new("conditional", most);
         for condition in &values {
             for left in &values[..12] {
-                let rust = coded(leaves::infix(19, &[*condition, *left, 5]));
-                run.compare(|| format!("{condition} {left} 5"), rust, Ok(conditional(*condition, *left, 5)));
+                let rust = leaves::infix(19, &[*condition, *left, 5]);
+                let other = Ok(conditional(*condition, *left, 5));
+                run.compare_operator(|| format!("{condition} {left} 5"), rust, other);
             }
         }
-        run.end(counts);
+        run.end(lines);
     }
 }

@@ -1,6 +1,6 @@
 //! Small descriptions with lines of the Rust's answer, from cases/small.txt.
 
-use crate::{library::Library, notation, text_form::text_form, tree::Rec, trees};
+use crate::{counts::Counts, library::Library, notation, text_form::text_form, tree::Rec, trees};
 
 const CASES: &str = include_str!("../../cases/small.txt");
 const MORE: &str = include_str!("../../cases/definitions.txt");
@@ -26,10 +26,9 @@ fn lines() -> impl Iterator<Item = [&'static str; 3]> {
     })
 }
 
-/// Compares the Rust with the lines, with 01's sentences, and with a side if there is one; how many
-/// cases, how many differ.
-pub fn compare(side: Option<&Library>) -> Result<(u64, u64), String> {
-    let mut counts = (0, 0);
+/// Compares the Rust with the lines, with 01's sentences, and with a side.
+pub fn compare(side: &Library) -> Result<Counts, String> {
+    let mut counts = Counts::default();
     for [about, description, wanted] in lines() {
         let top = notation::read(description).map_err(|fault| format!("{about}: {fault}"))?;
         let (answer, queries) = trees::judged_tree(&top, 0, 40);
@@ -42,10 +41,11 @@ pub fn compare(side: Option<&Library>) -> Result<(u64, u64), String> {
             .collect();
         let by_01 = trees::difference(&top, 0);
         faults.extend(by_01.iter().map(|(by_01, rust)| format!("01 {by_01}, Rust {rust}")));
-        faults.extend(side.and_then(|side| trees::fault_of(side, &top)));
-        counts.0 += 1;
+        faults.extend(trees::fault_of(side, &top));
+        counts.compared += 1;
+        counts.aside += trees::by_rule(&answer);
         if !faults.is_empty() {
-            counts.1 += 1;
+            counts.different += 1;
             println!("{about}: {}\n{rust}", faults.join("; "));
         }
     }

@@ -3,6 +3,7 @@
 use crate::{
     answer::{Answer, Query, Text},
     by_01::{self, lower::Lowered, paths},
+    counts,
     coverage::Coverage,
     crate_tree::crate_tree,
     generate::{Case, Size, generate},
@@ -22,8 +23,6 @@ pub struct Judged {
     pub case: Case,
     pub answer: Answer,
     pub queries: Vec<Query>,
-    /// How many diagnostics follow 01's rule in the Rust's stead.
-    pub by_rule: usize,
 }
 
 /// The size of a case by its number: mostly small, some middle, few at the limits.
@@ -41,8 +40,12 @@ pub fn judged(seed: u64, size: Size, most_queries: usize) -> Judged {
 
 pub fn judged_case(case: Case, most_queries: usize) -> Judged {
     let (answer, queries) = judged_tree(&case.top, case.look, most_queries);
-    let by_rule = answer.lowering.iter().filter(|found| matches!(found.code, 9 | 24..=26)).count();
-    Judged { case, answer, queries, by_rule }
+    Judged { case, answer, queries }
+}
+
+/// How many diagnostics follow 01's rule in the Rust's stead.
+pub fn by_rule(answer: &Answer) -> u64 {
+    answer.lowering.iter().filter(|found| matches!(found.code, 9 | 24..=26)).count() as u64
 }
 
 /// The Rust's answers to a description and to queries on it.
@@ -83,8 +86,28 @@ pub struct Counts {
     pub queries: u64,
 }
 
-/// Compares the Rust with 01's sentences on `cases` descriptions, and with a side if there is one.
-pub fn compare(side: Option<&Library>, from: u64, cases: u64, coverage: &mut Coverage) -> Counts {
+impl Counts {
+    /// As a part of a run: each description is compared with 01's sentences and with the side.
+    pub fn total(&self) -> counts::Counts {
+        counts::Counts {
+            compared: self.compared + self.lowered,
+            different: self.different + self.lowered_different,
+            aside: self.by_rule,
+        }
+    }
+
+    pub fn line(&self) -> String {
+        let Self { compared, different, lowered, lowered_different, by_rule, records, queries } = self;
+        format!(
+            "{compared} descriptions with {records} records and {queries} queries, {different} different; \
+             {by_rule} diagnostics by 01's rule (codes 9, 24 to 26)\n\
+             {lowered} of them lowered by ours, {lowered_different} different"
+        )
+    }
+}
+
+/// Compares the Rust with 01's sentences and with a side on `cases` descriptions.
+pub fn compare(side: &Library, from: u64, cases: u64, coverage: &mut Coverage) -> Counts {
     let mut counts = Counts::default();
     for seed in random::seeds(from, cases) {
         let judged = judged(seed, size_of_case(seed), 40);
@@ -94,7 +117,7 @@ pub fn compare(side: Option<&Library>, from: u64, cases: u64, coverage: &mut Cov
         coverage.note(&judged, &by_01);
         let queries = queries_by_01(&by_01.answer, &judged.queries);
         counts.compared += 1;
-        counts.by_rule += judged.by_rule as u64;
+        counts.by_rule += by_rule(&judged.answer);
         counts.queries += 3 * queries.len() as u64;
         counts.records += (judged.case.records.words.len() / RECORD) as u64;
         if (&by_01.answer, &queries) != (&judged.answer, &judged.queries) {
@@ -103,9 +126,7 @@ pub fn compare(side: Option<&Library>, from: u64, cases: u64, coverage: &mut Cov
                 show_difference(seed, &judged.case.top, judged.case.look);
             }
         }
-        if let Some(side) = side {
-            compare_side(side, seed, &judged, &by_01, &mut counts);
-        }
+        compare_side(side, seed, &judged, &by_01, &mut counts);
     }
     counts
 }

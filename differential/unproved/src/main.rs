@@ -30,10 +30,10 @@ fn main() -> ExitCode {
     let words: Vec<&str> = words.iter().map(String::as_str).collect();
     let number = |text: &str| text.parse::<u64>().map_err(|_| format!("{text} is not a number"));
     let result = match words[..] {
-        [] => parts::closing(parts::leaves(&ours(), u64::MAX), 0),
+        [] => parts::leaves(&ours(), u64::MAX).closing(),
         ["whole"] => whole(0, 20_000),
         ["whole", from, cases] => number(from).and_then(|from| whole(from, number(cases)?)),
-        [most] => number(most).and_then(|most| parts::closing(parts::leaves(&ours(), most), 0)),
+        [most] => number(most).and_then(|most| parts::leaves(&ours(), most).closing()),
         _ => Err("usage: run unproved [CASES] | whole [FROM CASES]".to_owned()),
     };
     match result {

@@ -13,9 +13,9 @@ use crate::definition_log_c::{DlAnswer, dl_contains_node, dl_history, dl_iter_li
 /// up is not counted.
 pub fn compare(from: u64, cases: u64) -> Result<(), String> {
     let (side, coverage) = (library(), &mut Coverage::empty());
-    let small = parts::small(Some(&side))?;
-    let lowered = trees::compare(Some(&side), from, cases, coverage);
-    println!("{} descriptions lowered, {} different", lowered.lowered, lowered.lowered_different);
+    let small = parts::small(&side)?;
+    let lowered = trees::compare(&side, from, cases, coverage);
+    println!("{}", lowered.line());
     let damaged = damaged::compare(&side, from, cases, coverage);
     println!("{}", damaged.line());
     let limits = parts::limits(&side);
@@ -23,15 +23,7 @@ pub fn compare(from: u64, cases: u64) -> Result<(), String> {
     println!("{}", pairs.line());
     let queries = logs::compare(&side.queries, from, cases, coverage);
     println!("{}", queries.line());
-    let counts = [
-        small,
-        (lowered.lowered, lowered.lowered_different),
-        (damaged.inputs, damaged.different),
-        limits,
-        (pairs.alike, pairs.different),
-        (queries.calls, queries.different),
-    ];
-    parts::closing(counts.iter().fold((0, 0), |total, part| (total.0 + part.0, total.1 + part.1)), 0)
+    (small + lowered.total() + damaged.total() + limits + pairs.total() + queries.total()).closing()
 }
 
 fn read(answer: DlAnswer) -> (u32, u32) {

@@ -15,6 +15,7 @@ use hand::Hand;
 
 use crate::{
     by_01::{self, lower::Lowered, rows::Refused},
+    counts,
     coverage::Coverage,
     generate::{Size, generate},
     library::Library,
@@ -34,6 +35,11 @@ pub struct Counts {
 }
 
 impl Counts {
+    /// As a part of a run.
+    pub fn total(&self) -> counts::Counts {
+        counts::Counts::of(self.inputs, self.different)
+    }
+
     pub fn line(&self) -> String {
         let rows: Vec<String> =
             (1..8).map(|row| format!("{} by row {row}", self.answered[row as usize])).collect();

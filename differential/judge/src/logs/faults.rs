@@ -27,7 +27,7 @@ fn first_difference(side: &Queries) -> Option<String> {
 
 /// Our queries; that they are there was looked at before.
 fn ours() -> Queries {
-    ours::queries().expect("our library")
+    ours::library().expect("our library").queries
 }
 
 /// Our queries with one fault each.

@@ -15,6 +15,7 @@ use layout::{Layout, Log};
 use crate::{
     answer::Answer,
     by_01::row_8::{self, Chain, Refusal, Rule},
+    counts,
     coverage::Coverage,
     library::Queries,
     random::{self, Random},
@@ -33,6 +34,11 @@ pub struct Counts {
 }
 
 impl Counts {
+    /// As a part of a run.
+    pub fn total(&self) -> counts::Counts {
+        counts::Counts { compared: self.calls, different: self.different, aside: self.open }
+    }
+
     pub fn line(&self) -> String {
         let Self { logs, calls, refused, different, open } = self;
         format!(

@@ -1,8 +1,6 @@
 //! The functions of include/definition_log.h.
 
-#[cfg(ours_lowering)]
-use crate::library::Library;
-use crate::library::Queries;
+use crate::library::{Library, Queries};
 
 #[repr(C)]
 struct Answer {
@@ -16,7 +14,6 @@ unsafe extern "C" {
     fn dl_iter_live_defs_under(w: *const u32, wl: usize, b: *const u8, bl: usize, p: *const u8, pl: usize, l: *mut u32, ll: usize) -> Answer;
     fn dl_history(w: *const u32, wl: usize, b: *const u8, bl: usize, p: *const u8, pl: usize, l: *mut u32, ll: usize) -> Answer;
     fn dl_contains_node(w: *const u32, wl: usize, b: *const u8, bl: usize, p: *const u8, pl: usize) -> Answer;
-    #[cfg(ours_lowering)]
     fn dl_lower(w: *const u32, wl: usize, t: *const u8, tl: usize, o: *mut u32, ol: usize, b: *mut u8, bl: usize) -> Answer;
 }
 
@@ -37,7 +34,7 @@ impl Answer {
 
 /// SAFETY of the calls: each slice is passed with its own length, and `list` is a buffer apart.
 #[rustfmt::skip]
-pub const QUERIES: Queries = Queries {
+const QUERIES: Queries = Queries {
     live: |words, bytes, base, list| unsafe {
         dl_iter_live_defs_under(start(words), words.len(), start(bytes), bytes.len(), start(base), base.len(), start_mut(list), list.len()).read()
     },
@@ -50,7 +47,6 @@ pub const QUERIES: Queries = Queries {
 };
 
 /// SAFETY of the call: each slice is passed with its own length, and the two buffers are apart.
-#[cfg(ours_lowering)]
 #[rustfmt::skip]
 pub const LIBRARY: Library = Library {
     lower: |records, out, bytes| unsafe {

@@ -1,10 +1,8 @@
 //! Our side, called through C.
 //!
 //! `leaves` puts the exported functions of the lowest crate into a table, if there was a static
-//! library with them when the judge was built (see build.rs). A function that is missing in the
-//! table is not compared. `queries` does the same for the queries, which have a library of their own,
-//! and `library` for lowering and the queries together, if that library has lowering too. `served` has
-//! both in a program of its own under valgrind.
+//! library with them when the judge was built (see build.rs). `library` does the same for lowering and
+//! the queries, which have a library of their own. `served` has these in a program of its own under valgrind.
 
 #[cfg(ours_queries)]
 mod definition_log;
@@ -12,11 +10,7 @@ mod definition_log;
 mod paths_numbers;
 pub mod served;
 
-use crate::{
-    answer::Target,
-    leaves::Int,
-    library::{Library, Queries},
-};
+use crate::{answer::Target, leaves::Int, library::Library};
 
 /// The leaves on one side of a comparison. Codes are 01's. A name has a unit address, empty where
 /// there is none.
@@ -69,26 +63,18 @@ fn written_alone(out: &[u8], length: usize) -> Vec<u8> {
     }
 }
 
-/// Our leaves, or none if the library was not there when the judge was built.
-pub fn leaves() -> Option<Leaves> {
+/// Our leaves; fails if the library was not there when the judge was built.
+pub fn leaves() -> Result<Leaves, String> {
     #[cfg(ours)]
-    return Some(paths_numbers::leaves());
+    return Ok(paths_numbers::leaves());
     #[cfg(not(ours))]
-    None
+    Err("our library of numbers and paths is not there: rt staticlib paths_numbers_c".to_owned())
 }
 
-/// Our queries, or none if their library was not there when the judge was built.
-pub fn queries() -> Option<Queries> {
+/// Our lowering and queries; fails if the library was not there when the judge was built.
+pub fn library() -> Result<Library, String> {
     #[cfg(ours_queries)]
-    return Some(definition_log::QUERIES);
+    return Ok(definition_log::LIBRARY);
     #[cfg(not(ours_queries))]
-    None
-}
-
-/// Our lowering and queries, or none if the library was not there or could not lower.
-pub fn library() -> Option<Library> {
-    #[cfg(ours_lowering)]
-    return Some(definition_log::LIBRARY);
-    #[cfg(not(ours_lowering))]
-    None
+    Err("our library of lowering and queries is not there: rt staticlib definition_log_c".to_owned())
 }

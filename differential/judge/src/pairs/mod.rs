@@ -15,6 +15,7 @@ use spot::Spot;
 
 use crate::{
     by_01::{self, lower::Lowered, paths::under},
+    counts,
     coverage::Coverage,
     generate::{Case, Size, generate},
     library::Library,
@@ -37,6 +38,11 @@ pub struct Counts {
 }
 
 impl Counts {
+    /// As a part of a run: the pairs that meet the premises.
+    pub fn total(&self) -> counts::Counts {
+        counts::Counts::of(self.alike, self.different)
+    }
+
     pub fn line(&self) -> String {
         let Self { alike, broken, seen, different } = self;
         format!(
