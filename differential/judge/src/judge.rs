@@ -1,11 +1,15 @@
 //! Runs the Rust on a tree and takes its answer down.
 
+use std::{collections::BTreeMap, slice};
+
 use dt_tools_diagnostic::{Diagnostic, Span as RustSpan};
 use dt_tools_lowering::{
     check, database, lower,
+    lowering::Label,
     mir::{Mir, MirCell32, MirCellList, MirDefinition, MirDefinitionValue, MirPhandleTarget, MirValue},
     preprocess::PreprocessedText,
 };
+use rustc_hash::FxHashMap;
 
 use crate::{
     answer::{Answer, Binding, Cell, Definition, Diagnosis, Extension, Query, Target, Text, Value},
@@ -20,14 +24,6 @@ pub fn judge(tree: &CrateTree, paths: impl FnOnce(&Answer) -> Vec<Text>) -> (Ans
     let lowered = lower(&db);
     let mir = lowered.mir(&db);
 
-    // Each label record binds once, and the walk of the tree is the order of lowering.
-    let mut bindings: Vec<_> = lowered
-        .labels(&db)
-        .iter()
-        .flat_map(|(label, bindings)| bindings.iter().map(move |binding| (label, binding)))
-        .collect();
-    bindings.sort_by_key(|(_, binding)| binding.span.text_range.origin);
-
     let answer = Answer {
         definitions: mir.definitions.iter().map(definition).collect(),
         extensions: mir
@@ -40,20 +36,31 @@ pub fn judge(tree: &CrateTree, paths: impl FnOnce(&Answer) -> Vec<Text>) -> (Ans
                 name_span: span(&extension.phandle_span),
             })
             .collect(),
-        bindings: bindings
-            .into_iter()
-            .map(|(label, binding)| Binding {
-                label: label.as_bytes().to_vec(),
-                path: binding.path.as_bytes().to_vec(),
-                span: span(&binding.span),
-            })
-            .collect(),
+        bindings: bindings(lowered.labels(&db)),
         lowering: lowered.diagnostics(&db).iter().map(|diagnostic| diagnosis(tree, diagnostic)).collect(),
         post: post_checks(tree, check(&db, lowered)),
     };
     let text = |path: &Text| String::from_utf8(path.clone()).expect("the Rust's texts are UTF-8");
     let queries = paths(&answer).into_iter().map(|path| query(mir, &text(&path), path)).collect();
     (answer, queries)
+}
+
+/// Bindings as made: each label record binds once, and the walk of the tree is the order of lowering. The
+/// Rust's map has no order of labels, but one of each label's own bindings, which is kept as it is.
+fn bindings(map: &FxHashMap<String, Vec<Label>>) -> Vec<Binding> {
+    let mut made: Vec<(u32, &str)> = Vec::new();
+    let mut left: BTreeMap<&str, slice::Iter<Label>> = BTreeMap::new();
+    for (label, own) in map {
+        made.extend(own.iter().map(|binding| (binding.span.text_range.origin, label.as_str())));
+        left.insert(label, own.iter());
+    }
+    made.sort_unstable();
+    let next = |(_, label): (u32, &str)| {
+        let binding = left.get_mut(label)?.next()?;
+        let path = binding.path.as_bytes().to_vec();
+        Some(Binding { label: label.as_bytes().to_vec(), path, span: span(&binding.span) })
+    };
+    made.into_iter().filter_map(next).collect()
 }
 
 /// The Rust goes through labels as its hash map has them; 01 by first remaining binding.
