@@ -3,7 +3,9 @@
 //! "query: output rules broken (16 words each, links inside the log in either direction, no record
 //! reached twice, texts as in 3, kinds and spans as in 4, definition and binding paths as in 9 but
 //! nonempty; a version or plugin path may be empty)"; only records reached from record 0, the lowest
-//! number. 01 has no word on the chain in which a record stands that comes behind one reached
+//! number. "Links (next, child, .. M of output kind 13)" names no kinds for child: the child word of a
+//! kind that has no children is its owner's fault, and a link all the same, to a record that fits
+//! nowhere. 01 has no word on the chain in which a record stands that comes behind one reached
 //! twice: where that decides, `Refusal` has more than one answer.
 
 use super::paths::is_path;
@@ -54,9 +56,11 @@ pub enum Chain {
     Values,
     Cells,
     References,
+    /// What a child word of a kind without children leads to: no kind fits.
+    Nowhere,
 }
 
-use Chain::{Bindings, Cells, Definitions, Diagnostics, Extensions, Labels, References, Values};
+use Chain::{Bindings, Cells, Definitions, Diagnostics, Extensions, Labels, Nowhere, References, Values};
 
 impl Chain {
     fn fits(self, kind: u32) -> bool {
@@ -69,17 +73,18 @@ impl Chain {
             Values => matches!(kind, 8 | 9 | 10 | 12),
             Cells => matches!(kind, 11 | 12),
             References => kind == 12,
+            Nowhere => false,
         }
     }
 
-    /// The chain that a kind's child leads to, if it has children.
-    fn of_children(kind: u32) -> Option<Self> {
+    /// The chain that a kind's child leads to.
+    fn of_children(kind: u32) -> Self {
         match kind {
-            1 => Some(Labels),
-            2 => Some(Values),
-            9 => Some(Cells),
-            13 => Some(References),
-            _ => None,
+            1 => Labels,
+            2 => Values,
+            9 => Cells,
+            13 => References,
+            _ => Nowhere,
         }
     }
 }
@@ -140,7 +145,7 @@ pub fn reached(words: &[u32]) -> Vec<Reached> {
     reached
 }
 
-/// A record's links that are named for its kind, and the chains that they lead to.
+/// A record's links, and the chains that they lead to.
 fn links(words: &[u32], number: u32, chain: Option<Chain>) -> Vec<(u32, Chain)> {
     let words = record(words, number);
     let Some(chain) = chain else {
@@ -148,10 +153,10 @@ fn links(words: &[u32], number: u32, chain: Option<Chain>) -> Vec<(u32, Chain)> 
             .map(|(word, chain)| (words[word], chain))
             .to_vec();
     };
-    let next = Some((words[1], chain));
-    let child = Chain::of_children(words[0]).map(|chain| (words[6], chain));
-    let body = (words[0] == 13).then_some((words[8], Definitions));
-    [next, child, body].into_iter().flatten().collect()
+    let kind = words[0];
+    let mut links = vec![(words[1], chain), (words[6], Chain::of_children(kind))];
+    links.extend((kind == 13).then_some((words[8], Definitions)));
+    links
 }
 
 /// "links inside the log in either direction".
@@ -169,7 +174,7 @@ fn broken(words: &[u32], bytes: &[u8], number: u32, reached: &Reached) -> Option
     let words = record(words, number);
     let kind = words[0];
     let rules = [
-        (Rule::ChildWord, words[6] != 0 && Chain::of_children(kind).is_none()),
+        (Rule::ChildWord, words[6] != 0 && Chain::of_children(kind) == Nowhere),
         (Rule::Twice, reached.times > 1),
         (Rule::Text, text(words, 2, bytes).is_none() || text(words, 4, bytes).is_none()),
         (Rule::Kind(chain), reached.chains.iter().all(|chain| !chain.fits(kind))),

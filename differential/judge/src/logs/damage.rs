@@ -35,7 +35,7 @@ const fn passes(name: &'static str, make: fn(&mut Hand) -> bool) -> Damage {
 }
 
 /// Every clause of row 8, then what is no fault.
-pub static DAMAGES: [Damage; 37] = [
+pub static DAMAGES: [Damage; 38] = [
     breaks("no words", |hand| hand.resize(0)),
     breaks("words that are no multiple of 16", Hand::odd_words),
     breaks("a link to a record that is cut off", Hand::cut_record),
@@ -49,7 +49,10 @@ pub static DAMAGES: [Damage; 37] = [
     breaks("a link to record 65,536 or above of a log that long", Hand::link_above_most),
     breaks("a child word in a kind without children", |hand| {
         let any = hand.random.below(hand.count() + 2) as u32 + 1;
-        hand.set(|kind| !matches!(kind, 1 | 2 | 9 | 13), 6, any)
+        hand.set(has_no_children, 6, any)
+    }),
+    breaks("a child word in a kind without children to a record that no other link leads to", |hand| {
+        hand.loose_number().is_some_and(|loose| hand.set(has_no_children, 6, loose))
     }),
     breaks("two links to a record", Hand::link_twice),
     breaks("two links of record 0 to a record", Hand::link_twice_at_0),
@@ -106,6 +109,10 @@ pub static DAMAGES: [Damage; 37] = [
     passes("a definition in record 65,535", Hand::move_to_last),
     passes("anything in a record that no link leads to", Hand::loose_record),
 ];
+
+fn has_no_children(kind: u32) -> bool {
+    !matches!(kind, 1 | 2 | 9 | 13)
+}
 
 /// Kinds that can stand in the same chains.
 fn kind_group(kind: u32) -> u32 {
@@ -286,6 +293,26 @@ impl Hand {
         let start = self.log.bytes.len() as u32;
         self.log.bytes = [&self.log.bytes, bad].concat().into_boxed_slice();
         self.set_again(word, start) && self.set_again(word + 1, bad.len() as u32)
+    }
+
+    /// A record that no link leads to: one that is there, or where the first definition was, which then
+    /// stands behind the others.
+    fn loose_number(&mut self) -> Option<u32> {
+        let count = self.count() as u32;
+        let first = self.word(0, 1).copied().filter(|first| (1..count).contains(first))?;
+        let loose: Vec<u32> = (1..count).filter(|number| !self.reached.contains(number)).collect();
+        if !loose.is_empty() && self.random.once_in(2) {
+            return Some(self.random.pick(&loose));
+        }
+        self.resize((count as usize + 1) * RECORD);
+        let from = first as usize * RECORD;
+        self.log.words.copy_within(from..from + RECORD, count as usize * RECORD);
+        self.log.words[1] = count;
+        let place = self.reached.iter().position(|number| *number == first)?;
+        self.reached[place] = count;
+        *self.word(first, 1)? = 0;
+        *self.word(first, 6)? = 0;
+        Some(first)
     }
 
     fn loose_record(&mut self) -> bool {

@@ -3,6 +3,7 @@
 mod asked;
 mod damage;
 pub mod faults;
+mod known;
 mod layout;
 mod made;
 mod rust;
@@ -48,10 +49,14 @@ impl Counts {
     }
 }
 
-/// Compares a side with the Rust on as many logs that keep the output rules, half of them the Rust's
-/// lowerings of generated descriptions, and on as many damaged ones.
+/// Compares a side with known answers to logs written by hand, then with the Rust on as many logs that keep
+/// the output rules, half of them the Rust's lowerings of generated descriptions, and on as many damaged ones.
 pub fn compare(side: &Queries, from: u64, logs: u64, coverage: &mut Coverage) -> Counts {
     let mut counts = Counts::default();
+    for fault in known::compare(side, &mut counts) {
+        counts.different += 1;
+        println!("{fault}");
+    }
     for seed in random::seeds(from, logs) {
         for fault in compare_seed(side, seed, &mut counts, coverage) {
             counts.different += 1;
@@ -104,7 +109,7 @@ const SEEN: [&str; 18] = [
     "several records at fault",
 ];
 
-const RULES: [Rule; 15] = [
+const RULES: [Rule; 16] = [
     Rule::Words,
     Rule::LinkOut,
     Rule::ChildWord,
@@ -118,6 +123,7 @@ const RULES: [Rule; 15] = [
     Rule::Kind(Chain::Values),
     Rule::Kind(Chain::Cells),
     Rule::Kind(Chain::References),
+    Rule::Kind(Chain::Nowhere),
     Rule::Span,
     Rule::Path,
 ];
