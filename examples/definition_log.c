@@ -1,13 +1,18 @@
 /* Lowers a small description by include/definition_log.h, prints its log, asks the three queries of it, and shows refusals:
  *   rt staticlib definition_log_c
- *   gcc -Iinclude examples/definition_log.c target/staticlib/libdefinition_log_c.a -o target/definition_log && target/definition_log */
+ *   gcc -Iinclude examples/definition_log.c target/staticlib/libdefinition_log_c.a -o target/definition_log && target/definition_log
+ *
+ * definition_log.expected is what it must print. Its definitions, bindings, diagnostics, live lists and histories are the Rust's answers
+ * (`differential/run ask`), its counts and refusals 01's table, counted by hand. The numbers of the log's records, which 01 leaves open, are
+ * not printed. */
 #include <inttypes.h>
 #include <stdio.h>
 #include <string.h>
 
 #include "definition_log.h"
 
-/* The source. Its first two lines are the example of 01; then a bay with a property, deleted again; then a reference to a label that is not there. */
+/* The source. Its first two lines are the example of 01; then a bay with a property, deleted again; then a reference to a label that is not
+ * there. */
 static const char source[] = "/dts-v1/;\n"
                              "/ { a: b { }; };\n"
                              "/ { bay@1 { ink = <7>; }; /delete-node/ bay@1; };\n"
@@ -82,7 +87,8 @@ static void told(const char *what, struct DlAnswer answer)
         printf("the description is not 1 to 2,048 records of 8 words, or its text is longer than 65,536 bytes\n");
         break;
     case DL_BAD_LINK:
-        printf("a link of record %" PRIu32 " does not lead upwards, leads past the end, or leads to a record linked already\n", answer.returned);
+        printf("a link of record %" PRIu32 " does not lead upwards, leads past the end, or leads to a record linked already\n",
+               answer.returned);
         break;
     case DL_BAD_TEXT:
         printf("the text of record %" PRIu32 " ends behind the text that is lent\n", answer.returned);
@@ -100,7 +106,7 @@ static void told(const char *what, struct DlAnswer answer)
         printf("the log needs larger buffers\n");
         break;
     case DL_BROKEN_LOG:
-        printf("the log is broken at record %" PRIu32 "\n", answer.returned);
+        printf("the log is broken%s\n", answer.returned == 0 ? " at record 0" : "");
         break;
     case DL_BAD_PATH:
         printf("this is no path\n");
@@ -120,15 +126,18 @@ static void diagnostics(uint32_t first)
     }
 }
 
+/* Prints a definition: kind, path, and where it is in the source. */
+static void definition(const uint32_t *r)
+{
+    printf("  %s \"%.*s\" at %" PRIu32 "-%" PRIu32 "\n", kinds[r[DL_KIND]], FIRST_TEXT(r), r[DL_SPAN_START], r[DL_SPAN_END]);
+}
+
 /* Prints the log: definitions, bindings, and diagnostics, those of the post checks last. */
 static void print_log(void)
 {
     printf("%" PRIu32 " records and %" PRIu32 " bytes used\ndefinitions:\n", words[DL_RECORDS_USED], words[DL_BYTES_USED]);
-    for (uint32_t n = words[DL_FIRST_DEFINITION]; n != 0; n = record(n)[DL_NEXT]) {
-        const uint32_t *r = record(n);
-        printf("  record %" PRIu32 ": %s \"%.*s\" at %" PRIu32 "-%" PRIu32 "\n", n, kinds[r[DL_KIND]], FIRST_TEXT(r), r[DL_SPAN_START],
-               r[DL_SPAN_END]);
-    }
+    for (uint32_t n = words[DL_FIRST_DEFINITION]; n != 0; n = record(n)[DL_NEXT])
+        definition(record(n));
     printf("bindings:\n");
     for (uint32_t n = words[DL_FIRST_BINDING]; n != 0; n = record(n)[DL_NEXT])
         printf("  %.*s is %.*s\n", FIRST_TEXT(record(n)), SECOND_TEXT(record(n)));
@@ -137,12 +146,12 @@ static void print_log(void)
     diagnostics(words[DL_FIRST_POST_DIAGNOSTIC]);
 }
 
-/* Prints the answers of a list by kind and path. */
+/* Prints the answers of a list, which are record numbers, by the definitions that they name. */
 static void answers(const char *query, const char *path, struct DlAnswer answer, const uint32_t *list)
 {
     printf("%s \"%s\": %" PRIu32 "\n", query, path, answer.returned);
     for (uint32_t i = 0; i < answer.returned; i++)
-        printf("  record %" PRIu32 ": %s \"%.*s\"\n", list[i], kinds[record(list[i])[DL_KIND]], FIRST_TEXT(record(list[i])));
+        definition(record(list[i]));
 }
 
 static void live(const char *base)
@@ -163,6 +172,17 @@ static void history(const char *path)
         answers("history of", path, answer, list);
     else
         told(path, answer);
+}
+
+/* Asks without the bytes: the lowest record at fault is the lowest one with a text. */
+static void without_bytes(void)
+{
+    struct DlAnswer answer = dl_contains_node(words, WORDS, NULL, 0, TEXT("/b"));
+    uint32_t lowest = 1;
+    while (lowest < words[DL_RECORDS_USED] && record(lowest)[DL_TEXT_LENGTH] == 0 && record(lowest)[DL_SECOND_LENGTH] == 0)
+        lowest++;
+    told("no bytes", answer);
+    printf("  at the lowest record with a text: %s\n", answer.returned == lowest ? "yes" : "no");
 }
 
 /* Lowers the description with one word of a record changed. */
@@ -204,9 +224,9 @@ int main(void)
     told("a node at /bay@1", dl_contains_node(words, WORDS, bytes, BYTES, TEXT("/bay@1")));
     told("a node at /stock", dl_contains_node(words, WORDS, bytes, BYTES, TEXT("/stock")));
 
-    /* Queries that are refused. Without the bytes, the lowest record at fault is the lowest one with a text. */
+    /* Queries that are refused. */
     told("one word missing", dl_contains_node(words, WORDS - 1, bytes, BYTES, TEXT("/b")));
-    told("no bytes", dl_contains_node(words, WORDS, NULL, 0, TEXT("/b")));
+    without_bytes();
     told("no log", dl_contains_node(NULL, 0, NULL, 0, TEXT("/b")));
     told("history of \"/bay@1/\"", dl_history(words, WORDS, bytes, BYTES, TEXT("/bay@1/"), list, 1));
     told("live under \"/\" into 1 place", dl_iter_live_defs_under(words, WORDS, bytes, BYTES, TEXT("/"), list, 1));
