@@ -15,7 +15,6 @@ fn crates_read() -> Vec<String> {
 
 fn main() {
     println!("cargo::rerun-if-env-changed=OURS_CRATES");
-    println!("cargo::rustc-check-cfg=cfg(lowers)");
     let crates = env::var_os("OURS_CRATES").map_or_else(|| PathBuf::from("../../crates"), PathBuf::from);
     let out = PathBuf::from(env::var_os("OUT_DIR").expect("set by cargo"));
     let mut modules = String::new();
@@ -27,16 +26,13 @@ fn main() {
     fs::write(out.join("modules.rs"), modules).expect("the build's folder can be written");
 }
 
-/// Writes a crate's sources as a module; `lowers` is set if it is the one with lowering's entry.
+/// Writes a crate's sources as a module.
 fn read_crate(name: &str, names: &[String], from: &Path, to: &Path) {
     println!("cargo::rerun-if-changed={}", from.display());
     fs::create_dir_all(to).expect("the build's folder");
     for entry in fs::read_dir(from).unwrap_or_else(|error| panic!("{}: {error}", from.display())) {
         let file = entry.expect("a file").path();
         let text = as_rust(name, names, &fs::read_to_string(&file).expect("a text"));
-        if text.contains("pub fn dl_lower(") {
-            println!("cargo::rustc-cfg=lowers");
-        }
         let stem = file.file_stem().expect("a name").to_string_lossy().into_owned();
         let stem = if stem == "lib" { "mod".to_owned() } else { stem };
         fs::write(to.join(stem + ".rs"), text).expect("the build's folder can be written");

@@ -33,21 +33,33 @@ fn answer(line: &[u8]) -> Option<String> {
             .map_or("-".to_owned(), |part| format!("={}", escaped(part.as_bytes()))),
         "join" => format!("={}", escaped(leaves::join(text(0)?, text(1)?).as_bytes())),
         "width" => given(leaves::width(text(0)?)),
-        "cell" => given(leaves::cell(text(0)?.parse().ok()?, text(1)?.parse().ok()?)),
-        "char" => given(leaves::character(text(0)?.parse().ok()?, char::from_u32(text(1)?.parse().ok()?)?)),
+        "cell" => given(leaves::cell(among(text(0)?, &WIDTHS)?, text(1)?.parse().ok()?)),
+        "char" => {
+            given(leaves::character(among(text(0)?, &WIDTHS)?, char::from_u32(text(1)?.parse().ok()?)?))
+        }
         "bytes" => given(leaves::bytes(text(0)?).map(|bytes| hex(&bytes))),
         "ref" => reference(text(0)?),
-        "prefix" => outcome(leaves::prefix(text(0)?.parse().ok()?, text(1)?.parse().ok()?)),
+        "prefix" => outcome(leaves::prefix(among(text(0)?, &[0, 1, 2, 3, 4])?, text(1)?.parse().ok()?)),
         "infix" => {
             let operands: Vec<i64> =
                 texts[1..].iter().map(|text| text.parse().ok()).collect::<Option<_>>()?;
-            outcome(leaves::infix(text(0)?.parse().ok()?, &operands))
+            let op = text(0)?.parse().ok().filter(|op| *op <= CONDITIONAL)?;
+            outcome(leaves::infix(op, &operands))
         }
         kind => {
             let (_, int) = leaves::INTS.iter().find(|(name, _)| *name == kind)?;
             given(leaves::int(*int, text(0)?))
         }
     })
+}
+
+/// The widths of cells, and the last infix operator.
+const WIDTHS: [u32; 4] = [8, 16, 32, 64];
+const CONDITIONAL: u32 = 19;
+
+/// A number, if it is one of these.
+fn among(text: &str, numbers: &[u32]) -> Option<u32> {
+    text.parse().ok().filter(|number| numbers.contains(number))
 }
 
 fn given<T: ToString>(result: Result<T, u32>) -> String {

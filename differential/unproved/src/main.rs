@@ -1,10 +1,9 @@
 //! Our sources read as Rust, their proofs left out, against the Rust judge: to find faults before
-//! there is a proof. A number limits the cases for each leaf; `whole` compares lowering and queries, once
-//! our sources have both. OURS_CRATES names another folder of crates, as a copy with a fault in it.
+//! there is a proof. A number limits the cases for each leaf; `whole` compares lowering and queries.
+//! OURS_CRATES names another folder of crates, as a copy with a fault in it.
 
 include!(concat!(env!("OUT_DIR"), "/modules.rs"));
 
-#[cfg(lowers)]
 mod whole;
 
 use std::{env, process::ExitCode};
@@ -31,8 +30,8 @@ fn main() -> ExitCode {
     let number = |text: &str| text.parse::<u64>().map_err(|_| format!("{text} is not a number"));
     let result = match words[..] {
         [] => parts::leaves(&ours(), u64::MAX).closing(),
-        ["whole"] => whole(0, 20_000),
-        ["whole", from, cases] => number(from).and_then(|from| whole(from, number(cases)?)),
+        ["whole"] => whole::compare(0, 20_000),
+        ["whole", from, cases] => number(from).and_then(|from| whole::compare(from, number(cases)?)),
         [most] => number(most).and_then(|most| parts::leaves(&ours(), most).closing()),
         _ => Err("usage: run unproved [CASES] | whole [FROM CASES]".to_owned()),
     };
@@ -43,14 +42,6 @@ fn main() -> ExitCode {
             ExitCode::FAILURE
         }
     }
-}
-
-/// Lowering and queries, if our sources have both.
-fn whole(from: u64, cases: u64) -> Result<(), String> {
-    #[cfg(lowers)]
-    return whole::compare(from, cases);
-    #[cfg(not(lowers))]
-    Err(format!("our sources do not lower yet: {cases} cases from {from} are not compared"))
 }
 
 fn ours() -> Leaves {
