@@ -11,11 +11,15 @@ use lib.Dec.{eqb}
 use lib.IntN.{ℤ}
 use types.Run.{OneOf}
 use denote.Enum.Declared.{tagOf}
-use Rattle.paths_numbers.specs.meaning.Expression.{evalPrefix, evalInfix, evalRelation, isTrue, ofTruth}
+use Rattle.paths_numbers.specs.meaning.Expression.{evalPrefix, evalInfix, evalRelation, evalCode, isTrue, ofTruth}
+use Rattle.paths_numbers.specs.declared.operators.Evaluated.{Evaluated}
+use Rattle.paths_numbers.specs.declared.operators.Evaluated.the-variants as Eval
+use Rattle.paths_numbers.proofs.operators.Evaluated as Result
 use Rattle.paths_numbers.proofs.Texts.{by-test, not-both}
 use Rattle.log.specs.meaning.Contents.{Span}
 use Rattle.input.specs.meaning.Tree.{macroKind, numberKind, characterKind, prefixKind, parenthesisKind, infixKind}
-use Rattle.input.specs.meaning.Expr.{Outcome, value, missing, withValue, evaluated, firstOperand, applied, chosen, prefixOf, infixOf}
+use Rattle.input.specs.meaning.Expr.{Outcome, value, missing, failsWith, withValue, evaluated, firstOperand, applied, chosen}
+use Rattle.input.specs.meaning.Expr.{prefixOf, infixOf}
 use Rattle.input.specs.meaning.Expr.{combined, eval, evals}
 use Rattle.input.specs.meaning.Input.{recordCount, kindAt, nextAt, childAt, numberAt, spanAt, textAt, chainAt, recordAt}
 use Rattle.input.specs.machine.Linked.{Linked, At, ChainIn}
@@ -35,6 +39,17 @@ failure-passes words text (E.Value z) f h = ⊎-elim (λ e. absurd (omega arith)
 failure-passes words text E.Missing f h = refl
 failure-passes words text (E.Macro r) f h = refl
 failure-passes words text (E.Failed code r) f h = refl
+
+-- a result that there is not has a code, where the operator is not missing
+pub result-coded : (span : Span) (v : Evaluated) → OneOf (1 ∷ 2 ∷ 3 ∷ []) (tagOf Result.the-type v)
+    → failsWith (evalCode v) span ≡ evaluated span v
+result-coded span (Eval.Value z) h = ⊎-elim (λ e. absurd (omega arith))
+    (λ k. ⊎-elim (λ e. absurd (omega arith)) (λ e. absurd (omega arith)) k) h
+result-coded span Eval.Outside h = refl
+result-coded span Eval.ZeroDivisor h = refl
+result-coded span Eval.ShiftAmount h = refl
+result-coded span Eval.Missing h = ⊎-elim (λ e. absurd (omega arith))
+    (λ k. ⊎-elim (λ e. absurd (omega arith)) (λ e. absurd (omega arith)) k) h
 
 -- an expression record, by its kind
 module _ (words text : List ℕ) (r : ℕ) where

@@ -3,22 +3,33 @@ use Prim.Native.Nat.{ℕ, _+_, _*_, _/_, _%_, _^_, _<_}
 use native.Mathlib.Nat.{div-add-mod'}
 use mathlib.Core.Path.{_≡_, refl, sym, _∙_}
 use mathlib.Core.Bool.{cond}
-use mathlib.Core.List.{List, []}
+use mathlib.Core.List.{List, [], _∷_}
+use mathlib.Core.Logic.{⊎-elim}
 use native.Mathlib.Omega.{arith}
 use borrow.Author.Tests.{ne-eqb}
+use denote.Enum.Declared.{tagOf}
+use types.Run.{OneOf}
 use Rattle.paths_numbers.specs.meaning.Bytestring.{isOdd, bytesOf, countOf}
+use Rattle.paths_numbers.specs.meaning.Cell.{sizeCode, cellCode}
 use Rattle.paths_numbers.specs.declared.dt_property.BitsSize.{BitsSize}
+use Rattle.paths_numbers.specs.declared.dt_property.SizeRead.{SizeRead}
+use Rattle.paths_numbers.specs.declared.dt_property.SizeRead.the-variants as S
+use Rattle.paths_numbers.specs.declared.dt_property.Cell.{Cell}
+use Rattle.paths_numbers.specs.declared.dt_property.Cell.the-variants as C
 use Rattle.paths_numbers.specs.declared.dt_property.ByteCount.{ByteCount}
 use Rattle.paths_numbers.specs.declared.dt_property.ByteCount.the-variants as B
+use Rattle.paths_numbers.proofs.dt_property.SizeRead as Size
+use Rattle.paths_numbers.proofs.dt_property.Cell as Fitted
 use Rattle.paths_numbers.proofs.Texts.{by-test}
 use Rattle.log.specs.meaning.Contents.{Span, bytestring}
 use Rattle.log.specs.machine.Parts.{targetMade}
 use Rattle.log.specs.declared.parts.TargetKind.{TargetKind}
-use Rattle.input.specs.meaning.Tree.{tree, numberKind, characterKind, expressionKind, referenceKind, macroKind, directiveKind}
+use Rattle.input.specs.meaning.Tree.{Trees, tree, numberKind, characterKind, expressionKind, referenceKind, macroKind, directiveKind}
 use Rattle.input.specs.meaning.Tree.{preprocessorKind, stringKind, cellListKind, bytestringKind}
-use Rattle.input.specs.meaning.Report.{one, nothing, andThen}
+use Rattle.input.specs.meaning.Report.{one, nothing, andThen, report}
 use Rattle.input.specs.meaning.Phandle.{lowerPhandle}
-use Rattle.input.specs.meaning.Property.{referenceCell, lowerCell, lowerCells, countedBytes, referenceValue, lowerValue, lowerValues}
+use Rattle.input.specs.meaning.Property.{fittedCell, referenceCell, lowerCell, lowerCells, sizedList, countedBytes, referenceValue}
+use Rattle.input.specs.meaning.Property.{lowerValue, lowerValues}
 use Rattle.input.specs.meaning.Input.{recordCount, kindAt, nextAt, childAt, secondAt, textAt, numberAt, spanAt, chainAt, recordAt}
 use Rattle.input.specs.machine.Linked.{Linked}
 use Rattle.input.specs.machine.ValueRead.{plainMade}
@@ -86,6 +97,19 @@ module _ (words text : List ℕ) (r : ℕ) where
         ne-eqb (kindAt words r) directiveKind f,
         ne-eqb (kindAt words r) preprocessorKind g,
       )
+
+-- a cell without a number has a code, and so has a width that is none
+pub cell-coded : (span : Span) (cell : Cell) → OneOf (1 ∷ 2 ∷ []) (tagOf Fitted.the-type cell)
+    → nothing (report (cellCode cell) [] span ∷ []) ≡ fittedCell span cell
+cell-coded span (C.Number n) h = absurd (⊎-elim (λ e. omega arith) (λ e. omega arith) h)
+cell-coded span C.CharTooLarge h = refl
+cell-coded span C.ExprOutside h = refl
+
+pub size-coded : (span : Span) (cells : Trees) (size : SizeRead) → OneOf (1 ∷ 2 ∷ []) (tagOf Size.the-type size)
+    → nothing (report (sizeCode size) [] span ∷ []) ≡ sizedList span cells size
+size-coded span cells (S.Size s) h = absurd (⊎-elim (λ e. omega arith) (λ e. omega arith) h)
+size-coded span cells S.Unsupported h = refl
+size-coded span cells (S.Failed e) h = refl
 
 -- a bytestring that was counted has an even count of digits
 pub counted-some : (span : Span) (t : List ℕ) (n : ByteCount) (m : ℕ) → n ≡ B.Bytes m → n ≡ countOf t

@@ -3,7 +3,6 @@
 ghost use mathlib.Core.Path.{_≡_};
 ghost use mathlib.Core.List.{List};
 ghost use Prim.Native.Nat.{ℕ};
-ghost use Rattle.paths_numbers.specs.meaning.Number.{intCode};
 ghost use Rattle.paths_numbers.specs.meaning.Expression.{evalPrefix, evalInfix};
 ghost use Rattle.log.specs.meaning.Contents.{Span};
 ghost use Rattle.input.specs.meaning.Expr.{withValue, evaluated, literal, firstOperand, applied, prefixOf, infixOf, eval, evals};
@@ -21,11 +20,11 @@ use crate::record::child_at;
 use crate::record::kind_at;
 use crate::record::number_at;
 use crate::record::text_at;
-use paths_numbers::codes;
-use paths_numbers::expr_eval::IntErrorKind;
 use paths_numbers::expr_eval::ParsedI64;
+use paths_numbers::expr_eval::int_code;
 use paths_numbers::expr_eval::parse_int_tok_i64;
 use paths_numbers::operators::Evaluated;
+use paths_numbers::operators::eval_code;
 use paths_numbers::operators::eval_infix;
 use paths_numbers::operators::eval_prefix;
 use paths_numbers::operators::is_true;
@@ -214,10 +213,8 @@ fn evaluation_of(r: u32, v: Evaluated) -> Evaluation
 {
     match v {
         Evaluated::Value(z) => Evaluation::Value(z),
-        Evaluated::Outside => Evaluation::Failed(codes::OUTSIDE_64_BITS, r),
-        Evaluated::ZeroDivisor => Evaluation::Failed(codes::ZERO_DIVISOR, r),
-        Evaluated::ShiftAmount => Evaluation::Failed(codes::SHIFT_AMOUNT, r),
         Evaluated::Missing => Evaluation::Missing,
+        _ => Evaluation::Failed(eval_code(v), r),
     }
 }
 
@@ -228,17 +225,5 @@ fn literal_of(r: u32, p: ParsedI64) -> Evaluation
     match p {
         ParsedI64::Value(z) => Evaluation::Value(z),
         ParsedI64::Failed(k) => Evaluation::Failed(int_code(k), r),
-    }
-}
-
-// The diagnostic code of a number's text that cannot be read.
-pub fn int_code(k: IntErrorKind) -> u32
-    ensures { λ c. ⌜ c ≡ intCode k ⌝ }
-{
-    match k {
-        IntErrorKind::Empty => codes::NUMBER_EMPTY,
-        IntErrorKind::InvalidDigit => codes::NOT_A_DIGIT,
-        IntErrorKind::PosOverflow => codes::NUMBER_TOO_LARGE,
-        IntErrorKind::NegOverflow => codes::NUMBER_TOO_SMALL,
     }
 }

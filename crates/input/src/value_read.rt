@@ -14,7 +14,6 @@ ghost use Rattle.input.specs.machine.PhandleRead.{phandleRead};
 ghost use Rattle.input.specs.machine.ValueRead.{targetGot, cellMade, valueMade};
 use crate::expr_eval::Evaluation;
 use crate::expr_eval::eval_first;
-use crate::expr_eval::int_code;
 use crate::kinds::BYTESTRING;
 use crate::kinds::CELL_LIST;
 use crate::kinds::CHARACTER;
@@ -39,9 +38,13 @@ use paths_numbers::dt_property::ByteCount;
 use paths_numbers::dt_property::Cell;
 use paths_numbers::dt_property::SizeRead;
 use paths_numbers::dt_property::bytestring_len;
+use paths_numbers::dt_property::cell_code;
 use paths_numbers::dt_property::char_cell;
+use paths_numbers::dt_property::count_code;
 use paths_numbers::dt_property::expr_cell;
+use paths_numbers::dt_property::size_code;
 use paths_numbers::expr_eval::ParsedInt;
+use paths_numbers::expr_eval::int_code;
 use paths_numbers::expr_eval::parse_int_tok;
 
 // What a cell's record gives: a number, a reference of a kind, or nothing but a report.
@@ -106,8 +109,7 @@ fn fitted_cell(r: u32, cell: Cell) -> CellRead
 {
     match cell {
         Cell::Number(n) => CellRead::Number(n),
-        Cell::CharTooLarge => CellRead::Failed(Report::Code(codes::CHARACTER_TOO_LARGE, r)),
-        Cell::ExprOutside => CellRead::Failed(Report::Code(codes::CELL_OUTSIDE, r)),
+        _ => CellRead::Failed(Report::Code(cell_code(cell), r)),
     }
 }
 
@@ -194,8 +196,7 @@ fn sized_list(r: u32, size: SizeRead) -> ValueRead
 {
     match size {
         SizeRead::Size(s) => ValueRead::CellList(s),
-        SizeRead::Unsupported => ValueRead::Failed(Report::Code(codes::WIDTH_UNSUPPORTED, r)),
-        SizeRead::Failed(e) => ValueRead::Failed(Report::Code(int_code(e), r)),
+        _ => ValueRead::Failed(Report::Code(size_code(size), r)),
     }
 }
 
@@ -206,7 +207,7 @@ fn counted_bytes(r: u32, n: ByteCount) -> ValueRead
 {
     match n {
         ByteCount::Bytes(_) => ValueRead::Plain(PlainValue::Bytestring),
-        ByteCount::MissingDigit => ValueRead::Failed(Report::Code(codes::ODD_DIGITS, r)),
+        ByteCount::MissingDigit => ValueRead::Failed(Report::Code(count_code(n), r)),
     }
 }
 

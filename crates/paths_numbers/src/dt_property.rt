@@ -2,12 +2,14 @@
 ghost use mathlib.Core.Path.{_≡_};
 ghost use Prim.Native.Nat.{_+_, _≤_, _<_};
 ghost use lib.ListN.{length};
-ghost use Rattle.paths_numbers.specs.meaning.Bytestring.{nibbles, bytesOf, countOf, bytesAnswer, bytesOut};
-ghost use Rattle.paths_numbers.specs.meaning.Cell.{bitsOf, largest, sizeOf, exprCell, charCell};
+ghost use Rattle.paths_numbers.specs.meaning.Bytestring.{nibbles, bytesOf, countOf, countCode, bytesAnswer, bytesOut};
+ghost use Rattle.paths_numbers.specs.meaning.Cell.{bitsOf, largest, sizeOf, sizeCode, exprCell, charCell, cellCode};
 ghost use Rattle.paths_numbers.specs.meaning.Text.{written};
+use crate::codes;
 use crate::expr_eval::IntErrorKind;
 use crate::expr_eval::ParsedInt;
 use crate::expr_eval::digit;
+use crate::expr_eval::int_code;
 use crate::expr_eval::parse_int_tok;
 
 // What ends the text of a bytestring.
@@ -80,6 +82,17 @@ impl BitsSize {
     }
 }
 
+// 01's code of a width that there is not, 0 where there is one.
+pub fn size_code(read: SizeRead) -> u32
+    ensures { λ r. ⌜ r ≡ sizeCode read ⌝ }
+{
+    match read {
+        SizeRead::Size(_) => 0,
+        SizeRead::Unsupported => codes::WIDTH_UNSUPPORTED,
+        SizeRead::Failed(e) => int_code(e),
+    }
+}
+
 // What an expression's result is as a cell of a width.
 pub fn expr_cell(num: i64, size: BitsSize) -> Cell
     ensures { λ r. ⌜ r ≡ exprCell (bitsOf size) num ⌝ }
@@ -111,6 +124,17 @@ pub fn char_cell(ch: u32, size: BitsSize) -> Cell
     Cell::CharTooLarge
 }
 
+// 01's code of a cell that has no number, 0 where it has one.
+pub fn cell_code(cell: Cell) -> u32
+    ensures { λ r. ⌜ r ≡ cellCode cell ⌝ }
+{
+    match cell {
+        Cell::Number(_) => 0,
+        Cell::CharTooLarge => codes::CHARACTER_TOO_LARGE,
+        Cell::ExprOutside => codes::CELL_OUTSIDE,
+    }
+}
+
 // How many bytes a bytestring has, or that a hex digit is missing.
 pub enum ByteCount {
     Bytes(usize),
@@ -133,6 +157,16 @@ pub fn bytestring_len(text: &[u8]) -> ByteCount
         return ByteCount::MissingDigit;
     }
     ByteCount::Bytes(n / 2)
+}
+
+// 01's code of a bytestring that is none, 0 where it is one.
+pub fn count_code(count: ByteCount) -> u32
+    ensures { λ r. ⌜ r ≡ countCode count ⌝ }
+{
+    match count {
+        ByteCount::Bytes(_) => 0,
+        ByteCount::MissingDigit => codes::ODD_DIGITS,
+    }
 }
 
 // Writes the bytes that the text of a bytestring stands for into `out` from `at` on.

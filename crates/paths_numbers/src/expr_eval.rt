@@ -3,8 +3,9 @@ ghost use mathlib.Core.Path.{_≡_};
 ghost use Prim.Native.Nat.{_+_, _<_, _≤_};
 ghost use Rattle.paths_numbers.specs.meaning.Byte.{digitOf};
 ghost use Rattle.paths_numbers.specs.meaning.Number.{isSuffix, trimmed, baseOf, digits, behindSign, unsigned, unsignedNumber};
-ghost use Rattle.paths_numbers.specs.meaning.Number.{positive, negative, signed, signedNumber, Within};
+ghost use Rattle.paths_numbers.specs.meaning.Number.{positive, negative, signed, signedNumber, Within, intCode};
 ghost use Rattle.paths_numbers.specs.meaning.Cell.{largest};
+use crate::codes;
 use crate::dt_property::BitsSize;
 
 // The largest and the smallest signed 64-bit number, by their distance from 0.
@@ -30,6 +31,18 @@ pub enum ParsedInt {
 pub enum ParsedI64 {
     Value(i64),
     Failed(IntErrorKind),
+}
+
+// 01's code of a reading that failed.
+pub fn int_code(kind: IntErrorKind) -> u32
+    ensures { λ r. ⌜ r ≡ intCode kind ⌝ }
+{
+    match kind {
+        IntErrorKind::Empty => codes::NUMBER_EMPTY,
+        IntErrorKind::InvalidDigit => codes::NOT_A_DIGIT,
+        IntErrorKind::PosOverflow => codes::NUMBER_TOO_LARGE,
+        IntErrorKind::NegOverflow => codes::NUMBER_TOO_SMALL,
+    }
 }
 
 // An unsigned number's text, read at a width.

@@ -3,7 +3,8 @@ ghost use mathlib.Core.Path.{_≡_};
 ghost use lib.IntN.{_+ℤ_, _-ℤ_, _*ℤ_, natAbs};
 ghost use lib.Signed.{quotZ};
 ghost use Rattle.paths_numbers.specs.meaning.Expression.{isTrue, evalPrefix, evalInfix, isWithin, within, mostOf, quotient};
-ghost use Rattle.paths_numbers.specs.meaning.Expression.{remainder, shiftLeft, shiftRight, evalRelation, evalConditional};
+ghost use Rattle.paths_numbers.specs.meaning.Expression.{remainder, shiftLeft, shiftRight, evalRelation, evalConditional, evalCode};
+use crate::codes;
 
 // An operator's result, or why there is none.
 pub enum Evaluated {
@@ -26,6 +27,19 @@ const GREATEST: i64 = 9223372036854775807;
 
 // The largest amount of a shift.
 const LAST_BIT: i64 = 63;
+
+// 01's code of a result that there is not; 0 where there is one, and where the operator is missing.
+pub fn eval_code(e: Evaluated) -> u32
+    ensures { λ r. ⌜ r ≡ evalCode e ⌝ }
+{
+    match e {
+        Evaluated::Value(_) => 0,
+        Evaluated::Outside => codes::OUTSIDE_64_BITS,
+        Evaluated::ZeroDivisor => codes::ZERO_DIVISOR,
+        Evaluated::ShiftAmount => codes::SHIFT_AMOUNT,
+        Evaluated::Missing => 0,
+    }
+}
 
 // Whether a value holds as a condition.
 pub fn is_true(a: i64) -> bool

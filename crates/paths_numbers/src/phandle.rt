@@ -1,6 +1,7 @@
 // What lower_phandle of lowering/mod.rs makes of a raw reference text, `&{..}`.
 ghost use mathlib.Core.Path.{_≡_};
 ghost use Rattle.paths_numbers.specs.meaning.Reference.{isBraced, innerText, beforeSlash, target, kindOf, labelOf, pathOf};
+ghost use Rattle.paths_numbers.specs.meaning.Reference.{targetNumber};
 ghost use lib.ListN.{length};
 
 // What a raw reference names, by the names of the Rust's MirPhandleTarget; or that it cannot be read.
@@ -9,6 +10,18 @@ pub enum MirPhandleTarget {
     LabelPath,
     Path,
     Unreadable,
+}
+
+// 01's N of what a reference names, 0 where it cannot be read.
+pub fn target_number(target: MirPhandleTarget) -> u32
+    ensures { λ r. ⌜ r ≡ targetNumber target ⌝ }
+{
+    match target {
+        MirPhandleTarget::Label => 1,
+        MirPhandleTarget::LabelPath => 2,
+        MirPhandleTarget::Path => 3,
+        MirPhandleTarget::Unreadable => 0,
+    }
 }
 
 // What a raw reference names.

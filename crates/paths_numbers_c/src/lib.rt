@@ -5,9 +5,9 @@ ghost use lib.ListN.{length};
 ghost use Rattle.paths_numbers.specs.meaning.Bytestring.{countOf, bytesAnswer, bytesOut};
 ghost use Rattle.paths_numbers.specs.meaning.Cell.{sizeOf};
 ghost use Rattle.paths_numbers.specs.meaning.Expression.{evalPrefix, evalInfix, evalConditional};
-ghost use Rattle.paths_numbers.specs.meaning.Number.{intCode, signedNumber};
+ghost use Rattle.paths_numbers.specs.meaning.Number.{signedNumber};
 ghost use Rattle.paths_numbers.specs.meaning.Path.{atOrUnder, stripped, goodPath, joined, joinedLen, builtAnswer, builtOut};
-ghost use Rattle.paths_numbers.specs.meaning.Reference.{target, targetNumber};
+ghost use Rattle.paths_numbers.specs.meaning.Reference.{target};
 ghost use Rattle.paths_numbers.specs.meaning.Text.{same};
 ghost use Rattle.paths_numbers_c.specs.meaning.Told.{truth, builtTold, intTold, i64Told, cellTold, evalTold, countTold, writtenTold};
 ghost use Rattle.paths_numbers_c.specs.meaning.Told.{widthTold, widthOf, intAt, exprAt, charAt, targetTold};
@@ -23,30 +23,34 @@ use paths_numbers::dt_property::BytesWritten;
 use paths_numbers::dt_property::Cell;
 use paths_numbers::dt_property::SizeRead;
 use paths_numbers::dt_property::bytestring_len;
+use paths_numbers::dt_property::cell_code;
 use paths_numbers::dt_property::char_cell;
+use paths_numbers::dt_property::count_code;
 use paths_numbers::dt_property::expr_cell;
 use paths_numbers::dt_property::lower_bytestring;
-use paths_numbers::expr_eval::IntErrorKind;
+use paths_numbers::dt_property::size_code;
 use paths_numbers::expr_eval::ParsedI64;
 use paths_numbers::expr_eval::ParsedInt;
+use paths_numbers::expr_eval::int_code;
 use paths_numbers::expr_eval::parse_int_tok;
 use paths_numbers::expr_eval::parse_int_tok_i64;
 use paths_numbers::mir::good_path;
 use paths_numbers::mir::lies_under;
 use paths_numbers::mir::strip_base;
 use paths_numbers::operators::Evaluated;
+use paths_numbers::operators::eval_code;
 use paths_numbers::operators::eval_conditional;
 use paths_numbers::operators::eval_infix;
 use paths_numbers::operators::eval_prefix;
-use paths_numbers::phandle::MirPhandleTarget;
 use paths_numbers::phandle::lower_phandle;
 use paths_numbers::phandle::phandle_label;
 use paths_numbers::phandle::phandle_path;
+use paths_numbers::phandle::target_number;
 
-// Why there are no bytes: 01's code of a missing digit, and what stands for "no room".
-const MISSING_DIGIT: u32 = 11;
-
+// What stands for "no room", and for an operator that is missing: neither has a code.
 const NO_ROOM: u32 = 1;
+
+const MISSING: u32 = 1;
 
 // A number with code 0, or a code with value 0.
 #[repr(C)]
@@ -251,7 +255,7 @@ pub extern "C" fn pn_lower_bytestring(text: &[u8], out: &mut [u8], at: usize) ->
 pub extern "C" fn pn_reference(raw: &[u8]) -> PnReference
     ensures { λ r. ⌜ r ≡ targetTold (target (now (raw .entry))) ⌝ }
 {
-    let kind = told_target(lower_phandle(raw));
+    let kind = target_number(lower_phandle(raw));
     let label = phandle_label(raw);
     let path = phandle_path(raw);
     PnReference {
@@ -296,24 +300,13 @@ fn told_built(b: Built) -> PnWritten
     }
 }
 
-fn told_error(e: IntErrorKind) -> u32
-    ensures { λ r. ⌜ r ≡ intCode e ⌝ }
-{
-    match e {
-        IntErrorKind::Empty => 16,
-        IntErrorKind::InvalidDigit => 17,
-        IntErrorKind::PosOverflow => 18,
-        IntErrorKind::NegOverflow => 19,
-    }
-}
-
 fn told_int(p: ParsedInt) -> PnNumber
     ensures { λ r. ⌜ r ≡ intTold p ⌝ }
 {
     match p {
         ParsedInt::Value(value) => PnNumber { code: 0, value },
         ParsedInt::Failed(e) => PnNumber {
-            code: told_error(e),
+            code: int_code(e),
             value: 0,
         },
     }
@@ -325,7 +318,7 @@ fn told_i64(p: ParsedI64) -> PnInteger
     match p {
         ParsedI64::Value(value) => PnInteger { code: 0, value },
         ParsedI64::Failed(e) => PnInteger {
-            code: told_error(e),
+            code: int_code(e),
             value: 0,
         },
     }
@@ -339,9 +332,8 @@ fn told_width(s: SizeRead) -> PnNumber
             code: 0,
             value: size.bits() as u64,
         },
-        SizeRead::Unsupported => PnNumber { code: 12, value: 0 },
-        SizeRead::Failed(e) => PnNumber {
-            code: told_error(e),
+        _ => PnNumber {
+            code: size_code(s),
             value: 0,
         },
     }
@@ -352,8 +344,10 @@ fn told_cell(c: Cell) -> PnNumber
 {
     match c {
         Cell::Number(value) => PnNumber { code: 0, value },
-        Cell::CharTooLarge => PnNumber { code: 13, value: 0 },
-        Cell::ExprOutside => PnNumber { code: 15, value: 0 },
+        _ => PnNumber {
+            code: cell_code(c),
+            value: 0,
+        },
     }
 }
 
@@ -362,10 +356,14 @@ fn told_eval(e: Evaluated) -> PnInteger
 {
     match e {
         Evaluated::Value(value) => PnInteger { code: 0, value },
-        Evaluated::Outside => PnInteger { code: 24, value: 0 },
-        Evaluated::ZeroDivisor => PnInteger { code: 25, value: 0 },
-        Evaluated::ShiftAmount => PnInteger { code: 26, value: 0 },
-        Evaluated::Missing => PnInteger { code: 1, value: 0 },
+        Evaluated::Missing => PnInteger {
+            code: MISSING,
+            value: 0,
+        },
+        _ => PnInteger {
+            code: eval_code(e),
+            value: 0,
+        },
     }
 }
 
@@ -375,7 +373,7 @@ fn told_count(c: ByteCount) -> PnWritten
     match c {
         ByteCount::Bytes(len) => PnWritten { number: 0, len },
         ByteCount::MissingDigit => PnWritten {
-            number: MISSING_DIGIT,
+            number: count_code(c),
             len: 0,
         },
     }
@@ -387,23 +385,12 @@ fn told_written(w: BytesWritten) -> PnWritten
     match w {
         BytesWritten::Bytes(len) => PnWritten { number: 0, len },
         BytesWritten::MissingDigit => PnWritten {
-            number: MISSING_DIGIT,
+            number: count_code(ByteCount::MissingDigit),
             len: 0,
         },
         BytesWritten::NoRoom => PnWritten {
             number: NO_ROOM,
             len: 0,
         },
-    }
-}
-
-fn told_target(t: MirPhandleTarget) -> u32
-    ensures { λ r. ⌜ r ≡ targetNumber t ⌝ }
-{
-    match t {
-        MirPhandleTarget::Label => 1,
-        MirPhandleTarget::LabelPath => 2,
-        MirPhandleTarget::Path => 3,
-        MirPhandleTarget::Unreadable => 0,
     }
 }

@@ -83,7 +83,9 @@ fn bytes(text: &[u8]) {
             equal_sign();
             print_hex(first(&out, n));
         }
-        dt_property::BytesWritten::MissingDigit => code(11),
+        dt_property::BytesWritten::MissingDigit => {
+            code(dt_property::count_code(dt_property::ByteCount::MissingDigit))
+        }
         dt_property::BytesWritten::NoRoom => print(b"?"),
     }
 }
@@ -115,7 +117,7 @@ fn unsigned(text: &[u8], size: BitsSize) {
     let parsed = expr_eval::parse_int_tok(text, size);
     match parsed {
         expr_eval::ParsedInt::Value(n) => number(n),
-        expr_eval::ParsedInt::Failed(e) => failed(e),
+        expr_eval::ParsedInt::Failed(e) => code(expr_eval::int_code(e)),
     }
 }
 
@@ -124,7 +126,7 @@ fn signed(text: &[u8]) {
     let parsed = expr_eval::parse_int_tok_i64(text);
     match parsed {
         expr_eval::ParsedI64::Value(n) => integer(n),
-        expr_eval::ParsedI64::Failed(e) => failed(e),
+        expr_eval::ParsedI64::Failed(e) => code(expr_eval::int_code(e)),
     }
 }
 
@@ -133,35 +135,22 @@ fn width(text: &[u8]) {
     let read = BitsSize::from_token(text);
     match read {
         dt_property::SizeRead::Size(size) => number(size.bits() as u64),
-        dt_property::SizeRead::Unsupported => code(12),
-        dt_property::SizeRead::Failed(e) => failed(e),
+        _ => code(dt_property::size_code(read)),
     }
 }
 
 fn cell(c: dt_property::Cell) {
     match c {
         dt_property::Cell::Number(n) => number(n),
-        dt_property::Cell::CharTooLarge => code(13),
-        dt_property::Cell::ExprOutside => code(15),
+        _ => code(dt_property::cell_code(c)),
     }
 }
 
 fn evaluated(e: operators::Evaluated) {
     match e {
         operators::Evaluated::Value(n) => integer(n),
-        operators::Evaluated::Outside => code(24),
-        operators::Evaluated::ZeroDivisor => code(25),
-        operators::Evaluated::ShiftAmount => code(26),
         operators::Evaluated::Missing => print(b"!"),
-    }
-}
-
-fn failed(e: expr_eval::IntErrorKind) {
-    match e {
-        expr_eval::IntErrorKind::Empty => code(16),
-        expr_eval::IntErrorKind::InvalidDigit => code(17),
-        expr_eval::IntErrorKind::PosOverflow => code(18),
-        expr_eval::IntErrorKind::NegOverflow => code(19),
+        _ => code(operators::eval_code(e)),
     }
 }
 
@@ -201,9 +190,9 @@ fn equal_sign() {
     print(b"=");
 }
 
-fn code(n: u64) {
+fn code(n: u32) {
     print(b"!");
-    io::print_decimal(1, n);
+    io::print_decimal(1, n as u64);
 }
 
 fn number(n: u64) {

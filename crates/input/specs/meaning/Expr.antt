@@ -4,7 +4,7 @@ use mathlib.Core.Bool.{Bool, true, false, cond}
 use mathlib.Core.List.{List, [], _∷_}
 use lib.Dec.{eqb}
 use lib.IntN.{ℤ, pos}
-use Rattle.paths_numbers.specs.meaning.Code.{macroUndefined, outside64Bits, zeroDivisor, shiftAmount}
+use Rattle.paths_numbers.specs.meaning.Code.{macroUndefined}
 use Rattle.paths_numbers.specs.meaning.Number.{signedNumber, intCode}
 use Rattle.paths_numbers.specs.meaning.Expression.{evalPrefix, evalInfix, evalCode, isTrue, ofTruth}
 use Rattle.paths_numbers.specs.declared.expr_eval.ParsedI64.{ParsedI64}
@@ -32,9 +32,9 @@ failsWith code span = fails (report code [] span ∷ [])
 -- "Codes 24 to 26 span the prefix or infix record."
 abbrev pub evaluated : Span → Evaluated → Outcome
 evaluated span (Value z) = value z
-evaluated span Outside = failsWith outside64Bits span
-evaluated span ZeroDivisor = failsWith zeroDivisor span
-evaluated span ShiftAmount = failsWith shiftAmount span
+evaluated span Outside = failsWith (evalCode Outside) span
+evaluated span ZeroDivisor = failsWith (evalCode ZeroDivisor) span
+evaluated span ShiftAmount = failsWith (evalCode ShiftAmount) span
 evaluated span Missing = missing
 
 -- a number's text

@@ -71,7 +71,7 @@ lowerCells size (more t ts) = andThen (lowerCell size t) (lowerCells size ts)
 abbrev pub sizedList : Span → Trees → SizeRead → Made Value
 sizedList span cells (Size s) = record { made = cellList (bitsOf s) (lowerCells s cells .made) ∷ []; reports = lowerCells s cells .reports }
 sizedList span cells Unsupported = nothing (report (sizeCode Unsupported) [] span ∷ [])
-sizedList span cells (Failed e) = nothing (report (intCode e) [] span ∷ [])
+sizedList span cells (Failed e) = nothing (report (sizeCode (Failed e)) [] span ∷ [])
 
 -- a bytestring's bytes, or code 11
 abbrev pub countedBytes : Span → List ℕ → ByteCount → Made Value

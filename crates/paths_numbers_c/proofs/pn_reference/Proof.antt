@@ -8,8 +8,8 @@ use Rattle.paths_numbers_c.proofs.pn_reference.Tie as tie
 lower-phandle-requires : tie.Need-lower-phandle-requires
 lower-phandle-requires c κs = search needs
 
-told-target-requires : tie.Need-told-target-requires
-told-target-requires c κs = search needs
+target-number-requires : tie.Need-target-number-requires
+target-number-requires c κs = search needs
 
 phandle-label-requires : tie.Need-phandle-label-requires
 phandle-label-requires c κs = search needs
@@ -19,7 +19,7 @@ phandle-path-requires c κs = search needs
 
 returns : tie.Need-returns
 returns c =
-    let kind = c .before .before .told-target .ensures ∙ ap targetNumber (c .before .before .before .lower-phandle .ensures) in
+    let kind = c .before .before .target-number .ensures ∙ ap targetNumber (c .before .before .before .lower-phandle .ensures) in
     rw (kind, c .before .phandle-label .ensures, c .phandle-path .ensures)
 
 pub pn-reference-spec : {M : Type 1} → statement M
@@ -27,7 +27,7 @@ pn-reference-spec =
     tie.close
     (tie.spec
     lower-phandle-requires
-    told-target-requires
+    target-number-requires
     phandle-label-requires
     phandle-path-requires
     returns)

@@ -1,4 +1,4 @@
--- `told_i64`: by the cases of what is told, and the code that `told_error` ensures.
+-- `told_i64`: by the cases of what is told, and the code that `int_code` ensures.
 use mathlib.Core.Path.{sym, ap, _∙_}
 use Rattle.paths_numbers.proofs.Integers.{read}
 use Rattle.paths_numbers_c.specs.meaning.Told.{integer, noInteger, i64Told}
@@ -12,15 +12,15 @@ enum-known-p c = search needs
 enum-known-p-2 : tie.Need-enum-known-p-2
 enum-known-p-2 c = search needs
 
-told-error-requires : tie.Need-told-error-requires
-told-error-requires c κs = search needs
+int-code-requires : tie.Need-int-code-requires
+int-code-requires c κs = search needs
 
 returns : tie.Need-returns
 returns c = ap integer (read (record { sfits = c .known-told .given .0 .1 })) ∙ sym (ap i64Told (c .before .p .given .1))
 
 returns-2 : tie.Need-returns-2
-returns-2 c = ap noInteger (c .told-error .ensures) ∙ sym (ap i64Told (c .before .before .p2 .given .1))
+returns-2 c = ap noInteger (c .int-code .ensures) ∙ sym (ap i64Told (c .before .before .p2 .given .1))
 
 pub told-i64-spec : {M : Type 1} → statement M
 told-i64-spec =
-    tie.close (tie.spec enum-known-p enum-known-p-2 told-error-requires returns returns-2)
+    tie.close (tie.spec enum-known-p enum-known-p-2 int-code-requires returns returns-2)
