@@ -90,6 +90,7 @@ module _ {words bytes : List ℕ} {first : ℕ} {t : List ℕ} {previous r left 
   passed-found g h =
       record {
         none-there = λ z. absurd (goes-there words r left g z);
+        none-before = λ z. absurd (goes-there words r left g z);
         there = λ n.
             record {
               before = p .before;
@@ -105,6 +106,7 @@ module _ {words bytes : List ℕ} {first : ℕ} {t : List ℕ} {previous r left 
   passed-all g =
       record {
         none-there = λ z. ap (any (hasText words bytes t)) (p .chain ∙ rw (stops words r left g, append-nil) refl) ∙ p .others;
+        none-before = λ z. refl;
         there = λ n. absurd (n refl);
       }
 

@@ -32,11 +32,11 @@ pub data Like (new : List ℕ) : Bool → List Def → List Def → Type 0 where
   equal : {a : List Def} → Like new false a a
   gap : {a b : List Def} → Gap new a b → Like new true a b
 
-like-live : {new : List ℕ} {t : Bool} {a b : List Def} → Like new t a b → (base : List ℕ) → live base a ≡ live base b
+pub like-live : {new : List ℕ} {t : Bool} {a b : List Def} → Like new t a b → (base : List ℕ) → live base a ≡ live base b
 like-live equal base = refl
 like-live (gap g) base = gap-live g base
 
-like-overlay : {new : List ℕ} {t : Bool} {a b : List Def} → Like new t a b → setsOverlay a ≡ setsOverlay b
+pub like-overlay : {new : List ℕ} {t : Bool} {a b : List Def} → Like new t a b → setsOverlay a ≡ setsOverlay b
 like-overlay equal = refl
 like-overlay (gap g) = gap-overlay g
 
@@ -57,6 +57,9 @@ pub record Sim (new : List ℕ) (t : Bool) (a b : State) : Type 0 where
   pub exts : a .exts ≡ b .exts
   pub binds : a .binds ≡ b .binds
   pub diags : a .diags ≡ b .diags
+
+pub sim-refl : (new : List ℕ) (s : State) → Sim new false s s
+sim-refl new s = record { logs = equal; exts = refl; binds = refl; diags = refl }
 
 module _ {new : List ℕ} {t : Bool} {a b : State} (s : Sim new t a b) where
   sim-emit : (ds : List Diag) → Sim new t (emit ds a) (emit ds b)

@@ -5,7 +5,7 @@ use mathlib.Core.Path.{_≡_, refl, sym, ap, _∙_}
 use mathlib.Core.Bool.{Bool, true, false, not, cond}
 use mathlib.Core.List.{List, [], _∷_, _++_}
 use Rattle.paths_numbers.specs.meaning.Text.{isEmpty}
-use Rattle.paths_numbers.specs.meaning.Path.{join}
+use Rattle.paths_numbers.specs.meaning.Path.{atOrUnder}
 use Rattle.paths_numbers.specs.meaning.Reference.{Target}
 use Rattle.paths_numbers.proofs.Texts.{by-test, not-both, both}
 use Rattle.log.specs.meaning.Contents.{Span, Cell, number, reference, Value, string, cellList, bytestring, phandle, DefValue, node}
@@ -13,15 +13,16 @@ use Rattle.log.specs.meaning.Contents.{property, deletedNode, deletedProperty, 
 use Rattle.queries.specs.meaning.Kind.{setsOverlay}
 use Rattle.paths_numbers.specs.meaning.Lists.{any}
 use Rattle.queries.specs.meaning.Live.{live}
-use Rattle.queries.proofs.Gap.{Gap, gap-within, gap-live, gap-overlay, gap-history}
+use Rattle.queries.specs.meaning.History.{history}
+use Rattle.queries.proofs.Gap.{gap-within, gap-history}
 use Rattle.input.specs.meaning.Tree.{Tree, Trees, tree, empty, more, nodeKind}
 use Rattle.making.specs.meaning.State.{State, start, emit}
-use Rattle.items.specs.meaning.Lower.{Place, at, Placed, placeOf, opened, lowerPlaced, lowerNode, lowerItem, lowerItems, lowered}
+use Rattle.items.specs.meaning.Lower.{at, nowhere, placeOf, opened, lowerNode, lowerItem, lowerItems, lowered}
 use Rattle.post_checks.specs.meaning.Post.{atFirst, duplicateLabels, referenceReport, checkTarget, checkCell, checkCells, checkValue}
 use Rattle.post_checks.specs.meaning.Post.{checkValues, checkDef, checkDefs, checkReferences, directivesFrom, checkDirectives, postChecks}
-use Rattle.two_runs.specs.meaning.TwoRuns.{Pair, Inserted, here, after, within, Alike, TwoRuns}
+use Rattle.two_runs.specs.meaning.TwoRuns.{Inserted, here, after, within, unlowered, Alike, TwoRuns}
 use Rattle.input.specs.meaning.GoodName.{goodNames, goodNamesIn}
-use Rattle.two_runs.proofs.Sim.{Sim, Like, equal, gap, same-resolve, keeps}
+use Rattle.two_runs.proofs.Sim.{Sim, Like, equal, gap, like-live, like-overlay, sim-refl, same-resolve, keeps}
 use Rattle.input.proofs.GoodNames.{good-second}
 use Rattle.two_runs.proofs.Pair.{pair-sim}
 use Rattle.two_runs.proofs.Defined.{Defined, still, opened-defined, directives-same}
@@ -34,18 +35,37 @@ node-at : (parent : List ℕ) (s : State) (text : List ℕ) (w : ℕ) (span : Sp
 unfolding lowerItem lowerNode
 node-at parent s text w span parts body p e = rw e refl
 
--- where the two are put in, the runs part by the gap alone
-pub sims : {new parent : List ℕ} {s : State} {a b : Trees} → Inserted new parent s a b → goodNamesIn b ≡ true
-    → (isEmpty parent ≡ false → Defined s) → Sim new true (lowerItems a parent s) (lowerItems b parent s)
+-- a node whose body is not lowered, whatever the body
+node-nowhere : (parent : List ℕ) (s : State) (text : List ℕ) (w : ℕ) (span : Span) (parts body : Trees)
+    → placeOf parent parts span s .place ≡ nowhere
+    → lowerItem (tree nodeKind text w span parts body) parent s ≡ emit (placeOf parent parts span s .reports) s
+unfolding lowerItem lowerNode
+node-nowhere parent s text w span parts body e = rw e refl
+
+-- two runs that part by the gap of the log in hand, or by nothing
+abbrev Part : List ℕ → State → State → Type 0
+Part new a b = (t : Bool) × Sim new t a b
+
+part-keeps : (rest : Trees) (new parent : List ℕ) {a b : State} → Part new a b
+    → Part new (lowerItems rest parent a) (lowerItems rest parent b)
+part-keeps rest new parent (t, s) = (t, keeps rest new parent t _ _ s)
+
+-- where the two are put in, the runs part so
+sims : {new parent : List ℕ} {s : State} {a b : Trees} → Inserted new parent s a b → goodNamesIn b ≡ true
+    → (isEmpty parent ≡ false → Defined s) → Part new (lowerItems a parent s) (lowerItems b parent s)
 unfolding lowerItems goodNamesIn
 sims {new} {parent} {s} (here {n = n} {d} {rest} p) good h =
-    keeps rest new parent true _ _ (pair-sim p (both (goodNames n) _ good .0) (h (p .inBody)))
+    part-keeps rest new parent (true, pair-sim p (both (goodNames n) _ good .0) (h (p .inBody)))
 sims {new} {parent} {s} (after {t = t} i) good h = sims i (both (goodNames t) _ good .1) (λ e. still t parent s (h e))
 sims {new} {parent} {s} (within {text = text} {w} {span} {parts} {body} {body'} {rest} {p} e i) good h =
-    keeps rest new parent true _ _
+    part-keeps rest new parent
     (rw (node-at parent s text w span parts body p e, node-at parent s text w span parts body' p e)
     (sims i (good-second nodeKind text w span parts body' (both (goodNames (tree nodeKind text w span parts body')) _ good .0))
     (λ f. opened-defined p parts span (emit (placeOf parent parts span s .reports) s))))
+sims {new} {parent} {s} (unlowered {text = text} {w} {span} {parts} {body} {body'} {rest} e) good h =
+    part-keeps rest new parent
+    (rw (node-nowhere parent s text w span parts body e, node-nowhere parent s text w span parts body' e)
+    (false, sim-refl new (emit (placeOf parent parts span s .reports) s)))
 
 -- post checks of references
 module _ {new : List ℕ} {t : Bool} {a b : State} (s : Sim new t a b) where
@@ -85,36 +105,37 @@ module _ {new : List ℕ} {t : Bool} {a b : State} (s : Sim new t a b) where
   same-defs [] = refl
   same-defs (d ∷ ds) = cc (same-def (d .nameSpan) (d .value), same-defs ds)
 
--- two states with a gap are alike
-module _ {new : List ℕ} {a b : State} (s : Sim new true a b) (g : Gap new (a .defs) (b .defs)) where
+-- two such states are alike
+like-directives : {new : List ℕ} {t : Bool} {a b : List Def} → Like new t a b → checkDirectives a ≡ checkDirectives b
+unfolding checkDirectives
+like-directives equal = refl
+like-directives (gap g) =
+    rw (g .first, g .second) (sym (directives-same (gap-within g) (g .before) (g .after) atFirst (g .defined)))
+
+like-history : {new : List ℕ} {t : Bool} {a b : List Def} → Like new t a b → (path : List ℕ) → atOrUnder path new ≡ false
+    → history path a ≡ history path b
+like-history equal path out = refl
+like-history (gap g) path out = gap-history g path out
+
+module _ {new : List ℕ} {t : Bool} {a b : State} (s : Sim new t a b) where
   same-references : checkReferences a ≡ checkReferences b
   unfolding checkReferences
-  same-references = rw (gap-overlay g, gap-live g []) (ap (λ (l : List Diag). cond (setsOverlay (b .defs)) [] l)
-      (same-defs s (live [] (b .defs))))
+  same-references =
+      rw (like-overlay (s .logs), like-live (s .logs) [])
+      (ap (λ (l : List Diag). cond (setsOverlay (b .defs)) [] l) (same-defs s (live [] (b .defs))))
 
-  same-directives : checkDirectives (a .defs) ≡ checkDirectives (b .defs)
-  unfolding checkDirectives
-  same-directives = rw (g .first, g .second) (sym (directives-same (gap-within g) (g .before) (g .after) atFirst (g .defined)))
-
-  alike : Alike new a b
+  sim-alike : Alike new a b
   unfolding postChecks
-  alike =
+  sim-alike =
       record {
-        lives = gap-live g;
+        lives = like-live (s .logs);
         bindings = s .binds;
         extensions = s .exts;
         diagnostics = s .diags;
-        checks = cc (s .binds, same-references, same-directives);
-        histories = gap-history g;
+        checks = cc (s .binds, same-references, like-directives (s .logs));
+        histories = like-history (s .logs);
       }
-
--- the gap of two logs
-the-gap : {new : List ℕ} {a b : List Def} → Like new true a b → Gap new a b
-the-gap (gap g) = g
-
-pub sim-alike : {new : List ℕ} {a b : State} → Sim new true a b → Alike new a b
-sim-alike s = alike s (the-gap (s .logs))
 
 pub two-runs : TwoRuns
 unfolding TwoRuns lowered isEmpty
-two-runs new a b good i = sim-alike (sims i good (λ e. absurd (not-both {t = true} refl e)))
+two-runs new a b good i = sim-alike (sims i good (λ e. absurd (not-both {t = true} refl e)) .1)

@@ -1,19 +1,21 @@
--- The cases that 01 marks with a dot for proof, in its order, each computed by the checker from the definitions.
+-- The cases that 01 marks with a dot for proof, in its order: each computed by the checker from the definitions, the last of all bindings.
 use Prim.Native.Nat.{ℕ, _-_, _^_}
-use mathlib.Core.Bool.{true}
+use mathlib.Core.Bool.{Bool, true}
 use mathlib.Core.Path.{_≡_, refl}
 use mathlib.Core.List.{List, [], _∷_}
 use lib.IntN.{pos, negsuc}
 use Rattle.paths_numbers.specs.meaning.Byte.{digitOf}
 use Rattle.paths_numbers.specs.meaning.Text.{begins, same, startsWith}
 use Rattle.paths_numbers.specs.meaning.Path.{strip, found, nothing, join}
+use Rattle.paths_numbers.specs.meaning.Lists.{any}
+use Rattle.paths_numbers.proofs.Texts.{by-test, not-both}
 use Rattle.paths_numbers.specs.meaning.Number.{unsignedNumber, unsigned, signedNumber, signed, digits, behindSign, behindPrefix, baseOf}
 use Rattle.paths_numbers.specs.meaning.Number.{trimmed, isSuffix, intCode}
 use Rattle.paths_numbers.specs.meaning.Expression.{evalInfix, quotient, shiftLeft}
 use Rattle.paths_numbers.specs.meaning.Cell.{exprCell, cellCode, largest}
 use Rattle.paths_numbers.specs.meaning.Bytestring.{countOf, countCode, nibbles, pairs}
 use Rattle.paths_numbers.specs.meaning.Reference.{target, isBraced, innerText, inBraces, hasSlash, beforeSlash, behindSlash, labelPath}
-use Rattle.log.specs.meaning.Contents.{Span, Def, Binding}
+use Rattle.log.specs.meaning.Contents.{Def, Binding}
 use Rattle.queries.specs.meaning.Live.{containsNode}
 use Rattle.input.specs.meaning.Tree.{tree, empty, more}
 use Rattle.input.specs.meaning.Report.{noSpan}
@@ -93,13 +95,25 @@ pub odd-digits : countCode (countOf (91 ∷ 49 ∷ 32 ∷ 50 ∷ 32 ∷ 97 ∷ 9
 unfolding countOf nibbles pairs digitOf
 odd-digits = refl
 
--- `&{l//}` with l bound reaches "/" if live: the text is the label l with the path "/", and whatever l is bound to, it leads to "/" where
--- that is a live node
+-- `&{l//}` with l bound reaches "/" if live: the text is the label l with the path "/"; and among any bindings, l's among them wherever it
+-- stands and whatever its path, that leads to "/" where "/" is a live node
 pub label-with-root : target (38 ∷ 123 ∷ 108 ∷ 47 ∷ 47 ∷ 125 ∷ []) ≡ labelPath (108 ∷ []) (47 ∷ [])
 unfolding target isBraced innerText inBraces hasSlash beforeSlash behindSlash begins startsWith
 label-with-root = refl
 
-pub label-reaches-root : (base : List ℕ) (span : Span) (binds : List Binding) (defs : List Def) → containsNode (47 ∷ []) defs ≡ true
-    → resolve (labelPath (108 ∷ []) (47 ∷ [])) (record { label = 108 ∷ []; path = base; span = span } ∷ binds) defs ≡ reaches (47 ∷ [])
-unfolding resolve firstBinding same join
-label-reaches-root base span binds defs live = rw live refl
+-- whether a label is bound
+abbrev pub isBound : List ℕ → List Binding → Bool
+isBound l binds = any (λ (b : Binding). same (b .label) l) binds
+
+pub bound-reaches-root : (l : List ℕ) (binds : List Binding) (defs : List Def) → isBound l binds ≡ true → containsNode (47 ∷ []) defs ≡ true
+    → resolve (labelPath l (47 ∷ [])) binds defs ≡ reaches (47 ∷ [])
+unfolding resolve firstBinding any same join
+bound-reaches-root l [] defs bound live = absurd (not-both bound refl)
+bound-reaches-root l (b ∷ binds) defs bound live =
+    by-test (same (b .label) l)
+    (λ q. rw (q, live) refl)
+    (λ q. rw q (bound-reaches-root l binds defs (rw q at bound) live))
+
+pub label-reaches-root : (binds : List Binding) (defs : List Def) → isBound (108 ∷ []) binds ≡ true → containsNode (47 ∷ []) defs ≡ true
+    → resolve (target (38 ∷ 123 ∷ 108 ∷ 47 ∷ 47 ∷ 125 ∷ [])) binds defs ≡ reaches (47 ∷ [])
+label-reaches-root binds defs bound live = rw label-with-root (bound-reaches-root (108 ∷ []) binds defs bound live)

@@ -49,8 +49,10 @@ pub record FirstAt (words bytes : List ℕ) (first : ℕ) (t : List ℕ) (number
   pub others : any (hasText words bytes t) before ≡ false
   pub has : firstText words bytes number ≡ t
 
+-- what the search for it answers: number 0, and 0 before it, where the chain has none
 pub record FirstWith (words bytes : List ℕ) (first : ℕ) (t : List ℕ) (f : Found) : Type 0 where
   pub none-there : f .number ≡ 0 → any (hasText words bytes t) (chainOf words first) ≡ false
+  pub none-before : f .number ≡ 0 → f .previous ≡ 0
   pub there : (f .number ≡ 0 → ⊥) → FirstAt words bytes first t (f .number) (f .previous)
 
 -- a record of a chain

@@ -19,7 +19,7 @@ use Rattle.input.specs.meaning.Tree.{Tree, Trees, tree, empty, more, kindOf, wO
 use Rattle.input.specs.meaning.Tree.{nameKind, unitAddressKind, referenceKind, slashKind}
 use Rattle.input.specs.meaning.Name.{fullName}
 use Rattle.making.specs.meaning.State.{State, start, emit}
-use Rattle.items.specs.meaning.Lower.{at, placeOf, opened, lowerItem, lowered}
+use Rattle.items.specs.meaning.Lower.{at, nowhere, placeOf, opened, lowerItem, lowered}
 use Rattle.post_checks.specs.meaning.Post.{postChecks}
 
 -- a unit address, where there is one, "that holds one", a name
@@ -34,14 +34,14 @@ plainName parts =
     (cond (addressNamed (firstOf unitAddressKind parts)) (cond (has slashKind parts) false (not (has referenceKind parts))) false)
     false
 
--- "no node or deletion by reference and no version or plugin directive": a directive of the two
+-- "no node or deletion by reference and no version or plugin directive": a directive of the two. A reference beside the name of a deleted
+-- property is let pass: whether that is a deletion by reference or not, the theorem covers it
 unfoldable pub quietDirective : ℕ → Trees → Bool
 quietDirective w parts =
     cond (eqb w 1) false
     (cond (eqb w 2) false
     (cond (eqb w 4) (not (has referenceKind parts))
-    (cond (eqb w 5) (not (has referenceKind parts))
-    true)))
+    true))
 
 -- an item of the two, with all that it holds: "All nodes in these two have plain names"
 unfoldable mutual
@@ -82,7 +82,10 @@ pub record Pair (new parent : List ℕ) (s : State) (n d : Tree) : Type 0 where
 
 -- b is a with the two put in, anywhere in a body that enters the main log. Lowering the chain starts in the state s under the path parent;
 -- `within` goes into the body of a node that is placed at a path of the log in hand, and so into no body that is dropped or has a log of
--- its own
+-- its own.
+-- A body that is not lowered at all (codes 5 and 6, a reference that cannot be read) is neither dropped nor lowered into a log of its own,
+-- so that 01 can be read to have it enter the main log. `unlowered` covers that reading too, and asks nothing of the two: whatever the body
+-- is in one run and in the other, nothing of it is written
 pub data Inserted (new : List ℕ) : List ℕ → State → Trees → Trees → Type 0 where
   here : {parent : List ℕ} {s : State} {n d : Tree} {rest : Trees} → Pair new parent s n d
       → Inserted new parent s rest (more n (more d rest))
@@ -91,6 +94,9 @@ pub data Inserted (new : List ℕ) : List ℕ → State → Trees → Trees → 
   within : {parent : List ℕ} {s : State} {text : List ℕ} {w : ℕ} {span : Span} {parts body body' rest : Trees} {p : List ℕ}
       → placeOf parent parts span s .place ≡ at p
       → Inserted new p (opened p parts span (emit (placeOf parent parts span s .reports) s)) body body'
+      → Inserted new parent s (more (tree nodeKind text w span parts body) rest) (more (tree nodeKind text w span parts body') rest)
+  unlowered : {parent : List ℕ} {s : State} {text : List ℕ} {w : ℕ} {span : Span} {parts body body' rest : Trees}
+      → placeOf parent parts span s .place ≡ nowhere
       → Inserted new parent s (more (tree nodeKind text w span parts body) rest) (more (tree nodeKind text w span parts body') rest)
 
 -- two results alike in all that the four parts read
