@@ -7,14 +7,14 @@ use native.Mathlib.Nat.{mul-div-cancel}
 use native.Mathlib.Omega.{arith}
 use borrow.Author.Tests.{lt-ltb, le-ltb, lt-leb, ltb-true, ltb-false, leb-true, leb-false}
 use lib.Dec.{eqb, leb, ltb}
-use lib.ListN.{length, take, drop, length-drop}
+use lib.ListN.{length, take, drop, length-take, length-drop}
 use lib.Seq.{take-all, length-take-le}
 use Rattle.paths_numbers.proofs.Texts.{by-test, rest}
 use Rattle.input.specs.meaning.Input.{recordCount}
 use Rattle.input.specs.meaning.Rows.{mostRecords, mostText, wrongSize}
 use Rattle.input.proofs.RowsFound.{verdict-one}
 use Rattle.listing.specs.meaning.Listing.{refusalLine}
-use Rattle.listing.specs.meaning.Program.{wordBytes, wordsOf, countIn, textFrom, wordsIn, textIn, listed, printed}
+use Rattle.listing.specs.meaning.Program.{wordBytes, wordsOf, countIn, textFrom, wordsIn, textIn, listed, printed, mostRead, ReadOf}
 use Rattle.listing.proofs.InputWords.{words-length}
 
 -- too many records, and too much text
@@ -66,7 +66,7 @@ printed-read input count from e f h =
 
 -- A longer input than the longest that is not refused is refused, so the program needs to read no more than one byte more
 
-long-printed : (input : List ℕ) → 131076 < length input → refusalLine 1 0 ≡ printed input
+long-printed : (input : List ℕ) → mostRead ≤ length input → refusalLine 1 0 ≡ printed input
 long-printed input h =
     by-test (ltb (length input) (textFrom input))
     (λ t. printed-short input (ltb-true _ _ t))
@@ -79,11 +79,14 @@ long-printed input h =
     wrong-listed (wordsIn input) (textIn input) (long-text (wordsIn input) (textIn input) (simp length-drop (omega arith)))
     ∙ printed-listed input k))
 
-pub first-read : (input : List ℕ) → printed (take 131077 input) ≡ printed input
-first-read input =
-    by-test (leb (length input) 131077)
-    (λ t. ap printed (take-all 131077 input (leb-true _ _ t)))
+-- what was read gives what the whole input gives
+pub first-read : (input buffer : List ℕ) (n : ℕ) → mostRead ≤ length buffer → n ≤ length buffer → ReadOf input buffer n
+    → printed (take n buffer) ≡ printed input
+first-read input buffer n h k r =
+    by-test (ltb n (length buffer))
+    (λ t. ap printed (r .starts ∙ take-all n input (r .ends (ltb-true _ _ t))))
     (λ t.
-    let h : 131077 < length input = leb-false _ _ t in
-    let n : length (take 131077 input) ≡ 131077 = length-take-le 131077 input (omega arith) in
-    sym (long-printed (take 131077 input) (omega arith)) ∙ long-printed input (omega arith))
+    let f : length buffer ≤ n = ltb-false _ _ t in
+    let e : length (take n buffer) ≡ n = length-take-le n buffer k in
+    let l : n ≤ length input = omega (arith, sym e ∙ ap length (r .starts), length-take n input) in
+    sym (long-printed (take n buffer) (omega arith)) ∙ long-printed input (omega arith))

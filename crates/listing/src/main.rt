@@ -1,10 +1,12 @@
 // Reads a description from standard input, lowers it and prints the listing of its log.
-ghost use Prim.Native.Nat.{_*_, _≤_};
+ghost use Prim.Native.Nat.{ℕ, _*_, _≤_};
 ghost use mathlib.Core.Path.{_≡_};
+ghost use mathlib.Core.List.{List};
 ghost use lib.ListN.{length, take};
 ghost use Rattle.io.specs.Counts.{Counts};
 ghost use Rattle.listing.specs.machine.Page.{pageAt, filled};
-ghost use Rattle.listing.specs.meaning.Program.{wordBytes, mostWords, wordsOf, outLength, bytesLength, listed, printed, mostPrinted};
+ghost use Rattle.listing.specs.meaning.Program.{wordBytes, mostWords, wordsOf, outLength, bytesLength, listed, printed};
+ghost use Rattle.listing.specs.meaning.Program.{mostPrinted, mostRead, ReadOf};
 
 mod lines;
 mod listing;
@@ -35,21 +37,24 @@ const OUT_BYTES: usize = 65536;
 const MOST_PAGE: usize = 116688;
 
 fn main() {
-    let mut input = [0u8; MOST_INPUT];
-    let n = io::read_full(0, &mut input);
+    let mut buffer = [0u8; MOST_INPUT];
+    let n = io::read_full(0, &mut buffer);
     let mut page = [0u8; MOST_PAGE];
-    let used = list_whole(&input[..n], &mut page);
+    let used = list_whole(&buffer, n, &mut page);
     io::write_all(1, &page[..used]);
 }
 
 // Writes what is printed for an input to the start of a page that is long enough for any, and returns how
-// long it is.
-fn list_whole(input: &[u8], page: &mut [u8]) -> usize
+// long it is. The input's first `n` bytes are in a buffer that is long enough for any that is not refused
+// by its size; only if the buffer is full does the input go on.
+fn list_whole(buffer: &[u8], n: usize, page: &mut [u8]) -> usize
+    requires { ⌜ Counts n (now buffer) ⌝ }
+    requires { ⌜ mostRead ≤ length (now buffer) ⌝ }
     requires { ⌜ mostPrinted ≤ length (now page) ⌝ }
-    ensures { λ n. ⌜ Counts n (now (page .exit)) ⌝ }
-    ensures { λ n. ⌜ take n (now (page .exit)) ≡ printed (now (input .entry)) ⌝ }
+    ensures { λ used. ⌜ Counts used (now (page .exit)) ⌝ }
+    ensures { λ used. ⌜ ((input : List ℕ) → ReadOf input (now (buffer .entry)) n → take used (now (page .exit)) ≡ printed input) ⌝ }
 {
-    list_input(input, page)
+    list_input(&buffer[..n], page)
 }
 
 // Writes what is printed for an input to the start of a page, cut where it does not fit, and returns how

@@ -1,12 +1,13 @@
 -- 01, "The listing program reads from standard input the record count, records (words low byte first) and text, lowers into 1,024 records
 -- and 65,536 bytes, and prints …": what it prints for an input. The count is one word; all behind the records is text.
-use Prim.Native.Nat.{ℕ, zero, suc, _+_, _*_}
+use Prim.Native.Nat.{ℕ, zero, suc, _+_, _*_, _≤_, _<_}
 use mathlib.Core.Bool.{Bool, cond}
+use mathlib.Core.Path.{_≡_}
 use mathlib.Core.List.{List, [], _∷_}
 use lib.Dec.{eqb, ltb}
-use lib.ListN.{length, getD, drop, replicate}
+use lib.ListN.{length, getD, take, drop, replicate}
 use Rattle.log.specs.meaning.ReadBack.{Log}
-use Rattle.input.specs.meaning.Rows.{Verdict, accepted, refused, verdict}
+use Rattle.input.specs.meaning.Rows.{Verdict, accepted, refused, verdict, mostRecords, mostText}
 use Rattle.lowering.specs.meaning.Lowered.{logOf, fitsIn, meaning}
 use Rattle.listing.specs.meaning.Listing.{listing, refusalLine}
 
@@ -79,3 +80,13 @@ printed input = cond (cutShort input) (refusalLine 1 0) (listed (wordsIn input) 
 -- the most that is printed: 1,023 records of at most 50 bytes beside their texts, 65,536 bytes of texts, and the last line
 abbrev pub mostPrinted : ℕ
 mostPrinted = 116688
+
+-- the most that is read: the longest input whose size row 1 does not refuse, and one byte, by which a longer one is seen to be longer
+abbrev pub mostRead : ℕ
+mostRead = wordBytes + mostRecords * recordBytes + mostText + 1
+
+-- "reads from standard input": the first n bytes of a buffer were read of an input; the input goes on behind them only where the buffer
+-- is full
+pub record ReadOf (input buffer : List ℕ) (n : ℕ) : Type 0 where
+  pub starts : take n buffer ≡ take n input
+  pub ends : n < length buffer → length input ≤ n
