@@ -29,7 +29,7 @@ use Rattle.input.specs.machine.NameRead.{isThere}
 use Rattle.items.specs.machine.Opened.{OpensAt}
 use Rattle.items.specs.machine.PropertyMade.{isTop}
 use Rattle.items.specs.machine.NodePlaced.{PlacedTo, Places, PlacesIn}
-use Rattle.items.specs.declared.dt_node.Opened.{Opened}
+use Rattle.items.specs.declared.open_node.Opened.{Opened}
 use Rattle.items.specs.declared.dt_node.NodePlace.{NodePlace}
 use Rattle.items.specs.declared.dt_node.NodePlace.the-variants as N
 use Rattle.items.specs.declared.dt_node.PlacedNode.{PlacedNode}

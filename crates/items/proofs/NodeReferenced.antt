@@ -38,7 +38,7 @@ use Rattle.items.specs.machine.Opened.{bareNode, Opens}
 use Rattle.items.specs.machine.NodePlaced.{PlacesIn, DefinesLeading, leadsOn}
 use Rattle.resolving.specs.declared.resolve.Resolved.{Resolved}
 use Rattle.resolving.specs.declared.resolve.Resolved.the-variants as R
-use Rattle.items.specs.declared.dt_node.Opened.{Opened}
+use Rattle.items.specs.declared.open_node.Opened.{Opened}
 use Rattle.items.specs.declared.dt_node.NodePlace.the-variants as N
 use Rattle.items.specs.declared.dt_node.PlacedNode.{PlacedNode}
 use Rattle.items.proofs.Reported.{emit-none}

@@ -25,7 +25,7 @@ use Rattle.input.specs.meaning.Name.{nodeNameSpan, labelsOf}
 use Rattle.items.specs.meaning.Lower.{labelTexts, nodeDef, opened}
 use Rattle.items.specs.machine.Labelled.{withLabels, labelledBy, LabelsAt}
 use Rattle.items.specs.machine.Opened.{bareNode, Opens, OpensAt}
-use Rattle.items.specs.declared.dt_node.Opened.{Opened}
+use Rattle.items.specs.declared.open_node.Opened.{Opened}
 use Rattle.items.proofs.Labelled.{same-state}
 use Rattle.resolving.proofs.Lowers.{Grows, define-grows, stays-over}
 use Rattle.items.proofs.Short.{short-anywhere}

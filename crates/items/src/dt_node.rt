@@ -1,44 +1,38 @@
-// Nodes of a description (dt_node.rs): their definitions and labels.
+// Where a node of a description goes (dt_node.rs): by the reference among its parts, else by its name.
 ghost use mathlib.Core.Path.{_≡_};
 ghost use mathlib.Core.Bool.{true};
 ghost use mathlib.Core.List.{List, [], _∷_};
 ghost use mathlib.Core.Option.{some};
 ghost use Prim.Native.Nat.{ℕ, _<_};
-ghost use Rattle.paths_numbers.specs.meaning.Path.{root, joined};
+ghost use Rattle.paths_numbers.specs.meaning.Path.{root};
 ghost use Rattle.making.specs.declared.place.PathAt.{PathAt};
-ghost use Rattle.log.specs.meaning.Contents.{node};
-ghost use Rattle.making.specs.machine.Recs.{bareValue};
 ghost use Rattle.log.specs.machine.Parts.{targetMade};
 ghost use Rattle.making.specs.meaning.State.{emit};
-ghost use Rattle.input.specs.meaning.Tree.{has, omitKind};
 ghost use Rattle.input.specs.meaning.Report.{report};
-ghost use Rattle.input.specs.meaning.Name.{nameOrMacro, fullName, nodeNameSpan, labelled, labelsOf};
+ghost use Rattle.input.specs.meaning.Name.{fullName, nodeNameSpan};
 ghost use Rattle.input.specs.meaning.Phandle.{lowerPhandle};
 ghost use Rattle.resolving.specs.meaning.Resolve.{resolve};
 ghost use Rattle.items.specs.meaning.Lower.{byResolution, byTarget, placedAs, byName, placeOf};
 ghost use Rattle.input.specs.meaning.GoodName.{goodNamesIn};
 ghost use Rattle.input.specs.meaning.Input.{recordCount, childAt, spanAt, chainAt, recordAt};
-ghost use Rattle.input.specs.machine.Linked.{Linked, At};
+ghost use Rattle.input.specs.machine.Linked.{Linked};
 ghost use Rattle.resolving.specs.machine.Lowers.{Lowers};
-ghost use Rattle.input.specs.machine.NameRead.{nameText, FullNameRead};
-ghost use Rattle.items.specs.machine.Labelled.{LabelsAt};
-ghost use Rattle.items.specs.machine.Opened.{Opens, OpensAt};
-ghost use Rattle.items.specs.machine.NodePlaced.{Places, PlacesIn, DefinesLeading, leadsOn};
+ghost use Rattle.input.specs.machine.NameRead.{FullNameRead};
+ghost use Rattle.items.specs.machine.NodePlaced.{Places, PlacesIn, leadsOn};
 ghost use Rattle.items.specs.machine.NodeLowered.{Settles};
 ghost use Rattle.input.specs.machine.PhandleRead.{labelAt, pathAt, phandleRead};
 use crate::dt_property::is_top;
+use crate::open_node::define_below;
+use crate::open_node::define_leading;
+use crate::open_node::define_there;
+use crate::open_node::open_node;
 use crate::report::emit_name;
 use crate::report::undefined_macro;
-use input::kinds::LABEL;
-use input::kinds::OMIT;
 use input::kinds::REFERENCE;
 use input::kinds::SLASH;
 use input::name::FullName;
-use input::name::NameOrMacro;
 use input::name::full_name;
 use input::name::is_named;
-use input::name::name_or_macro;
-use input::name::name_text;
 use input::name::node_name_span;
 use input::phandle::PhandleRead;
 use input::phandle::lower_phandle;
@@ -47,171 +41,17 @@ use input::phandle::phandle_path_at;
 use input::record::child_at;
 use input::record::first_of;
 use input::record::has_kind;
-use input::record::kind_at;
-use input::record::next_at;
-use input::record::no_text;
 use input::record::span_at;
-use input::record::text_at;
 use log::parts::Span;
 use log::parts::TargetKind;
 use making::ctx::LowerCtx;
 use making::place::PathAt;
-use making::place::second_place;
-use making::recs::DefKind;
 use paths_numbers::codes::ROOT_INSIDE;
 use paths_numbers::codes::SUBNODE_OUTSIDE;
 use queries::mir::sets_overlay_in;
 use resolving::resolve::Resolved;
 use resolving::resolve::report_unresolved;
 use resolving::resolve::resolve_phandle;
-
-// A label of a node whose path stands at a place: added to the node's definition and bound.
-fn lower_label(
-    words: &[u32],
-    text: &[u8],
-    r: u32,
-    place: PathAt,
-    out: &mut [u32],
-    bytes: &mut [u8],
-    ctx: LowerCtx,
-) -> LowerCtx
-    requires { ⌜ Linked (now words) ⌝ }
-    requires { ⌜ r < recordCount (now words) ⌝ }
-    ensures { λ d. ⌜ LabelsAt place ctx d (now (out .entry)) (now (bytes .entry)) (now (out .exit)) (now (bytes .exit))
-        (λ (p : List ℕ). labelled p (recordAt (now (words .entry)) (now (text .entry)) r)
-        (nameOrMacro (chainAt (now (words .entry)) (now (text .entry)) (childAt (now (words .entry)) r)))) ⌝ }
-{
-    match name_or_macro(words, child_at(words, r)) {
-        NameOrMacro::Name(n) => {
-            let label = text_at(words, text, n);
-            let span = span_at(words, r);
-            let added = ctx.add_label(out, bytes, label);
-            added.bind(out, bytes, label, place, span)
-        }
-        NameOrMacro::Macro(m) => undefined_macro(words, text, m, out, bytes, ctx),
-        NameOrMacro::Nothing => ctx,
-    }
-}
-
-// The labels of a node among its parts.
-pub fn collect_labels(
-    words: &[u32],
-    text: &[u8],
-    parts: u32,
-    place: PathAt,
-    out: &mut [u32],
-    bytes: &mut [u8],
-    ctx: LowerCtx,
-) -> LowerCtx
-    requires { ⌜ Linked (now words) ⌝ }
-    requires { ⌜ At (now words) parts ⌝ }
-    ensures { λ d. ⌜ LabelsAt place ctx d (now (out .entry)) (now (bytes .entry)) (now (out .exit)) (now (bytes .exit))
-        (λ (p : List ℕ). labelsOf p (chainAt (now (words .entry)) (now (text .entry)) parts)) ⌝ }
-{
-    let mut state = ctx;
-    let mut r = parts;
-    while r != 0 {
-        if kind_at(words, r) == LABEL {
-            state = lower_label(words, text, r, place, out, bytes, state);
-        }
-        r = next_at(words, r);
-    }
-    state
-}
-
-// A node whose definition is made: where its path stands.
-pub struct Opened {
-    pub place: PathAt,
-    pub ctx: LowerCtx,
-}
-
-// The labels of a node whose definition was made just before.
-fn open_node(
-    words: &[u32],
-    text: &[u8],
-    parts: u32,
-    out: &mut [u32],
-    bytes: &mut [u8],
-    made: LowerCtx,
-) -> Opened
-    requires { ⌜ Linked (now words) ⌝ }
-    requires { ⌜ At (now words) parts ⌝ }
-    ensures { λ o. ⌜ Opens made (now (out .entry)) (now (bytes .entry)) (now (out .exit)) (now (bytes .exit))
-        (chainAt (now (words .entry)) (now (text .entry)) parts) o ⌝ }
-{
-    let place = made.newest_path(out);
-    let labelled = collect_labels(words, text, parts, place, out, bytes, made);
-    Opened {
-        place: place,
-        ctx: labelled,
-    }
-}
-
-// The kind of a node's definition.
-fn node_kind(words: &[u32], parts: u32) -> DefKind
-    requires { ⌜ Linked (now words) ⌝ }
-    requires { ⌜ At (now words) parts ⌝ }
-    ensures { λ k. ⌜ ((text : List ℕ) → bareValue k ≡ node [] (has omitKind (chainAt (now (words .entry)) text parts))) ⌝ }
-{
-    if has_kind(words, parts, OMIT) {
-        return DefKind::OmittedNode;
-    }
-    DefKind::Node
-}
-
-// Opens the node of record r at the path of its name under its parent's.
-fn define_below(
-    words: &[u32],
-    text: &[u8],
-    r: u32,
-    full: FullName,
-    parent: PathAt,
-    out: &mut [u32],
-    bytes: &mut [u8],
-    ctx: LowerCtx,
-) -> Opened
-    requires { ⌜ Linked (now words) ⌝ }
-    requires { ⌜ r < recordCount (now words) ⌝ }
-    ensures { λ o. ⌜ OpensAt parent ctx (now (out .entry)) (now (bytes .entry)) (now (out .exit)) (now (bytes .exit))
-        (chainAt (now (words .entry)) (now (text .entry)) (childAt (now (words .entry)) r)) (spanAt (now (words .entry)) r)
-        (λ (p : List ℕ). joined p (nameText (now (words .entry)) (now (text .entry)) (full .name))
-        (nameText (now (words .entry)) (now (text .entry)) (full .unit))) o ⌝ }
-{
-    let parts = child_at(words, r);
-    let kind = node_kind(words, parts);
-    let span = span_at(words, r);
-    let name_span = node_name_span(words, parts, span);
-    let name = full.name;
-    let unit = full.unit;
-    let name_of = name_text(words, text, name);
-    let unit_of = name_text(words, text, unit);
-    let made = ctx.define(out, bytes, kind, span, name_span, parent, name_of, unit_of);
-    open_node(words, text, parts, out, bytes, made)
-}
-
-// Opens the node of record r at a path.
-fn define_there(
-    words: &[u32],
-    text: &[u8],
-    r: u32,
-    path: &[u8],
-    out: &mut [u32],
-    bytes: &mut [u8],
-    ctx: LowerCtx,
-) -> Opened
-    requires { ⌜ Linked (now words) ⌝ }
-    requires { ⌜ r < recordCount (now words) ⌝ }
-    ensures { λ o. ⌜ ((parent : PathAt) → OpensAt parent ctx (now (out .entry)) (now (bytes .entry)) (now (out .exit)) (now (bytes .exit))
-        (chainAt (now (words .entry)) (now (text .entry)) (childAt (now (words .entry)) r)) (spanAt (now (words .entry)) r)
-        (λ (p : List ℕ). now (path .entry)) o) ⌝ }
-{
-    let parts = child_at(words, r);
-    let kind = node_kind(words, parts);
-    let span = span_at(words, r);
-    let name_span = node_name_span(words, parts, span);
-    let made = ctx.define_text(out, bytes, kind, span, name_span, path);
-    open_node(words, text, parts, out, bytes, made)
-}
 
 // Where a node goes before its body is lowered: to the place of its path; to a log of its own for the
 // reference of a record, of this kind, and whether that log is kept; to a log that is dropped; or
@@ -226,6 +66,140 @@ pub enum NodePlace {
 pub struct PlacedNode {
     pub node: NodePlace,
     pub ctx: LowerCtx,
+}
+
+// Opens or refuses the node of record r: by the reference among its parts, else by its name.
+pub fn place_node(
+    words: &[u32],
+    text: &[u8],
+    r: u32,
+    parent: PathAt,
+    out: &mut [u32],
+    bytes: &mut [u8],
+    ctx: LowerCtx,
+) -> PlacedNode
+    requires { ⌜ Linked (now words) ⌝ }
+    requires { ⌜ r < recordCount (now words) ⌝ }
+    requires { ⌜ goodNamesIn (chainAt (now words) (now text) (childAt (now words) r)) ≡ true ⌝ }
+    ensures { λ v. ⌜ PlacesIn parent ctx (now (out .entry)) (now (bytes .entry)) (now (out .exit)) (now (bytes .exit)) (now (words .entry))
+        (now (text .entry)) (chainAt (now (words .entry)) (now (text .entry)) (childAt (now (words .entry)) r))
+        (spanAt (now (words .entry)) r) (λ p s. placeOf p (chainAt (now (words .entry)) (now (text .entry))
+        (childAt (now (words .entry)) r)) (spanAt (now (words .entry)) r) s) v ⌝ }
+{
+    let reference = first_of(words, child_at(words, r), REFERENCE);
+    if reference == 0 {
+        return place_by_name(words, text, r, parent, out, bytes, ctx);
+    }
+    place_by_reference(words, text, r, reference, out, bytes, ctx)
+}
+
+// Opens the node of record r where its reference leads, or puts it aside.
+fn place_by_reference(
+    words: &[u32],
+    text: &[u8],
+    r: u32,
+    reference: u32,
+    out: &mut [u32],
+    bytes: &mut [u8],
+    ctx: LowerCtx,
+) -> PlacedNode
+    requires { ⌜ Linked (now words) ⌝ }
+    requires { ⌜ r < recordCount (now words) ⌝ }
+    requires { ⌜ reference < recordCount (now words) ⌝ }
+    ensures { λ v. ⌜ ((parent : PathAt) → PlacesIn parent ctx (now (out .entry)) (now (bytes .entry)) (now (out .exit)) (now (bytes .exit))
+        (now (words .entry)) (now (text .entry)) (chainAt (now (words .entry)) (now (text .entry)) (childAt (now (words .entry)) r))
+        (spanAt (now (words .entry)) r) (λ p s. byTarget (recordAt (now (words .entry)) (now (text .entry)) reference)
+        (lowerPhandle (recordAt (now (words .entry)) (now (text .entry)) reference) .reports)
+        (lowerPhandle (recordAt (now (words .entry)) (now (text .entry)) reference) .result) s) v) ⌝ }
+{
+    let read = lower_phandle(words, text, reference);
+    match read {
+        PhandleRead::Macro(m) => {
+            let told = undefined_macro(words, text, m, out, bytes, ctx);
+            PlacedNode {
+                node: NodePlace::Nowhere,
+                ctx: told,
+            }
+        }
+        PhandleRead::Unreadable => PlacedNode {
+            node: NodePlace::Nowhere,
+            ctx: ctx,
+        },
+        PhandleRead::Label => {
+            let kind = TargetKind::Label;
+            place_resolved(words, text, r, reference, read, kind, out, bytes, ctx)
+        }
+        PhandleRead::LabelPath => {
+            let kind = TargetKind::LabelPath;
+            place_resolved(words, text, r, reference, read, kind, out, bytes, ctx)
+        }
+        PhandleRead::Path => {
+            let kind = TargetKind::Path;
+            place_resolved(words, text, r, reference, read, kind, out, bytes, ctx)
+        }
+    }
+}
+
+// The same of a reference that names a target of this kind.
+fn place_resolved(
+    words: &[u32],
+    text: &[u8],
+    r: u32,
+    reference: u32,
+    read: PhandleRead,
+    kind: TargetKind,
+    out: &mut [u32],
+    bytes: &mut [u8],
+    ctx: LowerCtx,
+) -> PlacedNode
+    requires { ⌜ Linked (now words) ⌝ }
+    requires { ⌜ r < recordCount (now words) ⌝ }
+    requires { ⌜ phandleRead (now words) (now text) reference read .result ≡ some
+        (targetMade kind (labelAt (now words) (now text) reference) (pathAt (now words) (now text) reference)) ⌝ }
+    ensures { λ v. ⌜ ((parent : PathAt) → PlacesIn parent ctx (now (out .entry)) (now (bytes .entry)) (now (out .exit)) (now (bytes .exit))
+        (now (words .entry)) (now (text .entry)) (chainAt (now (words .entry)) (now (text .entry)) (childAt (now (words .entry)) r))
+        (spanAt (now (words .entry)) r) (λ p s. byResolution (recordAt (now (words .entry)) (now (text .entry)) reference)
+        (targetMade kind (labelAt (now (words .entry)) (now (text .entry)) reference)
+        (pathAt (now (words .entry)) (now (text .entry)) reference)) (s .defs)
+        (resolve (targetMade kind (labelAt (now (words .entry)) (now (text .entry)) reference)
+        (pathAt (now (words .entry)) (now (text .entry)) reference)) (s .binds) (s .defs))) v) ⌝ }
+{
+    let binds = ctx.binds.first;
+    let defs = ctx.defs.first;
+    let leads = resolve_phandle(words, text, reference, read, out, bytes, binds, defs);
+    if leads_on(leads) {
+        let made = define_leading(words, text, r, reference, leads, out, bytes, ctx);
+        let node = open_node(words, text, child_at(words, r), out, bytes, made);
+        let place = node.place;
+        let labelled = node.ctx;
+        return PlacedNode {
+            node: NodePlace::At(place),
+            ctx: labelled,
+        };
+    }
+    let keeps = sets_overlay_in(out, defs);
+    let label = phandle_label_at(words, text, reference);
+    let path = phandle_path_at(words, text, reference);
+    let span = span_at(words, reference);
+    let told = report_unresolved(ctx, out, bytes, leads, label, path, span);
+    PlacedNode {
+        node: NodePlace::Aside(reference, kind, keeps),
+        ctx: told,
+    }
+}
+
+// Whether a reference leads somewhere.
+fn leads_on(v: Resolved) -> bool
+    ensures { λ t. ⌜ t ≡ leadsOn v ⌝ }
+{
+    match v {
+        Resolved::Bound(_) => true,
+        Resolved::BoundPath(_) => true,
+        Resolved::AtPath => true,
+        Resolved::NoLabel => false,
+        Resolved::NoNode => false,
+        Resolved::NoNodeBelow(_) => false,
+    }
 }
 
 // Opens or refuses the node of record r by its name.
@@ -379,178 +353,4 @@ pub fn settle_aside(
         return body.leave_kept(out, bytes, outer, span, name_span, kind, label, path);
     }
     body.leave_dropped(out, bytes, outer)
-}
-
-// Opens or refuses the node of record r: by the reference among its parts, else by its name.
-pub fn place_node(
-    words: &[u32],
-    text: &[u8],
-    r: u32,
-    parent: PathAt,
-    out: &mut [u32],
-    bytes: &mut [u8],
-    ctx: LowerCtx,
-) -> PlacedNode
-    requires { ⌜ Linked (now words) ⌝ }
-    requires { ⌜ r < recordCount (now words) ⌝ }
-    requires { ⌜ goodNamesIn (chainAt (now words) (now text) (childAt (now words) r)) ≡ true ⌝ }
-    ensures { λ v. ⌜ PlacesIn parent ctx (now (out .entry)) (now (bytes .entry)) (now (out .exit)) (now (bytes .exit)) (now (words .entry))
-        (now (text .entry)) (chainAt (now (words .entry)) (now (text .entry)) (childAt (now (words .entry)) r))
-        (spanAt (now (words .entry)) r) (λ p s. placeOf p (chainAt (now (words .entry)) (now (text .entry))
-        (childAt (now (words .entry)) r)) (spanAt (now (words .entry)) r) s) v ⌝ }
-{
-    let reference = first_of(words, child_at(words, r), REFERENCE);
-    if reference == 0 {
-        return place_by_name(words, text, r, parent, out, bytes, ctx);
-    }
-    place_by_reference(words, text, r, reference, out, bytes, ctx)
-}
-
-// Opens the node of record r where its reference leads, or puts it aside.
-fn place_by_reference(
-    words: &[u32],
-    text: &[u8],
-    r: u32,
-    reference: u32,
-    out: &mut [u32],
-    bytes: &mut [u8],
-    ctx: LowerCtx,
-) -> PlacedNode
-    requires { ⌜ Linked (now words) ⌝ }
-    requires { ⌜ r < recordCount (now words) ⌝ }
-    requires { ⌜ reference < recordCount (now words) ⌝ }
-    ensures { λ v. ⌜ ((parent : PathAt) → PlacesIn parent ctx (now (out .entry)) (now (bytes .entry)) (now (out .exit)) (now (bytes .exit))
-        (now (words .entry)) (now (text .entry)) (chainAt (now (words .entry)) (now (text .entry)) (childAt (now (words .entry)) r))
-        (spanAt (now (words .entry)) r) (λ p s. byTarget (recordAt (now (words .entry)) (now (text .entry)) reference)
-        (lowerPhandle (recordAt (now (words .entry)) (now (text .entry)) reference) .reports)
-        (lowerPhandle (recordAt (now (words .entry)) (now (text .entry)) reference) .result) s) v) ⌝ }
-{
-    let read = lower_phandle(words, text, reference);
-    match read {
-        PhandleRead::Macro(m) => {
-            let told = undefined_macro(words, text, m, out, bytes, ctx);
-            PlacedNode {
-                node: NodePlace::Nowhere,
-                ctx: told,
-            }
-        }
-        PhandleRead::Unreadable => PlacedNode {
-            node: NodePlace::Nowhere,
-            ctx: ctx,
-        },
-        PhandleRead::Label => {
-            let kind = TargetKind::Label;
-            place_resolved(words, text, r, reference, read, kind, out, bytes, ctx)
-        }
-        PhandleRead::LabelPath => {
-            let kind = TargetKind::LabelPath;
-            place_resolved(words, text, r, reference, read, kind, out, bytes, ctx)
-        }
-        PhandleRead::Path => {
-            let kind = TargetKind::Path;
-            place_resolved(words, text, r, reference, read, kind, out, bytes, ctx)
-        }
-    }
-}
-
-// The same of a reference that names a target of this kind.
-fn place_resolved(
-    words: &[u32],
-    text: &[u8],
-    r: u32,
-    reference: u32,
-    read: PhandleRead,
-    kind: TargetKind,
-    out: &mut [u32],
-    bytes: &mut [u8],
-    ctx: LowerCtx,
-) -> PlacedNode
-    requires { ⌜ Linked (now words) ⌝ }
-    requires { ⌜ r < recordCount (now words) ⌝ }
-    requires { ⌜ phandleRead (now words) (now text) reference read .result ≡ some
-        (targetMade kind (labelAt (now words) (now text) reference) (pathAt (now words) (now text) reference)) ⌝ }
-    ensures { λ v. ⌜ ((parent : PathAt) → PlacesIn parent ctx (now (out .entry)) (now (bytes .entry)) (now (out .exit)) (now (bytes .exit))
-        (now (words .entry)) (now (text .entry)) (chainAt (now (words .entry)) (now (text .entry)) (childAt (now (words .entry)) r))
-        (spanAt (now (words .entry)) r) (λ p s. byResolution (recordAt (now (words .entry)) (now (text .entry)) reference)
-        (targetMade kind (labelAt (now (words .entry)) (now (text .entry)) reference)
-        (pathAt (now (words .entry)) (now (text .entry)) reference)) (s .defs)
-        (resolve (targetMade kind (labelAt (now (words .entry)) (now (text .entry)) reference)
-        (pathAt (now (words .entry)) (now (text .entry)) reference)) (s .binds) (s .defs))) v) ⌝ }
-{
-    let binds = ctx.binds.first;
-    let defs = ctx.defs.first;
-    let leads = resolve_phandle(words, text, reference, read, out, bytes, binds, defs);
-    if leads_on(leads) {
-        let made = define_leading(words, text, r, reference, leads, out, bytes, ctx);
-        let node = open_node(words, text, child_at(words, r), out, bytes, made);
-        let place = node.place;
-        let labelled = node.ctx;
-        return PlacedNode {
-            node: NodePlace::At(place),
-            ctx: labelled,
-        };
-    }
-    let keeps = sets_overlay_in(out, defs);
-    let label = phandle_label_at(words, text, reference);
-    let path = phandle_path_at(words, text, reference);
-    let span = span_at(words, reference);
-    let told = report_unresolved(ctx, out, bytes, leads, label, path, span);
-    PlacedNode {
-        node: NodePlace::Aside(reference, kind, keeps),
-        ctx: told,
-    }
-}
-
-// Whether a reference leads somewhere.
-fn leads_on(v: Resolved) -> bool
-    ensures { λ t. ⌜ t ≡ leadsOn v ⌝ }
-{
-    match v {
-        Resolved::Bound(_) => true,
-        Resolved::BoundPath(_) => true,
-        Resolved::AtPath => true,
-        Resolved::NoLabel => false,
-        Resolved::NoNode => false,
-        Resolved::NoNodeBelow(_) => false,
-    }
-}
-
-// The definition of the node of record r where its reference leads.
-fn define_leading(
-    words: &[u32],
-    text: &[u8],
-    r: u32,
-    reference: u32,
-    leads: Resolved,
-    out: &mut [u32],
-    bytes: &mut [u8],
-    ctx: LowerCtx,
-) -> LowerCtx
-    requires { ⌜ Linked (now words) ⌝ }
-    requires { ⌜ r < recordCount (now words) ⌝ }
-    ensures { λ d. ⌜ DefinesLeading leads (labelAt (now (words .entry)) (now (text .entry)) reference)
-        (pathAt (now (words .entry)) (now (text .entry)) reference) ctx d (now (out .entry)) (now (bytes .entry)) (now (out .exit))
-        (now (bytes .exit)) (chainAt (now (words .entry)) (now (text .entry)) (childAt (now (words .entry)) r))
-        (spanAt (now (words .entry)) r) ⌝ }
-{
-    let parts = child_at(words, r);
-    let kind = node_kind(words, parts);
-    let span = span_at(words, r);
-    let name_span = node_name_span(words, parts, span);
-    let path = phandle_path_at(words, text, reference);
-    match leads {
-        Resolved::Bound(b) => {
-            let place = second_place(out, b);
-            ctx.define_at(out, bytes, kind, span, name_span, place)
-        }
-        Resolved::BoundPath(b) => {
-            let place = second_place(out, b);
-            let unit = no_text(path);
-            ctx.define(out, bytes, kind, span, name_span, place, path, unit)
-        }
-        Resolved::AtPath => ctx.define_text(out, bytes, kind, span, name_span, path),
-        Resolved::NoLabel => ctx,
-        Resolved::NoNode => ctx,
-        Resolved::NoNodeBelow(_) => ctx,
-    }
 }

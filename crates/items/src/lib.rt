@@ -3,5 +3,6 @@
 pub mod dt_node;
 pub mod dt_property;
 pub mod item;
+pub mod open_node;
 pub mod report;
 pub mod unbind;

@@ -9,7 +9,7 @@ use Rattle.making.specs.machine.Represents.{Context, withPlace, Represents}
 use Rattle.input.specs.meaning.Tree.{Trees, has, omitKind}
 use Rattle.input.specs.meaning.Name.{nodeNameSpan}
 use Rattle.items.specs.meaning.Lower.{opened}
-use Rattle.items.specs.declared.dt_node.Opened.{Opened}
+use Rattle.items.specs.declared.open_node.Opened.{Opened}
 
 -- a node's definition before its labels
 abbrev pub bareNode : List ℕ → Trees → Span → Def

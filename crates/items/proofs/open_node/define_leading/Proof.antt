@@ -7,8 +7,8 @@ use Rattle.items.specs.machine.NodePlaced.{leadsOn}
 use Rattle.input.proofs.Read.{child-there}
 use Rattle.items.proofs.NodeReferenced.{defines-bound, defines-below, defines-path, defines-none}
 use borrow.Author.Needs.{needs}
-use Rattle.items.proofs.dt_node.define_leading.Statement.{statement}
-use Rattle.items.proofs.dt_node.define_leading.Tie as tie
+use Rattle.items.proofs.open_node.define_leading.Statement.{statement}
+use Rattle.items.proofs.open_node.define_leading.Tie as tie
 
 child-at-requires : tie.Need-child-at-requires
 child-at-requires c κs = search needs

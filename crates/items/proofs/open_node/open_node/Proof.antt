@@ -1,8 +1,8 @@
 -- The newest definition's place, and its labels (Opened).
 use Rattle.items.proofs.Opened.{node-opens}
 use borrow.Author.Needs.{needs}
-use Rattle.items.proofs.dt_node.open_node.Statement.{statement}
-use Rattle.items.proofs.dt_node.open_node.Tie as tie
+use Rattle.items.proofs.open_node.open_node.Statement.{statement}
+use Rattle.items.proofs.open_node.open_node.Tie as tie
 
 newest-path-requires : tie.Need-newest-path-requires
 newest-path-requires c κs = search needs

@@ -3,8 +3,8 @@ use mathlib.Core.Path.{_≡_}
 use borrow.Author.Needs.{needs}
 use Rattle.input.specs.meaning.Input.{recordAt}
 use Rattle.items.proofs.Labels.{label-bound, label-reported, label-nothing, label-read}
-use Rattle.items.proofs.dt_node.lower_label.Statement.{statement}
-use Rattle.items.proofs.dt_node.lower_label.Tie as tie
+use Rattle.items.proofs.open_node.lower_label.Statement.{statement}
+use Rattle.items.proofs.open_node.lower_label.Tie as tie
 
 child-at-requires : tie.Need-child-at-requires
 child-at-requires c κs = search needs

@@ -4,8 +4,8 @@ use mathlib.Core.Bool.{Bool}
 use mathlib.Core.List.{[]}
 use Rattle.log.specs.meaning.Contents.{node}
 use borrow.Author.Needs.{needs}
-use Rattle.items.proofs.dt_node.node_kind.Statement.{statement}
-use Rattle.items.proofs.dt_node.node_kind.Tie as tie
+use Rattle.items.proofs.open_node.node_kind.Statement.{statement}
+use Rattle.items.proofs.open_node.node_kind.Tie as tie
 
 has-kind-requires : tie.Need-has-kind-requires
 has-kind-requires c κs = search needs

@@ -4,8 +4,8 @@ use Rattle.input.specs.meaning.Input.{spanAt}
 use Rattle.input.proofs.Read.{child-there}
 use Rattle.items.proofs.Opened.{defined-opens}
 use borrow.Author.Needs.{needs}
-use Rattle.items.proofs.dt_node.define_there.Statement.{statement}
-use Rattle.items.proofs.dt_node.define_there.Tie as tie
+use Rattle.items.proofs.open_node.define_there.Statement.{statement}
+use Rattle.items.proofs.open_node.define_there.Tie as tie
 
 child-at-requires : tie.Need-child-at-requires
 child-at-requires c κs = search needs

@@ -6,8 +6,8 @@ use mathlib.Core.Logic.{⊎-elim}
 use lib.ListN.{length}
 use Rattle.input.proofs.Read.{rank, rank-less}
 use Rattle.items.proofs.Labels.{LabelsTo, labels-start, labels-whole, labels-other, labels-more}
-use Rattle.items.proofs.dt_node.collect_labels.Statement.{statement}
-use Rattle.items.proofs.dt_node.collect_labels.Tie as tie
+use Rattle.items.proofs.open_node.collect_labels.Statement.{statement}
+use Rattle.items.proofs.open_node.collect_labels.Tie as tie
 
 abbrev Inv-loop : tie.InvT-loop
 Inv-loop words text parts place out₀ bytes₀ state₀ r₀ out bytes state r =

@@ -7,8 +7,8 @@ use Rattle.input.specs.machine.NameRead.{nameText}
 use Rattle.input.proofs.Read.{child-there}
 use Rattle.items.proofs.Opened.{defined-opens, below-parent}
 use borrow.Author.Needs.{needs}
-use Rattle.items.proofs.dt_node.define_below.Statement.{statement}
-use Rattle.items.proofs.dt_node.define_below.Tie as tie
+use Rattle.items.proofs.open_node.define_below.Statement.{statement}
+use Rattle.items.proofs.open_node.define_below.Tie as tie
 
 child-at-requires : tie.Need-child-at-requires
 child-at-requires c κs = search needs
