@@ -138,13 +138,13 @@ times-to words t e = rw (e, eq-eqb t t refl) refl
 -- how often t is among what the links of a record lead to
 pub times-outs : (words : List ℕ) (r t : ℕ) → times t (outs words r) ≡
     times t (toOf words (nextOf words r))
-    + times t (cond (hasChildren (kindOf words r)) (toOf words (childOf words r)) [])
+    + times t (toOf words (childOf words r))
     + times t (cond (eqb (kindOf words r) extensionKind) (toOf words (mOf words r)) [])
 unfolding outs
 times-outs words r t =
-    times-append t (toOf words (nextOf words r) ++ cond (hasChildren (kindOf words r)) (toOf words (childOf words r)) [])
+    times-append t (toOf words (nextOf words r) ++ toOf words (childOf words r))
     (cond (eqb (kindOf words r) extensionKind) (toOf words (mOf words r)) [])
-    ∙ rw (times-append t (toOf words (nextOf words r)) (cond (hasChildren (kindOf words r)) (toOf words (childOf words r)) [])) refl
+    ∙ rw (times-append t (toOf words (nextOf words r)) (toOf words (childOf words r))) refl
 
 -- what is once among the links of a record that is reached is reached
 pub out-reached : (words : List ℕ) (r t : ℕ) → Reached words r → 1 ≤ times t (outs words r) → Reached words t
@@ -207,9 +207,8 @@ module _ (words bytes : List ℕ) (ok : lowestFault words bytes ≡ sound) (r : 
       go (inr l) =
           inr (out-reached words r (childOf words r) h (omega (
             arith,
-            rw c at (times-outs words r (childOf words r)),
-            times-to words
-                (childOf words r) l,
+            times-outs words r (childOf words r),
+            times-to words (childOf words r) l,
           )))
 
   pub childless : hasChildren (kindOf words r) ≡ false → childOf words r ≡ 0
