@@ -54,9 +54,11 @@ pub enum Chain {
     Values,
     Cells,
     References,
+    /// Below a kind without children.
+    Nowhere,
 }
 
-use Chain::{Bindings, Cells, Definitions, Diagnostics, Extensions, Labels, References, Values};
+use Chain::{Bindings, Cells, Definitions, Diagnostics, Extensions, Labels, Nowhere, References, Values};
 
 impl Chain {
     fn fits(self, kind: u32) -> bool {
@@ -69,17 +71,18 @@ impl Chain {
             Values => matches!(kind, 8 | 9 | 10 | 12),
             Cells => matches!(kind, 11 | 12),
             References => kind == 12,
+            Nowhere => false,
         }
     }
 
-    /// The chain that a kind's child leads to, if it has children.
-    fn of_children(kind: u32) -> Option<Self> {
+    /// The chain that a kind's child leads to.
+    fn of_children(kind: u32) -> Self {
         match kind {
-            1 => Some(Labels),
-            2 => Some(Values),
-            9 => Some(Cells),
-            13 => Some(References),
-            _ => None,
+            1 => Labels,
+            2 => Values,
+            9 => Cells,
+            13 => References,
+            _ => Nowhere,
         }
     }
 }
@@ -140,7 +143,7 @@ pub fn reached(words: &[u32]) -> Vec<Reached> {
     reached
 }
 
-/// A record's links that are named for its kind, and the chains that they lead to.
+/// A record's links, and the chains that they lead to: next, child whatever the kind, M of kind 13.
 fn links(words: &[u32], number: u32, chain: Option<Chain>) -> Vec<(u32, Chain)> {
     let words = record(words, number);
     let Some(chain) = chain else {
@@ -148,10 +151,9 @@ fn links(words: &[u32], number: u32, chain: Option<Chain>) -> Vec<(u32, Chain)> 
             .map(|(word, chain)| (words[word], chain))
             .to_vec();
     };
-    let next = Some((words[1], chain));
-    let child = Chain::of_children(words[0]).map(|chain| (words[6], chain));
-    let body = (words[0] == 13).then_some((words[8], Definitions));
-    [next, child, body].into_iter().flatten().collect()
+    let mut links = vec![(words[1], chain), (words[6], Chain::of_children(words[0]))];
+    links.extend((words[0] == 13).then_some((words[8], Definitions)));
+    links
 }
 
 /// "links inside the log in either direction".
@@ -169,7 +171,7 @@ fn broken(words: &[u32], bytes: &[u8], number: u32, reached: &Reached) -> Option
     let words = record(words, number);
     let kind = words[0];
     let rules = [
-        (Rule::ChildWord, words[6] != 0 && Chain::of_children(kind).is_none()),
+        (Rule::ChildWord, words[6] != 0 && Chain::of_children(kind) == Nowhere),
         (Rule::Twice, reached.times > 1),
         (Rule::Text, text(words, 2, bytes).is_none() || text(words, 4, bytes).is_none()),
         (Rule::Kind(chain), reached.chains.iter().all(|chain| !chain.fits(kind))),

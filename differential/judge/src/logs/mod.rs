@@ -98,7 +98,7 @@ const SEEN: [&str; 18] = [
     "several records at fault",
 ];
 
-const RULES: [Rule; 15] = [
+const RULES: [Rule; 16] = [
     Rule::Words,
     Rule::LinkOut,
     Rule::ChildWord,
@@ -112,6 +112,7 @@ const RULES: [Rule; 15] = [
     Rule::Kind(Chain::Values),
     Rule::Kind(Chain::Cells),
     Rule::Kind(Chain::References),
+    Rule::Kind(Chain::Nowhere),
     Rule::Span,
     Rule::Path,
 ];
