@@ -66,6 +66,9 @@ others-sound words bytes e =
     (λ t. let z : _≡_ {A = Soundness} (broken 0) sound = rw t at e in let n : _≡_ {A = ℕ} 0 1 = cc in absurd (omega arith))
     (λ t. (t, rw t at e))
 
+pub heads-inside : (words bytes : List ℕ) → lowestFault words bytes ≡ sound → headsOut words ≡ false
+heads-inside words bytes ok = others-sound words bytes ok .0
+
 no-fault : (left : ℕ) (words bytes : List ℕ) (links : List Link) (r : ℕ) → firstFault left words bytes links r ≡ sound
     → (s : ℕ) → r ≤ s → s < r + left → atFault words bytes links s ≡ false
 unfolding firstFault
@@ -285,7 +288,7 @@ head-inside diags f = none-of _ _ (none-of _ _ (none-of _ _ (none-of _ _ f .1) .
 head-inside post f = none-of _ _ (none-of _ _ (none-of _ _ (none-of _ _ (none-of _ _ f .1) .1) .1) .1) .0
 
 pub head-reached : (words bytes : List ℕ) → lowestFault words bytes ≡ sound → {t : ℕ} {p : Place} → Head words t p → EndOrReached words t
-head-reached words bytes ok {t} x = go (leads-or words t (head-inside x (others-sound words bytes ok .0)))
+head-reached words bytes ok {t} x = go (leads-or words t (head-inside x (heads-inside words bytes ok)))
   where
     go : (t ≡ 0) ⊎ (leads words t ≡ true) → EndOrReached words t
     go (inl z) = inl z
