@@ -12,8 +12,8 @@ ghost use Rattle.log.specs.meaning.Sound.{spansReversed, nonemptyPath, p
 ghost use Rattle.log.specs.meaning.SoundAnswer.{told};
 ghost use Rattle.log.specs.meaning.Answer.{told as answered, passed, soundAnswer};
 ghost use Rattle.log.specs.machine.Walk.{chains, placeOf, linkIn, linkOf, firstMark, stored, held, followAll, allMarks, recordWrong};
-ghost use Rattle.log.specs.machine.Walk.{faultBy};
-ghost use Rattle.log.specs.machine.Walk.{firstBy};
+ghost use Rattle.log.specs.machine.Walk.{faultBy, firstBy};
+ghost use Rattle.log.specs.machine.Limits.{fewRecords};
 use crate::answer::Answer;
 use crate::answer::REFUSED_LOG;
 use crate::answer::SUCCESS;
@@ -21,6 +21,7 @@ use crate::kinds;
 use crate::layout;
 use crate::limits::FEW_RECORDS;
 use crate::limits::MOST_RECORDS;
+use crate::lists::one_of;
 use crate::record::child_of;
 use crate::record::first_text;
 use crate::record::kind_of;
@@ -103,7 +104,7 @@ pub fn check_log(words: &[u32], bytes: &[u8]) -> Soundness
 
 // The same of a log of few records.
 fn check_few(words: &[u32], bytes: &[u8]) -> Soundness
-    requires { ⌜ (logCount (now words) ≤ 8192) × (wrongCount (now words) ≡ false) ⌝ }
+    requires { ⌜ (logCount (now words) ≤ fewRecords) × (wrongCount (now words) ≡ false) ⌝ }
     ensures { λ f. ⌜ told f ≡ soundness (now (words .entry)) (now (bytes .entry)) ⌝ }
 {
     let mut marks = [UNMET; FEW_RECORDS];
@@ -549,18 +550,4 @@ fn has_name_span(kind: u32) -> bool
         return true;
     }
     one_of(kind, &[kinds::EXTENSION, kinds::DIAGNOSTIC])
-}
-
-// Whether a number is in a list.
-fn one_of(k: u32, list: &[u32]) -> bool
-    ensures { λ t. ⌜ t ≡ oneOf k (now (list .entry)) ⌝ }
-{
-    let mut i = 0;
-    while i < list.len() {
-        if k == list[i] {
-            return true;
-        }
-        i += 1;
-    }
-    false
 }
