@@ -55,7 +55,8 @@ fn links_lead_to_records_of_the_log() {
         assert_eq!(fault_at(3, 1, value), Some(3), "next {value}");
         assert_eq!(fault_at(3, 6, value), Some(3), "child {value}");
     }
-    assert_eq!(fault_at(5, 6, 4), Some(5), "a binding has no children");
+    assert_eq!(fault_at(5, 6, 6), Some(5), "a binding has no children");
+    assert_eq!(fault_at(5, 6, 4), Some(4), "what its child word leads to fits nowhere");
     assert_eq!(fault_at(3, 8, 11), None, "M is a link in extensions only");
 }
 

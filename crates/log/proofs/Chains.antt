@@ -245,7 +245,7 @@ module _ (words bytes : List ℕ) (ok : lowestFault words bytes ≡ sound) where
   pub child-starts : (r : ℕ) → Reached words r → hasChildren (kindOf words r) ≡ true → Starts words (childOf words r)
   child-starts r h c =
       below-starts r (childOf words r) h (child-reached words bytes ok r h c)
-      (λ l. omega (arith, rw c at (times-outs words r (childOf words r)), times-to words (childOf words r) l))
+      (λ l. omega (arith, times-outs words r (childOf words r), times-to words (childOf words r) l))
 
   -- the body of an extension
   pub body-starts : (r : ℕ) → Reached words r → kindOf words r ≡ extensionKind → Starts words (mOf words r)

@@ -1,27 +1,26 @@
 -- A link followed: what the marks and the queue hold afterwards, by whether the word is a link (`no-link`), the record was met before
 -- (`link-again`) and there is room (`link-full`, `link-first`); and the links of a record, and of record 0, one after the other.
 use Prim.Native.Nat.{ℕ, _+_, _*_, _/_, _%_, _≤_, _<_}
-use mathlib.Core.Path.{_≡_, refl, sym, ap, _∙_}
+use mathlib.Core.Path.{_≡_, refl, ap, _∙_}
 use mathlib.Core.Bool.{Bool, true, false, cond}
 use mathlib.Core.List.{List, [], _∷_, _++_, map}
 use native.Mathlib.Numerals.{add-one}
 use native.Mathlib.Omega.{arith}
-use borrow.Author.Tests.{ne-eqb, le-ltb, lt-ltb, leb-true, ltb-true}
-use lib.Dec.{eqb, leb}
+use borrow.Author.Tests.{ne-eqb, le-ltb, lt-ltb}
+use lib.Dec.{eqb}
 use lib.ListN.{length, getD, set, take, length-set, length-map}
 use lib.Seq.{take-suc-set, length-take-le, take-all}
-use Rattle.paths_numbers.proofs.Texts.{by-test}
-use Rattle.log.specs.meaning.Record.{kindOf, nextOf, childOf, mOf, firstDef, firstExt, firstBind, firstDiag, firstPost, hasChildren}
-use Rattle.log.specs.meaning.Record.{extensionKind, logCount, leads, outCount, mostRecords}
+use Rattle.log.specs.meaning.Record.{kindOf, nextOf, childOf, mOf, firstDef, firstExt, firstBind, firstDiag, firstPost}
+use Rattle.log.specs.meaning.Record.{extensionKind, leads}
 use Rattle.log.specs.meaning.Sound.{Place, definitions, Link, below, linkTo, linksOf, headLinks}
-use Rattle.log.specs.machine.Walk.{placeOf, linkIn, linkOf, stored, firstMark, Held, held, follow, followAll}
+use Rattle.log.specs.machine.Walk.{chains, placeOf, linkIn, linkOf, stored, firstMark, Held, held, follow, followAll}
 
 -- a link in one word
-pub link-word : (r place : ℕ) → place < 8 → linkOf (r * 8 + place) ≡ linkIn r place
+pub link-word : (r place : ℕ) → place < chains → linkOf (r * chains + place) ≡ linkIn r place
 unfolding linkOf
 link-word r place h =
-    let q : (r * 8 + place) / 8 ≡ r = omega arith in
-    let p : (r * 8 + place) % 8 ≡ place = omega arith in
+    let q : (r * chains + place) / chains ≡ r = omega arith in
+    let p : (r * chains + place) % chains ≡ place = omega arith in
     rw (q, p) refl
 
 -- one more word of the queue is one more link
@@ -30,9 +29,15 @@ map-last [] c = refl
 map-last (a ∷ l) c = rw (map-last l c) refl
 
 -- put behind the others it is the last
-pub put-last : (q : List ℕ) (n r place : ℕ) → n < length q → place < 8
-    → map linkOf (take (n + 1) (set q n (r * 8 + place))) ≡ map linkOf (take n q) ++ linkIn r place ∷ []
-put-last q n r place h k = rw (add-one, take-suc-set q n (r * 8 + place) h, map-last (take n q) (r * 8 + place), link-word r place k) refl
+pub put-last : (q : List ℕ) (n r place : ℕ) → n < length q → place < chains
+    → map linkOf (take (n + 1) (set q n (r * chains + place))) ≡ map linkOf (take n q) ++ linkIn r place ∷ []
+put-last q n r place h k = rw (
+  add-one,
+  take-suc-set q n (r * chains + place) h,
+  map-last (take n q) (r * chains + place),
+  link-word r place
+      k,
+) refl
 
 -- how many links the first n words are
 pub length-met : (q : List ℕ) (n : ℕ) → n ≤ length q → length (map linkOf (take n q)) ≡ n
@@ -62,8 +67,8 @@ module _ (w m q : List ℕ) (n r place : ℕ) where
 
   -- and with room
   pub link-first : (m' : List ℕ) → leads w r ≡ true → getD m r 0 ≡ 0 → m' ≡ stored m r (firstMark w (linkIn r place)) → n < length q
-      → place < 8
-      → held m' (set q n (r * 8 + place)) (n + 1) ≡ followAll w (linkTo w r (placeOf place)) (held m q n)
+      → place < chains
+      → held m' (set q n (r * chains + place)) (n + 1) ≡ followAll w (linkTo w r (placeOf place)) (held m q n)
   unfolding followAll linkTo follow held
   link-first m' t z e h k =
       rw (t, z, e, length-met q n (omega arith), lt-ltb _ _ h, put-last q n r place h k, length-set) refl
@@ -82,19 +87,18 @@ link-if w false r p = refl
 
 -- a record's links followed one after the other
 pub follow-record : (w : List ℕ) (code a b c k p : ℕ) (s t u v : Held)
-    → a ≡ nextOf w (code / 8) → k ≡ kindOf w (code / 8) → placeOf p ≡ below k
-    → b ≡ cond (hasChildren (kindOf w (code / 8))) (childOf w (code / 8)) 0
-    → c ≡ cond (eqb (kindOf w (code / 8)) extensionKind) (mOf w (code / 8)) 0
-    → t ≡ followAll w (linkTo w a (placeOf (code % 8))) s
+    → a ≡ nextOf w (code / chains) → k ≡ kindOf w (code / chains) → placeOf p ≡ below k
+    → b ≡ childOf w (code / chains)
+    → c ≡ cond (eqb (kindOf w (code / chains)) extensionKind) (mOf w (code / chains)) 0
+    → t ≡ followAll w (linkTo w a (placeOf (code % chains))) s
     → u ≡ followAll w (linkTo w b (placeOf p)) t
     → v ≡ followAll w (linkTo w c (placeOf 0)) u
     → v ≡ followAll w (linksOf w (linkOf code)) s
 unfolding linksOf linkOf placeOf
 follow-record w code a b c k p s t u v ea ek ep eb ec et eu ev =
-    let r = code / 8 in
-    let below-it = link-if w (hasChildren (kindOf w r)) (childOf w r) (below (kindOf w r)) in
+    let r = code / chains in
     let body = link-if w (eqb (kindOf w r) extensionKind) (mOf w r) definitions in
-    ev ∙ rw (eu, et, ea, ep, ek, eb, ec, below-it, body) (simp follow-append)
+    ev ∙ rw (eu, et, ea, ep, ek, eb, ec, body) (simp follow-append)
 
 -- record 0's links followed one after the other
 pub follow-heads : (w : List ℕ) (a b c d e : ℕ) (s t u v x y : Held)

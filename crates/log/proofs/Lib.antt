@@ -9,9 +9,8 @@ pub mod Alike
 pub mod WrittenTest
 pub mod WrittenExample
 pub mod Pinned
--- Laws of the log in the making: a record more, its layout, and what is read back.
+-- Laws of texts.
 pub mod Texts
--- Laws of its records by number and by chain, and of a complete log: its links, row 8's rules and those for writing.
 -- Laws of row 8's test: its links, its marks, its loops and its answer.
 pub mod Tests
 pub mod Follow

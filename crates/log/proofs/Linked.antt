@@ -9,7 +9,7 @@ use borrow.Author.Tests.{eq-eqb, eqb-true}
 use lib.Dec.{eqb}
 use Rattle.paths_numbers.proofs.Texts.{by-test}
 use Rattle.log.specs.meaning.Record.{kindOf, nextOf, childOf, mOf, firstDef, firstExt, firstBind, firstDiag, firstPost, extensionKind}
-use Rattle.log.specs.meaning.Record.{hasChildren, leads}
+use Rattle.log.specs.meaning.Record.{leads}
 use Rattle.log.specs.meaning.Sound.{Place, definitions, extensions, bindings, diagnostics, below, Link, linkTo, headLinks, linksOf}
 use Rattle.log.specs.meaning.Sound.{targets, times, walk, mostLinks, followed, timesReached}
 use Rattle.log.proofs.Walk.{heads-followed, outs-followed}
@@ -19,7 +19,7 @@ use Rattle.log.proofs.Reached.{Reached, times-to, times-outs, Head, def
 pub data Linked (words : List ℕ) : ℕ → Place → Type 0 where
   from-head : {t : ℕ} {p : Place} → Head words t p → leads words t ≡ true → Linked words t p
   by-next : {r : ℕ} {p : Place} → Linked words r p → leads words (nextOf words r) ≡ true → Linked words (nextOf words r) p
-  by-child : {r : ℕ} {p : Place} → Linked words r p → hasChildren (kindOf words r) ≡ true → leads words (childOf words r) ≡ true
+  by-child : {r : ℕ} {p : Place} → Linked words r p → leads words (childOf words r) ≡ true
       → Linked words (childOf words r) (below (kindOf words r))
   by-body : {r : ℕ} {p : Place} → Linked words r p → kindOf words r ≡ extensionKind → leads words (mOf words r) ≡ true
       → Linked words (mOf words r) definitions
@@ -35,13 +35,12 @@ linked-reached {words} (by-next {r} k l) =
       times-to words
           (nextOf words r) l,
     )
-linked-reached {words} (by-child {r} k c l) =
+linked-reached {words} (by-child {r} k l) =
     omega (
       arith,
       outs-followed words r (childOf words r) (linked-reached k),
-      rw c at (times-outs words r (childOf words r)),
-      times-to words
-          (childOf words r) l,
+      times-outs words r (childOf words r),
+      times-to words (childOf words r) l,
     )
 linked-reached {words} (by-body {r} k e l) =
     let c : eqb (kindOf words r) extensionKind ≡ true = eq-eqb (kindOf words r) extensionKind e in
@@ -75,8 +74,7 @@ unfolding linksOf
 linked-of words l k =
     both-linked
     (both-linked (linked-to words (nextOf words (l .to)) (l .place) (by-next k))
-    (linked-if (hasChildren (kindOf words (l .to))) (λ c. linked-to words (childOf words (l .to)) (below (kindOf words (l .to)))
-    (by-child k c))))
+    (linked-to words (childOf words (l .to)) (below (kindOf words (l .to))) (by-child k)))
     (linked-if (eqb (kindOf words (l .to)) extensionKind) (λ c. linked-to words (mOf words (l .to)) definitions
     (by-body k (eqb-true (kindOf words (l .to)) extensionKind c))))
 

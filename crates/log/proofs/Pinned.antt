@@ -5,9 +5,9 @@ use mathlib.Core.Logic.{_⊎_, inl, inr, ⊎-elim}
 use mathlib.Core.Bool.{true, false, not}
 use mathlib.Core.List.{List, [], _∷_, map}
 use native.Mathlib.Omega.{arith}
-use borrow.Author.Tests.{ne-eqb, eqb-true, eqb-false, le-leb, lt-leb}
+use borrow.Author.Tests.{ne-eqb, eqb-true, eqb-false, le-leb, lt-leb, leb-true}
 use lib.Dec.{eqb}
-use lib.ListN.{length, getD, take, drop}
+use lib.ListN.{length, take, drop}
 use Rattle.paths_numbers.specs.meaning.Reference.{Target, label, labelPath, path, unreadable, labelOf, pathOf}
 use Rattle.paths_numbers.proofs.Texts.{by-test, not-both}
 use Rattle.log.specs.meaning.Contents.{Span, Cell, number, reference, Value, string, cellList, bytestring, phandle, DefValue, node}
@@ -22,7 +22,9 @@ use Rattle.log.specs.meaning.Sound.{Place, definitions, extensions, bind
 use Rattle.log.specs.meaning.Sound.{below, followed, timesReached, sound, lowestFault}
 use Rattle.log.specs.meaning.Written.{hasText, hasSecondText, hasN, hasM, named, Kept, Written}
 use Rattle.log.specs.meaning.Alike.{AlikeWords, AlikeAll, none, more, AlikeValue, AlikeDef, AlikeExt, AlikeLog, Words32}
-use Rattle.log.proofs.Reached.{Reached, reached-leads, reached-inside, text-length, childless, Head, defs, exts, binds, diags, post}
+use Rattle.log.specs.meaning.Pinned.{Zeros, Pinned}
+use Rattle.log.proofs.Reached.{Reached, heads-inside, good, reached-leads, reached-inside, text-length, childless}
+use Rattle.log.proofs.Reached.{Head, defs, exts, binds, diags, post}
 use Rattle.log.proofs.Chains.{Chain, ends, goes-on, Starts, chain-list, chain-end, along-start, along-chain, head-starts}
 use Rattle.log.proofs.Chains.{child-starts, body-starts}
 use Rattle.log.proofs.Places.{Stands, EndOrStands, stands-reached, stands-kind, next-stands, child-stands, body-stands, head-stands}
@@ -243,6 +245,18 @@ named-last k n i h =
 no-bytes : (bytes : List ℕ) (start size : ℕ) → size ≡ 0 → _≡_ {A = List ℕ} (take size (drop start bytes)) []
 no-bytes bytes start size e = rw e refl
 
+-- what is zero in a written log
+written-zeros : {w b : List ℕ} {n m : ℕ} {l : Log} → Written w b n m l → Zeros w b
+written-zeros {w} {b} x =
+    record {
+      unreachedWords = x .clearWords;
+      unreachedBytes = x .clearBytes;
+      emptyText = λ r h. x .kept r h .emptyText;
+      emptySecond = λ r h. x .kept r h .emptySecond;
+      heads = heads-inside w b (x .rules);
+      links = λ r h. good w b (x .rules) r (leb-true 1 (timesReached (followed w) r) h) .links;
+    }
+
 module _ {w b v c : List ℕ} {n m n′ m′ : ℕ} {l l′ : Log} (x : Written w b n m l) (y : Written v c n′ m′ l′) where
   -- records of one kind, and with one N
   module _ (r s : ℕ) (h : Reached w r) (k : Reached v s) (kind : kindOf w r ≡ kindOf v s) where
@@ -300,6 +314,7 @@ module _ {w b v c : List ℕ} {n m n′ m′ : ℕ} {l l′ : Log} (x : Written 
             size = sym (a .0) ∙ ap length (same-text t) ∙ d .0;
             second = same-second u;
             secondSize = sym (a .1) ∙ ap length (same-second u) ∙ d .1;
+            child = λ e. same-word 6 (omega arith) (λ z. absurd (not-both z e));
             n = same;
             m = λ e. same-word 8 (omega arith) (λ z. f z e);
             start = same-word 9 (omega arith) (λ z. ap (λ (i : Span). i .from) (p z));
@@ -641,10 +656,10 @@ module _ {w b v c : List ℕ} {n m n′ m′ : ℕ} {l l′ : Log} (x : Written 
         chains f g R p t u (head-starts w b (x .rules) a) (head-starts v c (y .rules) d) (head-stands w b (x .rules) a)
         (head-stands v c (y .rules) d) h e
 
-    -- whole logs
-    pub written-pinned : l ≡ l′ → AlikeLog w b v c
+    -- all chains
+    log-alike : l ≡ l′ → AlikeLog w b v c
     unfolding readLog readDefs readExts readBindings readDiags
-    written-pinned e =
+    log-alike e =
         let t : readLog w b ≡ readLog v c = x .reads ∙ e ∙ sym (y .reads) in
         record {
           defs = head-alike (defAt w b) (defAt v c) (AlikeDef w b v c) defs defs def-alike (ap (λ (a : Log). a .defs) t);
@@ -652,4 +667,16 @@ module _ {w b v c : List ℕ} {n m n′ m′ : ℕ} {l l′ : Log} (x : Written 
           binds = head-alike (bindingAt w b) (bindingAt v c) (AlikeWords w b v c) binds binds binding-alike (ap (λ (a : Log). a .binds) t);
           diags = head-alike (diagAt w b) (diagAt v c) (AlikeWords w b v c) diags diags diag-alike (ap (λ (a : Log). a .diags) t);
           post = head-alike (diagAt w b) (diagAt v c) (AlikeWords w b v c) post post diag-alike (ap (λ (a : Log). a .post) t);
+        }
+
+    -- whole logs
+    pub written-pinned : l ≡ l′ → n ≡ n′ → m ≡ m′ → Pinned w b v c
+    written-pinned e p q =
+        record {
+          records = log-alike e;
+          counted = x .counted ∙ p ∙ sym (y .counted);
+          countedBytes = x .countedBytes ∙ q ∙ sym (y .countedBytes);
+          restOfHead = λ i h k. (x .restOfHead i h k, y .restOfHead i h k);
+          left = written-zeros x;
+          right = written-zeros y;
         }

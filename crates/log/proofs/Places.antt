@@ -193,8 +193,7 @@ module _ (words bytes : List ℕ) (ok : lowestFault words bytes ≡ sound) where
             (stands-out (record { to = childOf words r; place = below (kindOf words r) })
             (Memᴰ·append-left (bodyPart words r)
             (Memᴰ·append-right (nextPart words (record { to = r; place = p }))
-            (in-if (hasChildren (kindOf words r)) c (in-to words (childOf words r) (below (kindOf words r))
-            (reached-leads words (childOf words r) h))))))
+            (in-to words (childOf words r) (below (kindOf words r)) (reached-leads words (childOf words r) h)))))
 
     pub body-stands : kindOf words r ≡ extensionKind → EndOrStands words (mOf words r) definitions
     unfolding linksOf

@@ -66,6 +66,9 @@ others-sound words bytes e =
     (λ t. let z : _≡_ {A = Soundness} (broken 0) sound = rw t at e in let n : _≡_ {A = ℕ} 0 1 = cc in absurd (omega arith))
     (λ t. (t, rw t at e))
 
+pub heads-inside : (words bytes : List ℕ) → lowestFault words bytes ≡ sound → headsOut words ≡ false
+heads-inside words bytes ok = others-sound words bytes ok .0
+
 no-fault : (left : ℕ) (words bytes : List ℕ) (links : List Link) (r : ℕ) → firstFault left words bytes links r ≡ sound
     → (s : ℕ) → r ≤ s → s < r + left → atFault words bytes links s ≡ false
 unfolding firstFault
@@ -138,13 +141,13 @@ times-to words t e = rw (e, eq-eqb t t refl) refl
 -- how often t is among what the links of a record lead to
 pub times-outs : (words : List ℕ) (r t : ℕ) → times t (outs words r) ≡
     times t (toOf words (nextOf words r))
-    + times t (cond (hasChildren (kindOf words r)) (toOf words (childOf words r)) [])
+    + times t (toOf words (childOf words r))
     + times t (cond (eqb (kindOf words r) extensionKind) (toOf words (mOf words r)) [])
 unfolding outs
 times-outs words r t =
-    times-append t (toOf words (nextOf words r) ++ cond (hasChildren (kindOf words r)) (toOf words (childOf words r)) [])
+    times-append t (toOf words (nextOf words r) ++ toOf words (childOf words r))
     (cond (eqb (kindOf words r) extensionKind) (toOf words (mOf words r)) [])
-    ∙ rw (times-append t (toOf words (nextOf words r)) (cond (hasChildren (kindOf words r)) (toOf words (childOf words r)) [])) refl
+    ∙ rw (times-append t (toOf words (nextOf words r)) (toOf words (childOf words r))) refl
 
 -- what is once among the links of a record that is reached is reached
 pub out-reached : (words : List ℕ) (r t : ℕ) → Reached words r → 1 ≤ times t (outs words r) → Reached words t
@@ -207,9 +210,8 @@ module _ (words bytes : List ℕ) (ok : lowestFault words bytes ≡ sound) (r : 
       go (inr l) =
           inr (out-reached words r (childOf words r) h (omega (
             arith,
-            rw c at (times-outs words r (childOf words r)),
-            times-to words
-                (childOf words r) l,
+            times-outs words r (childOf words r),
+            times-to words (childOf words r) l,
           )))
 
   pub childless : hasChildren (kindOf words r) ≡ false → childOf words r ≡ 0
@@ -286,7 +288,7 @@ head-inside diags f = none-of _ _ (none-of _ _ (none-of _ _ (none-of _ _ f .1) .
 head-inside post f = none-of _ _ (none-of _ _ (none-of _ _ (none-of _ _ (none-of _ _ f .1) .1) .1) .1) .0
 
 pub head-reached : (words bytes : List ℕ) → lowestFault words bytes ≡ sound → {t : ℕ} {p : Place} → Head words t p → EndOrReached words t
-head-reached words bytes ok {t} x = go (leads-or words t (head-inside x (others-sound words bytes ok .0)))
+head-reached words bytes ok {t} x = go (leads-or words t (head-inside x (heads-inside words bytes ok)))
   where
     go : (t ≡ 0) ⊎ (leads words t ≡ true) → EndOrReached words t
     go (inl z) = inl z

@@ -2,11 +2,13 @@
 use Prim.Native.Nat.{ℕ, _+_, _≤_, _<_}
 use mathlib.Core.Path.{_≡_, refl, sym, _∙_}
 use mathlib.Core.Bool.{Bool, true, false, cond}
-use mathlib.Core.List.{List}
+use mathlib.Core.List.{List, [], _∷_}
 use native.Mathlib.Numerals.{add-one}
 use borrow.Author.Tests.{eq-eqb, ne-eqb}
+use lib.Dec.{eqb}
 use lib.ListN.{length, getD, drop, drop-of-length-le}
 use lib.Seq.{drop-cons}
+use Rattle.paths_numbers.specs.meaning.Lists.{any}
 use Rattle.log.specs.meaning.Record.{oneOf}
 
 -- w is whether k is in the list, and the invariant of a search says that it is decided by what is left of it
@@ -25,6 +27,12 @@ module _ (k : ℕ) (l : List ℕ) (i : ℕ) (w : Bool) (inv : w ≡ oneOf k (dro
   pub not-in : length l ≤ i → false ≡ w
   unfolding oneOf
   not-in h = sym (inv ∙ rw (drop-of-length-le l h) refl)
+
+-- the same test by `any`
+pub one-of-any : (k : ℕ) (l : List ℕ) → oneOf k l ≡ any (eqb k) l
+unfolding oneOf any
+one-of-any k [] = refl
+one-of-any k (a ∷ l) = rw (one-of-any k l) refl
 
 -- the last of several tests decides
 pub last-test : (t : Bool) → cond t true false ≡ t

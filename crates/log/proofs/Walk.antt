@@ -9,7 +9,7 @@ use lib.Dec.{eqb}
 use lib.ListN.{length, length-append}
 use Rattle.paths_numbers.proofs.Texts.{by-test, not-both}
 use Rattle.log.specs.meaning.Record.{kindOf, nextOf, childOf, mOf, firstDef, firstExt, firstBind, firstDiag, firstPost, extensionKind}
-use Rattle.log.specs.meaning.Record.{hasChildren, logCount, leads}
+use Rattle.log.specs.meaning.Record.{logCount, leads}
 use Rattle.log.specs.meaning.Sound.{Place, definitions, extensions, bindings, diagnostics, below, Link, linkTo, headLinks, linksOf}
 use Rattle.log.specs.meaning.Sound.{targets, times, walk, mostLinks, followed, timesReached}
 use Rattle.log.proofs.Counts.{times-append, times-other, times-more, unmet, unmet-le, unmet-more, unmet-new}
@@ -27,7 +27,7 @@ toOf words r = cond (leads words r) (r ∷ []) []
 unfoldable pub outs : List ℕ → ℕ → List ℕ
 outs words r =
     toOf words (nextOf words r)
-    ++ cond (hasChildren (kindOf words r)) (toOf words (childOf words r)) []
+    ++ toOf words (childOf words r)
     ++ cond (eqb (kindOf words r) extensionKind) (toOf words (mOf words r)) []
 
 pub targets-to : (words : List ℕ) (r : ℕ) (p : Place) → targets (linkTo words r p) ≡ toOf words r
@@ -44,7 +44,7 @@ abbrev pub nextPart : List ℕ → Link → List Link
 nextPart words l = linkTo words (nextOf words (l .to)) (l .place)
 
 abbrev pub childPart : List ℕ → ℕ → List Link
-childPart words r = cond (hasChildren (kindOf words r)) (linkTo words (childOf words r) (below (kindOf words r))) []
+childPart words r = linkTo words (childOf words r) (below (kindOf words r))
 
 abbrev pub bodyPart : List ℕ → ℕ → List Link
 bodyPart words r = cond (eqb (kindOf words r) extensionKind) (linkTo words (mOf words r) definitions) []
@@ -57,8 +57,7 @@ targets-of words l =
     ∙ ap₂ _++_
     (targets-append (nextPart words l) (childPart words (l .to))
     ∙ ap₂ _++_ (targets-to words (nextOf words (l .to)) (l .place))
-    (targets-if (hasChildren (kindOf words (l .to))) (linkTo words (childOf words (l .to)) (below (kindOf words (l .to))))
-    ∙ rw (targets-to words (childOf words (l .to)) (below (kindOf words (l .to)))) refl))
+    (targets-to words (childOf words (l .to)) (below (kindOf words (l .to)))))
     (targets-if (eqb (kindOf words (l .to)) extensionKind) (linkTo words (mOf words (l .to)) definitions)
     ∙ rw (targets-to words (mOf words (l .to)) definitions) refl)
 
@@ -84,7 +83,7 @@ unfolding linksOf
 inside-of words l =
     inside-append
     (inside-append (inside-to words (nextOf words (l .to)) (l .place))
-    (inside-if (hasChildren (kindOf words (l .to))) (inside-to words (childOf words (l .to)) (below (kindOf words (l .to))))))
+    (inside-to words (childOf words (l .to)) (below (kindOf words (l .to)))))
     (inside-if (eqb (kindOf words (l .to)) extensionKind) (inside-to words (mOf words (l .to)) definitions))
 
 pub inside-heads : (words : List ℕ) → Inside words (headLinks words)
@@ -117,15 +116,14 @@ at-most-if : (t : Bool) (ls : List Link) → length ls ≤ 1 → length (cond t 
 at-most-if true ls h = h
 at-most-if false ls h = omega arith
 
-length-of : (words : List ℕ) (l : Link) → length (linksOf words l) ≤ 3
+pub length-of : (words : List ℕ) (l : Link) → length (linksOf words l) ≤ 3
 unfolding linksOf
 length-of words l =
     simp length-append
     (omega (
       arith,
       length-to words (nextOf words (l .to)) (l .place),
-      at-most-if (hasChildren (kindOf words (l .to))) (linkTo words (childOf words (l .to)) (below (kindOf words (l .to))))
-          (length-to words (childOf words (l .to)) (below (kindOf words (l .to)))),
+      length-to words (childOf words (l .to)) (below (kindOf words (l .to))),
       at-most-if (eqb (kindOf words (l .to)) extensionKind) (linkTo words (mOf words (l .to)) definitions)
           (length-to words (mOf words (l .to)) definitions),
     ))

@@ -3,7 +3,7 @@
 -- only once, neither the queue nor the bound on links is too small.
 use Prim.Native.Nat.{ℕ, zero, suc, _+_, _*_, _≤_, _<_}
 use mathlib.Core.Path.{_≡_, refl, sym, ap, _∙_}
-use mathlib.Core.Bool.{Bool, true, false, cond}
+use mathlib.Core.Bool.{cond}
 use mathlib.Core.List.{List, [], _∷_, _++_, append-assoc, append-nil}
 use native.Mathlib.Nat.{zero-add}
 use native.Mathlib.Numerals.{add-one}
@@ -13,106 +13,13 @@ use lib.Dec.{eqb, ltb}
 use lib.ListN.{length, getD, set, drop, length-append, length-set, drop-of-length-le}
 use lib.Seq.{drop-cons, drop-append-le, getD-set-same, getD-set-other}
 use Rattle.paths_numbers.proofs.Texts.{by-test}
-use Rattle.log.specs.meaning.Record.{kindOf, nextOf, childOf, mOf, hasChildren, extensionKind, firstDef, firstExt, firstBind}
-use Rattle.log.specs.meaning.Record.{firstDiag, firstPost, oneOf, logCount, leads}
-use Rattle.log.specs.meaning.Sound.{Place, definitions, extensions, bindings, diagnostics, below, kindsIn, Link, linkTo, linksOf}
+use Rattle.log.specs.meaning.Record.{kindOf}
+use Rattle.log.specs.meaning.Record.{oneOf, logCount}
+use Rattle.log.specs.meaning.Sound.{kindsIn, Link, linksOf}
 use Rattle.log.specs.meaning.Sound.{headLinks, times, walk, mostLinks, followed}
 use Rattle.log.specs.machine.Walk.{linkOf, stored, firstMark, nextMark, Held, held, follow, followAll, expand, allMarks}
-use Rattle.log.proofs.Walk.{leads-below}
+use Rattle.log.proofs.Walk.{Inside, one, inside-of, inside-heads, length-of, length-heads, leads-below}
 use Rattle.log.proofs.Marks.{marked}
-
--- links that lead below a number of records
-data Inside (n : ℕ) : List Link → Type 0 where
-  inside-none : Inside n []
-  inside-next : {l : Link} {ls : List Link} → l .to < n → Inside n ls → Inside n (l ∷ ls)
-
--- those of one list and then another
-inside-append : {n : ℕ} {a b : List Link} → Inside n a → Inside n b → Inside n (a ++ b)
-inside-append inside-none q = q
-inside-append (inside-next h p) q = inside-next h (inside-append p q)
-
--- those that count only where a test holds
-inside-if : {n : ℕ} {a : List Link} (t : Bool) → Inside n a → Inside n (cond t a [])
-inside-if true p = p
-inside-if false p = inside-none
-
--- a word's link
-inside-link : (w : List ℕ) (r : ℕ) (p : Place) → Inside (logCount w) (linkTo w r p)
-unfolding linkTo
-inside-link w r p = by-test (leads w r) (λ t. rw t (inside-next (leads-below w r t .1) inside-none)) (λ t. rw t inside-none)
-
--- a record's links
-inside-links : (w : List ℕ) (l : Link) → Inside (logCount w) (linksOf w l)
-unfolding linksOf
-inside-links w l =
-    inside-append
-    (inside-append (inside-link w (nextOf w (l .to)) (l .place))
-    (inside-if (hasChildren (kindOf w (l .to))) (inside-link w (childOf w (l .to)) (below (kindOf w (l .to))))))
-    (inside-if (eqb (kindOf w (l .to)) extensionKind) (inside-link w (mOf w (l .to)) definitions))
-
--- record 0's links
-inside-heads : (w : List ℕ) → Inside (logCount w) (headLinks w)
-unfolding headLinks
-inside-heads w =
-    inside-append
-    (inside-append
-    (inside-append
-    (inside-append (inside-link w (firstDef w) definitions) (inside-link w (firstExt w) extensions))
-    (inside-link w (firstBind w) bindings))
-    (inside-link w (firstDiag w) diagnostics))
-    (inside-link w (firstPost w) diagnostics)
-
--- a word is at most one link
-length-link : (w : List ℕ) (r : ℕ) (p : Place) → length (linkTo w r p) ≤ 1
-unfolding linkTo
-length-link w r p = by-test (leads w r) (λ t. rw t (omega arith)) (λ t. rw t (omega arith))
-
--- a test leaves no more links than there were
-length-if : (t : Bool) (a : List Link) → length (cond t a []) ≤ length a
-length-if true a = omega arith
-length-if false a = omega arith
-
--- a record has at most three
-length-links : (w : List ℕ) (l : Link) → length (linksOf w l) ≤ 3
-unfolding linksOf
-length-links w l =
-    let a = linkTo w (nextOf w (l .to)) (l .place) in
-    let b = linkTo w (childOf w (l .to)) (below (kindOf w (l .to))) in
-    let c = linkTo w (mOf w (l .to)) definitions in
-    let b' = cond (hasChildren (kindOf w (l .to))) b [] in
-    let c' = cond (eqb (kindOf w (l .to)) extensionKind) c [] in
-    omega (
-      arith,
-      length-append (a ++ b') c',
-      length-append a b',
-      length-link w (nextOf w (l .to)) (l .place),
-      length-link w (childOf w (l .to)) (below (kindOf w (l .to))),
-      length-link w (mOf w (l .to)) definitions,
-      length-if (hasChildren (kindOf w (l .to))) b,
-      length-if (eqb (kindOf w (l .to)) extensionKind) c,
-    )
-
--- record 0 has at most five
-length-heads : (w : List ℕ) → length (headLinks w) ≤ 5
-unfolding headLinks
-length-heads w =
-    let a = linkTo w (firstDef w) definitions in
-    let b = linkTo w (firstExt w) extensions in
-    let c = linkTo w (firstBind w) bindings in
-    let d = linkTo w (firstDiag w) diagnostics in
-    let e = linkTo w (firstPost w) diagnostics in
-    omega (
-      arith,
-      length-append (a ++ b ++ c ++ d) e,
-      length-append (a ++ b ++ c) d,
-      length-append (a ++ b) c,
-      length-append a b,
-      length-link w (firstDef w) definitions,
-      length-link w (firstExt w) extensions,
-      length-link w (firstBind w) bindings,
-      length-link w (firstDiag w) diagnostics,
-      length-link w (firstPost w) diagnostics,
-    )
 
 -- how many of the first n records are not met yet
 unfoldable unmarked : ℕ → List ℕ → ℕ
@@ -276,7 +183,7 @@ module _ (w : List ℕ) (head left : ℕ) (s : Held) (met : List ℕ) (l : Link)
         inside = omega (arith, length-after, ready .inside);
         room = omega (arith, n, u, room-after, ready .room);
         begun = omega (arith, n, ready .begun);
-        fuel = omega (arith, f, u, length-links w l, ready .fuel);
+        fuel = omega (arith, f, u, length-of w l, ready .fuel);
       })
       (λ t.
       let n : length (follow w l s .met) ≡ length (s .met) = ap length (met-old (eqb-false _ _ t)) in
@@ -300,13 +207,14 @@ record Went (w : List ℕ) (head : ℕ) (s : Held) (r final : ℕ) : Type 0 wher
 
 module _ (w : List ℕ) (head r final : ℕ) (lt : r < logCount w) where
   -- links followed before them
-  went-links : (ls : List Link) (left : ℕ) (s : Held) (met : List ℕ) → Inside (logCount w) ls → Ready w head left s met ls
+  went-links : (ls : List Link) (left : ℕ) (s : Held) (met : List ℕ) → Inside w ls → Ready w head left s met ls
       → final ≡ marked w (walk left w met (ls ++ flat w (drop head (s .met)))) r (getD (s .marks) r 0)
       → Went w head (followAll w ls s) r final
   unfolding followAll walk marked
   went-links [] left s met i y e = record { left = left; met = met; ready = y; same = e }
   went-links (l ∷ ls) zero s met i y e = absurd (omega (arith, y .fuel))
-  went-links (l ∷ ls) (suc left) s met (inside-next h i) y e =
+  went-links (l ∷ ls) (suc left) s met (one t i) y e =
+      let h = leads-below w (l .to) t .1 in
       went-links ls left (follow w l s) (l .to ∷ met) i (ready-after w head left s met l ls y h)
       (e ∙ rw (waits-after w head left s met l ls y h, ← (mark-after w head left s met l ls y h r lt)) refl)
 
@@ -334,7 +242,7 @@ module _ (w : List ℕ) (r final : ℕ) (lt : r < logCount w) where
       let n : length (flat w (drop head (s .met))) ≡ length (linksOf w l) + length (flat w (drop (head + 1) (s .met))) =
       ap length e ∙ length-append (linksOf w l) (flat w (drop (head + 1) (s .met))) in
       let y = g .ready in
-      went-links w (head + 1) r final lt (linksOf w l) (g .left) s (g .met) (inside-links w l)
+      went-links w (head + 1) r final lt (linksOf w l) (g .left) s (g .met) (inside-of w l)
       (record { agree = y .agree; inside = y .inside; room = y .room; begun = omega arith; fuel = omega (arith, n, y .fuel) })
       (g .same ∙ rw e refl)
 

@@ -7,3 +7,4 @@ pub mod SoundAnswer
 pub mod Answer
 pub mod Written
 pub mod Alike
+pub mod Pinned

@@ -11,8 +11,9 @@ ghost use Rattle.log.specs.meaning.Sound.{below, kindsIn, linkTo, linksO
 ghost use Rattle.log.specs.meaning.Sound.{spansReversed, nonemptyPath, pathWrong, wrongCount, soundness};
 ghost use Rattle.log.specs.meaning.SoundAnswer.{told};
 ghost use Rattle.log.specs.meaning.Answer.{told as answered, passed, soundAnswer};
-ghost use Rattle.log.specs.machine.Walk.{placeOf, linkIn, linkOf, firstMark, stored, held, followAll, allMarks, recordWrong, faultBy};
-ghost use Rattle.log.specs.machine.Walk.{firstBy};
+ghost use Rattle.log.specs.machine.Walk.{chains, placeOf, linkIn, linkOf, firstMark, stored, held, followAll, allMarks, recordWrong};
+ghost use Rattle.log.specs.machine.Walk.{faultBy, firstBy};
+ghost use Rattle.log.specs.machine.Limits.{fewRecords};
 use crate::answer::Answer;
 use crate::answer::REFUSED_LOG;
 use crate::answer::SUCCESS;
@@ -20,6 +21,7 @@ use crate::kinds;
 use crate::layout;
 use crate::limits::FEW_RECORDS;
 use crate::limits::MOST_RECORDS;
+use crate::lists::one_of;
 use crate::record::child_of;
 use crate::record::first_text;
 use crate::record::kind_of;
@@ -47,8 +49,10 @@ const CELLS: u32 = 6;
 
 const REFERENCES: u32 = 7;
 
+const NOWHERE: u32 = 8;
+
 // How many there are.
-const CHAINS: u32 = 8;
+const CHAINS: u32 = 9;
 
 // A record's mark: no link led to it, one did and its kind fits there, or it is at fault.
 const UNMET: u8 = 0;
@@ -100,7 +104,7 @@ pub fn check_log(words: &[u32], bytes: &[u8]) -> Soundness
 
 // The same of a log of few records.
 fn check_few(words: &[u32], bytes: &[u8]) -> Soundness
-    requires { ⌜ (logCount (now words) ≤ 8192) × (wrongCount (now words) ≡ false) ⌝ }
+    requires { ⌜ (logCount (now words) ≤ fewRecords) × (wrongCount (now words) ≡ false) ⌝ }
     ensures { λ f. ⌜ told f ≡ soundness (now (words .entry)) (now (bytes .entry)) ⌝ }
 {
     let mut marks = [UNMET; FEW_RECORDS];
@@ -226,14 +230,14 @@ fn walk_record(words: &[u32], code: u32, marks: &mut [u8], queue: &mut [u32], n:
     let r = code / CHAINS;
     let a = follow(words, next_of(words, r), code % CHAINS, marks, queue, n);
     let place = place_below(kind_of(words, r));
-    let b = follow(words, child_link(words, r), place, marks, queue, a);
+    let b = follow(words, child_of(words, r), place, marks, queue, a);
     follow(words, body_link(words, r), DEFINITIONS, marks, queue, b)
 }
 
 // A link followed, if it leads to a record: the record is marked, and put in the queue if it was not met before. Returns how many are in
 // it.
 fn follow(words: &[u32], r: u32, place: u32, marks: &mut [u8], queue: &mut [u32], n: usize) -> usize
-    requires { ⌜ place < 8 ⌝ }
+    requires { ⌜ place < chains ⌝ }
     ensures { λ m. ⌜ held (now (marks .exit)) (now (queue .exit)) m ≡ followAll (now (words .entry))
         (linkTo (now (words .entry)) r (placeOf place)) (held (now (marks .entry)) (now (queue .entry)) n) ⌝ }
 {
@@ -316,12 +320,15 @@ fn kind_fits(kind: u32, place: u32) -> bool
     if place == CELLS {
         return one_of(kind, &[kinds::NUMBER, kinds::REFERENCE]);
     }
-    one_of(kind, &[kinds::REFERENCE])
+    if place == REFERENCES {
+        return one_of(kind, &[kinds::REFERENCE]);
+    }
+    false
 }
 
-// The chain below a record of a kind that has children.
+// The chain below a record of a kind.
 fn place_below(kind: u32) -> u32
-    ensures { λ p. ⌜ (p < 8) × (placeOf p ≡ below kind) ⌝ }
+    ensures { λ p. ⌜ (p < chains) × (placeOf p ≡ below kind) ⌝ }
 {
     if kind == kinds::NODE {
         return LABELS;
@@ -332,17 +339,10 @@ fn place_below(kind: u32) -> u32
     if kind == kinds::CELL_LIST {
         return CELLS;
     }
-    REFERENCES
-}
-
-// A record's child link, 0 where its kind has no children.
-fn child_link(words: &[u32], r: u32) -> u32
-    ensures { λ v. ⌜ v ≡ cond (hasChildren (kindOf (now (words .entry)) r)) (childOf (now (words .entry)) r) 0 ⌝ }
-{
-    if has_children(kind_of(words, r)) {
-        return child_of(words, r);
+    if kind == kinds::EXTENSION {
+        return REFERENCES;
     }
-    0
+    NOWHERE
 }
 
 // An extension's link to its body, 0 in other kinds.
@@ -550,18 +550,4 @@ fn has_name_span(kind: u32) -> bool
         return true;
     }
     one_of(kind, &[kinds::EXTENSION, kinds::DIAGNOSTIC])
-}
-
-// Whether a number is in a list.
-fn one_of(k: u32, list: &[u32]) -> bool
-    ensures { λ t. ⌜ t ≡ oneOf k (now (list .entry)) ⌝ }
-{
-    let mut i = 0;
-    while i < list.len() {
-        if k == list[i] {
-            return true;
-        }
-        i += 1;
-    }
-    false
 }

@@ -9,7 +9,7 @@ use borrow.Author.Tests.{eqb-true}
 use lib.Dec.{eqb}
 use lib.ListN.{length}
 use Rattle.paths_numbers.proofs.Texts.{by-test, both}
-use Rattle.log.specs.meaning.Record.{kindOf, nextOf, childOf, mOf, extensionKind, hasChildren, logCount, leads}
+use Rattle.log.specs.meaning.Record.{kindOf, nextOf, childOf, mOf, extensionKind, logCount, leads}
 use Rattle.log.specs.meaning.Sound.{Place, times}
 use Rattle.making.specs.machine.Events.{Event, defsOf, extsOf, bindings, diagnostics, postDiagnostics, childrenOf, inChain, first}
 use Rattle.making.specs.machine.Events.{bytesIn, allWords, Ordered, ordered-next}
@@ -34,10 +34,9 @@ next-led words a t h q l =
     let z : times t (toOf words (nextOf words a)) ≡ 1 = rw q (times-to words t l) in
     out-reached words a t h (omega (arith, times-outs words a t))
 
-child-led : (words : List ℕ) (a t : ℕ) → Reached words a → hasChildren (kindOf words a) ≡ true → childOf words a ≡ t → leads words t ≡ true
-    → Reached words t
-child-led words a t h k q l =
-    let z : times t (cond (hasChildren (kindOf words a)) (toOf words (childOf words a)) []) ≡ 1 = rw (k, q) (times-to words t l) in
+child-led : (words : List ℕ) (a t : ℕ) → Reached words a → childOf words a ≡ t → leads words t ≡ true → Reached words t
+child-led words a t h q l =
+    let z : times t (toOf words (childOf words a)) ≡ 1 = rw q (times-to words t l) in
     out-reached words a t h (omega (arith, times-outs words a t))
 
 body-led : (words : List ℕ) (a t : ℕ) → Reached words a → kindOf words a ≡ extensionKind → mOf words a ≡ t → leads words t ≡ true
@@ -119,8 +118,7 @@ module _ (es : List Event) (records used room : ℕ) (fits : 1 + length es ≤ l
   stands-led h (in-children {o} {x} i q k u) f =
       let led = f o x i (owner-before ordered (h .at) q) in
       start-led (childrenOf o) h q
-      (child-led words o (first (childrenOf o) 1 es) led (rw (kind-is es records used room fits ordered whole i) k)
-      (child-is es records used room fits ordered whole i))
+      (child-led words o (first (childrenOf o) 1 es) led (child-is es records used room fits ordered whole i))
 
   led-below : (n : ℕ) {t : ℕ} {y : Event} → t < n → There es t y → Reached words t
   led-below zero l h = absurd (omega arith)

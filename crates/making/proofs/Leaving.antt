@@ -11,7 +11,7 @@ use Rattle.paths_numbers.proofs.Texts.{by-test, not-both, both}
 use Rattle.making.specs.meaning.State as S
 use Rattle.log.specs.meaning.Record.{oneOf, defKinds, nodeKind, propertyKind, cellListKind, extensionKind, bindingKind, diagnosticKind}
 use Rattle.log.specs.meaning.Record.{hasChildren}
-use Rattle.log.specs.meaning.Sound.{kindsIn, labels, values, cells, references}
+use Rattle.log.specs.meaning.Sound.{kindsIn, labels, values, cells, references, nowhere}
 use Rattle.making.specs.machine.Events.{Event, childrenOf, inChain, first, last, Ordered, members}
 use Rattle.making.specs.machine.Removed.{dead}
 use Rattle.making.specs.machine.Dropped.{staysKind, afterDrop, dropped, Quiet, quiet-none, quiet-next, Body}
@@ -48,7 +48,10 @@ part-stays o k t s =
     (λ b.
     by-test (eqb o cellListKind)
     (λ c. none-stays (kindsIn cells) k refl refl refl (rw (a, b, c) at t) s)
-    (λ c. none-stays (kindsIn references) k refl refl refl (rw (a, b, c) at t) s)))
+    (λ c.
+    by-test (eqb o extensionKind)
+    (λ d. none-stays (kindsIn references) k refl refl refl (rw (a, b, c, d) at t) s)
+    (λ d. none-stays (kindsIn nowhere) k refl refl refl (rw (a, b, c, d) at t) s))))
 
 parent-stays : (k : ℕ) → hasChildren k ≡ true → staysKind k ≡ true → ⊥
 unfolding oneOf

@@ -8,7 +8,7 @@ use borrow.Author.Tests.{eqb-true, eqb-false, ltb-true, ltb-false}
 use lib.Dec.{eqb, ltb}
 use lib.ListN.{length}
 use Rattle.paths_numbers.proofs.Texts.{by-test}
-use Rattle.log.specs.meaning.Record.{kindOf, nextOf, childOf, mOf, extensionKind, hasChildren, logCount, leads}
+use Rattle.log.specs.meaning.Record.{kindOf, nextOf, childOf, mOf, extensionKind, logCount, leads}
 use Rattle.log.specs.meaning.Sound.{times, headLinks, followed, timesReached}
 use Rattle.making.specs.machine.Events.{Event, defsOf, childrenOf, first, allWords, Ordered}
 use Rattle.making.specs.machine.Whole.{There, Whole}
@@ -170,7 +170,7 @@ module _ (es : List Event) (records used room : ℕ) (fits : 1 + length es ≤ l
   module _ {a : ℕ} {x : Event} (h : There es a x) (t : ℕ) where
     abbrev fromSlot : ℕ → ℕ
     fromSlot zero = times t (toOf words (nextOf words a))
-    fromSlot (suc zero) = times t (cond (hasChildren (kindOf words a)) (toOf words (childOf words a)) [])
+    fromSlot (suc zero) = times t (toOf words (childOf words a))
     fromSlot (suc (suc n)) = times t (cond (eqb (kindOf words a) extensionKind) (toOf words (mOf words a)) [])
 
     sum-outs : times t (outs words a) ≡ sumTo 3 fromSlot
@@ -184,7 +184,7 @@ module _ (es : List Event) (records used room : ℕ) (fits : 1 + length es ≤ l
 
     child-into : 1 ≤ fromSlot 1 → Into es t a 6
     child-into k =
-        let q = led-by words (childOf words a) t (if-some (hasChildren (kindOf words a)) t (toOf words (childOf words a)) k .1) in
+        let q = led-by words (childOf words a) t k in
         into-child h (rw (q .0) at (link-child es records used room fits ordered whole h (q .1)))
 
     body-into : 1 ≤ fromSlot 2 → Into es t a 7
@@ -204,7 +204,7 @@ module _ (es : List Event) (records used room : ℕ) (fits : 1 + length es ≤ l
 
     slot-most : (i : ℕ) → i < 3 → fromSlot i ≤ 1
     slot-most zero l = to-most words (nextOf words a) t
-    slot-most (suc zero) l = if-most (hasChildren (kindOf words a)) t (toOf words (childOf words a)) (to-most words (childOf words a) t)
+    slot-most (suc zero) l = to-most words (childOf words a) t
     slot-most (suc (suc n)) l = if-most (eqb (kindOf words a) extensionKind) t (toOf words (mOf words a)) (to-most words (mOf words a) t)
 
     outs-most : times t (outs words a) ≤ 1

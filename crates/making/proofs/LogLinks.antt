@@ -10,7 +10,7 @@ use lib.Dec.{eqb}
 use lib.ListN.{length}
 use Rattle.paths_numbers.proofs.Texts.{by-test}
 use Rattle.log.specs.meaning.Record.{outField, kindOf, nextOf, childOf, mOf, firstDef, firstExt, firstBind, firstDiag, firstPost}
-use Rattle.log.specs.meaning.Record.{extensionKind, oneOf, hasChildren, logCount, leads}
+use Rattle.log.specs.meaning.Record.{extensionKind, oneOf, logCount, leads}
 use Rattle.log.specs.meaning.Sound.{Place, definitions, extensions, kindsIn, below, Link, linkTo, headLinks, linksOf, targets, times, walk}
 use Rattle.log.specs.meaning.Sound.{mostLinks, followed, timesReached, unfit}
 use Rattle.log.specs.meaning.Sound as S
@@ -165,8 +165,7 @@ module _ (es : List Event) (records used room : ℕ) (fits : 1 + length es ≤ l
   led-links l {e} h p =
       led-append
       (led-append (led-to (nextOf words (l .to)) (l .place) (link-next h) p)
-      (led-if (hasChildren (kindOf words (l .to)))
-      (λ t. led-to (childOf words (l .to)) (below (kindOf words (l .to))) (link-child h) (sym (place-children words (l .to))))))
+      (led-to (childOf words (l .to)) (below (kindOf words (l .to))) (link-child h) (sym (place-children words (l .to)))))
       (led-if (eqb (kindOf words (l .to)) extensionKind)
       (λ t. led-to (mOf words (l .to)) definitions (link-body h (eqb-true _ _ t)) (sym (place-defs words (e .log)))))
 

@@ -42,7 +42,8 @@ child-range j k o = one-between 7 12 j (kindsIn (placeBelow k)) all o
         by-test (eqb k nodeKind)
         (λ t. rw t refl)
         (λ t. by-test (eqb k propertyKind) (λ u. rw (t, u) refl)
-        (λ u. by-test (eqb k cellListKind) (λ v. rw (t, u, v) refl) (λ v. rw (t, u, v) refl)))
+        (λ u. by-test (eqb k cellListKind) (λ v. rw (t, u, v) refl)
+        (λ v. by-test (eqb k extensionKind) (λ x. rw (t, u, v, x) refl) (λ x. rw (t, u, v, x) refl))))
 
 -- an extension by its kind
 pub record Extends (hand : ℕ → Type 0) (es : List Event) (r : ℕ) (e : Event) : Type 0 where

@@ -127,6 +127,14 @@ ofKinds words = soundness words kindsBytes
 abbrev pub downward : List ℕ
 downward = but 0 1 3 (but 3 1 2 (but 2 1 1 (but 1 1 0 listing)))
 
+-- record 2 is a deleted property "/p", whose child is record 1, of no kind
+abbrev pub strayChild : List ℕ
+strayChild =
+    3 ∷ 2 ∷ 0 ∷ 0 ∷ 0 ∷ 2 ∷ 0 ∷ 0 ∷ 0 ∷ 0 ∷ 0 ∷ 0 ∷ 0 ∷ 0 ∷ 0 ∷ 0
+    ∷ 16 ∷ 0 ∷ 0 ∷ 0 ∷ 0 ∷ 0 ∷ 0 ∷ 0 ∷ 0 ∷ 0 ∷ 0 ∷ 0 ∷ 0 ∷ 0 ∷ 0 ∷ 0
+    ∷ 4 ∷ 0 ∷ 0 ∷ 2 ∷ 0 ∷ 0 ∷ 1 ∷ 0 ∷ 0 ∷ 0 ∷ 0 ∷ 0 ∷ 0 ∷ 0 ∷ 0 ∷ 0
+    ∷ []
+
 pub record Row8 : Type 0 where
   -- both logs keep the rules
   pub listingSound : ofListing listing ≡ sound
@@ -147,8 +155,10 @@ pub record Row8 : Type 0 where
   pub twoHeads : ofKinds (but 0 4 15 kinds) ≡ broken 15
   pub loop : ofListing (but 3 1 2 listing) ≡ broken 2
   pub ownNext : ofListing (but 5 1 5 listing) ≡ broken 5
-  -- a child of a kind without children faults its owner, and is not followed
-  pub childless : ofListing (but 5 6 2 listing) ≡ broken 5
+  -- a child of a kind without children faults its owner and what it leads to, which fits nowhere: the lower of both is returned
+  pub childless : ofListing (but 1 6 5 listing) ≡ broken 1
+  pub belowChildless : ofListing (but 5 6 2 listing) ≡ broken 2
+  pub onlyBelow : soundness strayChild (47 ∷ 112 ∷ []) ≡ broken 1
   -- a kind that does not fit its chain: definitions, extensions, bindings, both chains of diagnostics
   pub unfitDef : ofKinds (but 8 0 7 kinds) ≡ broken 8
   pub unfitExt : ofKinds (but 10 0 1 kinds) ≡ broken 10
@@ -212,6 +222,8 @@ row8 =
       loop = refl;
       ownNext = refl;
       childless = refl;
+      belowChildless = refl;
+      onlyBelow = refl;
       unfitDef = refl;
       unfitExt = refl;
       unfitBind = refl;

@@ -7,9 +7,13 @@ use mathlib.Core.List.{List, [], _∷_, _++_, map}
 use lib.Dec.{eqb, ltb}
 use lib.ListN.{length, getD, set, take}
 use Rattle.log.specs.meaning.Record.{kindOf, oneOf}
-use Rattle.log.specs.meaning.Sound.{Place, definitions, extensions, bindings, diagnostics, labels, values, cells, references, kindsIn}
-use Rattle.log.specs.meaning.Sound.{Link, linksOf, headLinks, anyOf, headsOut, linksOut, textsOut, spansReversed, pathWrong}
+use Rattle.log.specs.meaning.Sound.{Place, definitions, extensions, bindings, diagnostics, labels, values, cells, references, nowhere}
+use Rattle.log.specs.meaning.Sound.{kindsIn, Link, linksOf, headLinks, anyOf, headsOut, linksOut, textsOut, spansReversed, pathWrong}
 use Rattle.log.specs.meaning.Sound.{Soundness, sound, broken}
+
+-- how many chains there are
+abbrev pub chains : ℕ
+chains = 9
 
 -- the chains by number
 unfoldable pub placeOf : ℕ → Place
@@ -21,7 +25,8 @@ placeOf p =
     (cond (eqb p 4) labels
     (cond (eqb p 5) values
     (cond (eqb p 6) cells
-    references))))))
+    (cond (eqb p 7) references
+    nowhere)))))))
 
 -- a link to a record in the chain of this number
 abbrev pub linkIn : ℕ → ℕ → Link
@@ -29,7 +34,7 @@ linkIn r place = record { to = r; place = placeOf place }
 
 -- a link in one word
 unfoldable pub linkOf : ℕ → Link
-linkOf code = linkIn (code / 8) (code % 8)
+linkOf code = linkIn (code / chains) (code % chains)
 
 -- a list with a number put at an index
 unfoldable pub stored : List ℕ → ℕ → ℕ → List ℕ

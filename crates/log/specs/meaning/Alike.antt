@@ -3,24 +3,26 @@
 -- and words v over bytes c.
 use Prim.Native.Nat.{ℕ, _^_, _≤_, _<_}
 use lib.ListN.{getD}
+use mathlib.Core.Bool.{false}
 use mathlib.Core.Path.{_≡_}
 use mathlib.Core.List.{List, [], _∷_}
 use Rattle.log.specs.meaning.Record.{recordWords, outField, kindOf, textLength, secondLength, childOf, nOf, mOf, spanStart, spanEnd}
 use Rattle.log.specs.meaning.Record.{nameStart, nameEnd, firstDef, firstExt, firstBind, firstDiag, firstPost, extensionKind}
-use Rattle.log.specs.meaning.Record.{firstText, secondText}
+use Rattle.log.specs.meaning.Record.{hasChildren, firstText, secondText}
 use Rattle.log.specs.meaning.ReadBack.{chainOf}
 
 -- "All words are u32."
 pub record Words32 (w : List ℕ) : Type 0 where
   pub below : (i : ℕ) → getD w i 0 < 2 ^ 32
 
--- record r of the one and record s of the other, but for what their links lead to
+-- record r of the one and record s of the other, but for what their links lead to: child is one in kinds with children, M in extensions
 pub record AlikeWords (w b v c : List ℕ) (r s : ℕ) : Type 0 where
   pub kind : kindOf w r ≡ kindOf v s
   pub text : firstText w b r ≡ firstText v c s
   pub size : textLength w r ≡ textLength v s
   pub second : secondText w b r ≡ secondText v c s
   pub secondSize : secondLength w r ≡ secondLength v s
+  pub child : hasChildren (kindOf w r) ≡ false → childOf w r ≡ childOf v s
   pub n : nOf w r ≡ nOf v s
   pub m : (kindOf w r ≡ extensionKind → ⊥) → mOf w r ≡ mOf v s
   pub start : spanStart w r ≡ spanStart v s

@@ -25,9 +25,10 @@ pub data Place : Type 0 where
   values : Place
   cells : Place
   references : Place
+  nowhere : Place
 
--- the kinds that fit a chain; an extension's body is a chain of definitions, both chains of diagnostics are alike, and the chain below an
--- extension, which may be empty, has references
+-- the kinds that fit a chain; an extension's body is a chain of definitions, both chains of diagnostics are alike, the chain below an
+-- extension, which may be empty, has references, and none fits below a kind without children
 abbrev pub kindsIn : Place → List ℕ
 kindsIn definitions = defKinds
 kindsIn extensions = extensionKind ∷ []
@@ -37,14 +38,16 @@ kindsIn labels = labelKind ∷ []
 kindsIn values = stringKind ∷ cellListKind ∷ bytestringKind ∷ referenceKind ∷ []
 kindsIn cells = numberKind ∷ referenceKind ∷ []
 kindsIn references = referenceKind ∷ []
+kindsIn nowhere = []
 
--- the chain below a record, of the kinds that have children
+-- the chain below a record
 abbrev pub below : ℕ → Place
 below k =
     cond (eqb k nodeKind) labels
     (cond (eqb k propertyKind) values
     (cond (eqb k cellListKind) cells
-    references))
+    (cond (eqb k extensionKind) references
+    nowhere)))
 
 -- a link: the record that it leads to, and where that stands
 pub record Link : Type 0 where
@@ -64,12 +67,12 @@ headLinks words =
     ++ linkTo words (firstDiag words) diagnostics
     ++ linkTo words (firstPost words) diagnostics
 
--- the links of the record that a link leads to: next, which stays in its chain, child of the kinds that have children, and M of an
--- extension
+-- "Links (next, child, … M of output kind 13)": those of the record that a link leads to; next stays in its chain, and child is one
+-- whatever the kind
 unfoldable pub linksOf : List ℕ → Link → List Link
 linksOf words l =
     linkTo words (nextOf words (l .to)) (l .place)
-    ++ cond (hasChildren (kindOf words (l .to))) (linkTo words (childOf words (l .to)) (below (kindOf words (l .to)))) []
+    ++ linkTo words (childOf words (l .to)) (below (kindOf words (l .to)))
     ++ cond (eqb (kindOf words (l .to)) extensionKind) (linkTo words (mOf words (l .to)) definitions) []
 
 -- the records that links lead to

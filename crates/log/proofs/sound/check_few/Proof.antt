@@ -1,6 +1,7 @@
 -- By the marks (Checked: checked).
 use borrow.Author.Needs.{needs}
 use mathlib.Core.Path.{refl}
+use Rattle.log.specs.machine.Limits.{fewRecords}
 use Rattle.log.proofs.Checked.{checked}
 use Rattle.log.proofs.sound.check_few.Statement.{statement}
 use Rattle.log.proofs.sound.check_few.Tie as tie
@@ -24,7 +25,7 @@ returns : tie.Need-returns
 returns c =
     let v = c .before .before .before .before in
     let s = v .before .before .before .before .before in
-    checked 8192 (s .args .words .now) (s .args .bytes .now) _ _ _ _ (v .walk .ensures) (c .first-fault .ensures) refl refl (s .pre .0)
+    checked fewRecords (s .args .words .now) (s .args .bytes .now) _ _ _ _ (v .walk .ensures) (c .first-fault .ensures) refl refl (s .pre .0)
     (s .pre .1)
 
 pub check-few-spec : {M : Type 1} → statement M

@@ -2,6 +2,7 @@
 use borrow.Author.Tests.{eq-eqb, ne-eqb}
 use mathlib.Core.Path.{refl}
 use native.Mathlib.Omega.{arith}
+use Rattle.log.specs.meaning.Record.{mostRecords}
 use Rattle.log.specs.meaning.Sound.{soundness}
 use Rattle.log.proofs.Reached.{count-most}
 use Rattle.log.proofs.Checked.{checked}
@@ -51,7 +52,7 @@ returns-4 c =
     let v = c .before .before .before .before in
     let i = v .before .before .before .before .before in
     let a = i .before .before .before .before .args in
-    checked 65536 (a .words .now) (a .bytes .now) _ _ _ _ (v .walk .ensures) (c .first-fault .ensures) refl refl
+    checked mostRecords (a .words .now) (a .bytes .now) _ _ _ _ (v .walk .ensures) (c .first-fault .ensures) refl refl
     (count-most (a .words .now))
     (rw (ne-eqb _ _ (i .before .if1 .left), eq-eqb _ _ (i .if2 .left)) refl)
 

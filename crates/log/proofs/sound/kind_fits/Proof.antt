@@ -1,6 +1,7 @@
 -- By the chain's number in turn.
 use borrow.Author.Tests.{ne-eqb}
 use mathlib.Core.Path.{refl, _∙_}
+use Rattle.log.specs.meaning.Record.{oneOf}
 use Rattle.log.specs.machine.Walk.{placeOf}
 use borrow.Author.Needs.{needs}
 use Rattle.log.proofs.sound.kind_fits.Statement.{statement}
@@ -81,23 +82,26 @@ one-of-requires-7 c κs = search needs
 
 returns-8 : tie.Need-returns-8
 unfolding placeOf
-returns-8 c =
-    let g = c .before .before in
+returns-8 c = c .one-of7 .ensures ∙ rw (c .before .before .if8 .taken) refl
+
+returns-9 : tie.Need-returns-9
+unfolding placeOf oneOf
+returns-9 c =
+    let g = c .before in
     let f = g .before in
     let e = f .before in
     let d = e .before in
     let b = d .before in
     let a = b .before in
-    c .one-of7 .ensures
-    ∙ rw (
+    rw (
       ne-eqb _ _ (a .before .if1 .left),
       ne-eqb _ _ (a .if2 .left),
       ne-eqb _ _ (b .if3 .left),
       ne-eqb _ _ (d .if4 .left),
-      ne-eqb _ _
-          (e .if5 .left),
+      ne-eqb _ _ (e .if5 .left),
       ne-eqb _ _ (f .if6 .left),
       ne-eqb _ _ (g .if7 .left),
+      ne-eqb _ _ (c .if8 .left),
     ) refl
 
 pub kind-fits-spec : {M : Type 1} → statement M
@@ -126,4 +130,5 @@ kind-fits-spec =
     returns-7
     slice-aggregate-one-of-7
     one-of-requires-7
-    returns-8)
+    returns-8
+    returns-9)

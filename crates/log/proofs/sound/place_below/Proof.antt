@@ -24,11 +24,33 @@ returns-3 c = (
 
 returns-4 : tie.Need-returns-4
 unfolding placeOf
-returns-4 c = (
-  search needs,
-  rw (ne-eqb _ _ (c .before .before .if1 .left), ne-eqb _ _ (c .before .if2 .left), ne-eqb _ _ (c .if3 .left))
-      refl,
-)
+returns-4 c =
+    let b = c .before in (
+      search needs,
+      rw (
+        ne-eqb _ _ (b .before .before .if1 .left),
+        ne-eqb _ _ (b .before .if2 .left),
+        ne-eqb _ _ (b .if3 .left),
+        eq-eqb _ _
+            (c .if4 .taken),
+      )
+          refl,
+    )
+
+returns-5 : tie.Need-returns-5
+unfolding placeOf
+returns-5 c =
+    let b = c .before in (
+      search needs,
+      rw (
+        ne-eqb _ _ (b .before .before .if1 .left),
+        ne-eqb _ _ (b .before .if2 .left),
+        ne-eqb _ _ (b .if3 .left),
+        ne-eqb _ _
+            (c .if4 .left),
+      )
+          refl,
+    )
 
 pub place-below-spec : {M : Type 1} → statement M
-place-below-spec = tie.close (tie.spec returns returns-2 returns-3 returns-4)
+place-below-spec = tie.close (tie.spec returns returns-2 returns-3 returns-4 returns-5)

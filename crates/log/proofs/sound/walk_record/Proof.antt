@@ -16,8 +16,8 @@ kind-of-requires c κs = search needs
 place-below-requires : tie.Need-place-below-requires
 place-below-requires c κs = search needs
 
-child-link-requires : tie.Need-child-link-requires
-child-link-requires c κs = search needs
+child-of-requires : tie.Need-child-of-requires
+child-of-requires c κs = search needs
 
 follow-requires-2 : tie.Need-follow-requires-2
 follow-requires-2 c κs = search needs
@@ -42,7 +42,7 @@ returns c =
     let s = p .before .before .before .before .before .before in
     follow-record _ (s .before .before .before .before .before .before .before .args .code) _ _ _ _ _ _ _ _ _
     (s .before .before .before .next-of .ensures) (p .before .kind-of .ensures) (p .place-below .ensures .1)
-    (a .before .before .before .child-link .ensures) (b .before .before .before .body-link .ensures)
+    (a .before .before .before .child-of .ensures) (b .before .before .before .body-link .ensures)
     (s .follow .ensures) (a .follow2 .ensures) (b .follow3 .ensures)
 
 pub walk-record-spec : {M : Type 1} → statement M
@@ -53,7 +53,7 @@ walk-record-spec =
     follow-requires
     kind-of-requires
     place-below-requires
-    child-link-requires
+    child-of-requires
     follow-requires-2
     body-link-requires
     follow-requires-3

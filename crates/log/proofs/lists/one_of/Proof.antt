@@ -6,8 +6,8 @@ use native.Mathlib.Omega.{arith}
 use lib.ListN.{length, drop}
 use Rattle.log.specs.meaning.Record.{oneOf}
 use Rattle.log.proofs.Tests.{found-at, not-at, not-in}
-use Rattle.log.proofs.sound.one_of.Statement.{statement}
-use Rattle.log.proofs.sound.one_of.Tie as tie
+use Rattle.log.proofs.lists.one_of.Statement.{statement}
+use Rattle.log.proofs.lists.one_of.Tie as tie
 
 abbrev Inv-loop : tie.InvT-loop
 Inv-loop k list i₀ i = (i ≤ length list) × (oneOf k list ≡ oneOf k (drop i list))
