@@ -16,6 +16,7 @@ use Rattle.log.specs.meaning.Contents.{DefValue, node, property, deletedNode, d
 use Rattle.queries.specs.meaning.Kind.{isDeletedNode, isOfProperty}
 use Rattle.paths_numbers.specs.meaning.Lists.{any}
 use Rattle.queries.specs.meaning.Live.{overwrites}
+use Rattle.log.specs.meaning.Record.{mostRecords}
 use Rattle.queries.specs.machine.Table.{hashFrom, leastHeads, fewHeads, manyHeads, placeOf, slotOf, canTake, slotAt, inList, firstOf}
 use Rattle.queries.specs.machine.Table.{Linked, ended, more, Holds, Table, deletedAt, Deleted, Room}
 
@@ -239,7 +240,7 @@ table-start def base heads links z = record { headed = z; linked = λ slot. ende
 -- arrays of zeros have room
 pub room-zeros : (m n : ℕ) (order heads links live : List ℕ) → order ≡ replicate m 0 → heads ≡ replicate m 0 → links ≡ replicate m 0
     → live ≡ replicate m 0
-    → leastHeads ≤ m → m ≤ 65536 → n ≤ m → Room n order heads links live
+    → leastHeads ≤ m → m ≤ mostRecords → n ≤ m → Room n order heads links live
 room-zeros m n order heads links live o h l v few most fits =
     let k : length (replicate {A = ℕ} m 0) ≡ m = length-replicate m 0 in
     record {

@@ -5,10 +5,10 @@ ghost use mathlib.Core.Bool.{false};
 ghost use lib.ListN.{length};
 ghost use Rattle.paths_numbers.specs.meaning.Text.{written};
 ghost use Rattle.log.specs.meaning.Record.{logCount};
-ghost use Rattle.log.specs.meaning.ReadBack.{chainOf, defAt};
-ghost use Rattle.queries.specs.meaning.Query.{historyNumbers};
+ghost use Rattle.log.specs.meaning.ReadBack.{defAt};
+ghost use Rattle.queries.specs.meaning.Query.{historyIn};
 ghost use Rattle.queries.specs.machine.Pass.{isListed, definedAfter};
-ghost use Rattle.queries.specs.machine.Table.{fewHeads, fitted};
+ghost use Rattle.queries.specs.machine.Table.{fewHeads, Listed};
 use crate::definition::defined_by;
 use crate::definition::deletes_above;
 use crate::definition::goes_on;
@@ -24,11 +24,8 @@ use paths_numbers::text::equals;
 // start of a list, earliest first, if it has room for them. Each call sets up an array: 256 KB, or
 // 32 KB for a log of at most 8,192 records.
 pub fn history_list(words: &[u32], bytes: &[u8], first: u32, path: &[u8], list: &mut [u32]) -> u32
-    ensures { λ n. ⌜ n ≡ length (historyNumbers (defAt (now (words .entry)) (now (bytes .entry))) false (now (path .entry))
-        (chainOf (now (words .entry)) first)) ⌝ }
-    ensures { λ _. ⌜ now (list .exit) ≡ fitted (now (list .entry))
-        (historyNumbers (defAt (now (words .entry)) (now (bytes .entry))) false (now (path .entry))
-        (chainOf (now (words .entry)) first)) ⌝ }
+    ensures { λ n. ⌜ Listed (now (list .entry)) (now (list .exit)) n
+        (historyIn (now (words .entry)) (now (bytes .entry)) first (now (path .entry))) ⌝ }
 {
     if log_count(words) as usize <= FEW_RECORDS {
         return history_list_few(words, bytes, first, path, list);
@@ -40,11 +37,8 @@ pub fn history_list(words: &[u32], bytes: &[u8], first: u32, path: &[u8], list: 
 // The same of a log of few records.
 fn history_list_few(words: &[u32], bytes: &[u8], first: u32, path: &[u8], list: &mut [u32]) -> u32
     requires { ⌜ logCount (now words) ≤ fewHeads ⌝ }
-    ensures { λ n. ⌜ n ≡ length (historyNumbers (defAt (now (words .entry)) (now (bytes .entry))) false (now (path .entry))
-        (chainOf (now (words .entry)) first)) ⌝ }
-    ensures { λ _. ⌜ now (list .exit) ≡ fitted (now (list .entry))
-        (historyNumbers (defAt (now (words .entry)) (now (bytes .entry))) false (now (path .entry))
-        (chainOf (now (words .entry)) first)) ⌝ }
+    ensures { λ n. ⌜ Listed (now (list .entry)) (now (list .exit)) n
+        (historyIn (now (words .entry)) (now (bytes .entry)) first (now (path .entry))) ⌝ }
 {
     let mut found = [0u32; FEW_RECORDS];
     history_list_by(words, bytes, first, path, list, &mut found)
@@ -60,26 +54,21 @@ fn history_list_by(
     found: &mut [u32],
 ) -> u32
     requires { ⌜ logCount (now words) ≤ length (now found) ⌝ }
-    ensures { λ n. ⌜ n ≡ length (historyNumbers (defAt (now (words .entry)) (now (bytes .entry))) false (now (path .entry))
-        (chainOf (now (words .entry)) first)) ⌝ }
-    ensures { λ _. ⌜ now (list .exit) ≡ fitted (now (list .entry))
-        (historyNumbers (defAt (now (words .entry)) (now (bytes .entry))) false (now (path .entry))
-        (chainOf (now (words .entry)) first)) ⌝ }
+    ensures { λ n. ⌜ Listed (now (list .entry)) (now (list .exit)) n
+        (historyIn (now (words .entry)) (now (bytes .entry)) first (now (path .entry))) ⌝ }
 {
     let count = history_of(words, bytes, first, path, found);
-    fit(list, &found[..count])
+    fit(list, &found[..count]);
+    count as u32
 }
 
 // Writes the record numbers of a path's history to the start of a list, earliest first, and returns
 // how many there are.
 fn history_of(words: &[u32], bytes: &[u8], first: u32, path: &[u8], found: &mut [u32]) -> usize
-    requires { ⌜ length (historyNumbers (defAt (now words) (now bytes)) false (now path) (chainOf (now words) first)) ≤ length
-        (now found) ⌝ }
-    ensures { λ n. ⌜ n ≡ length (historyNumbers (defAt (now (words .entry)) (now (bytes .entry))) false (now (path .entry))
-        (chainOf (now (words .entry)) first)) ⌝ }
+    requires { ⌜ length (historyIn (now words) (now bytes) first (now path)) ≤ length (now found) ⌝ }
+    ensures { λ n. ⌜ n ≡ length (historyIn (now (words .entry)) (now (bytes .entry)) first (now (path .entry))) ⌝ }
     ensures { λ _. ⌜ now (found .exit) ≡ written (now (found .entry)) 0
-        (historyNumbers (defAt (now (words .entry)) (now (bytes .entry))) false (now (path .entry))
-        (chainOf (now (words .entry)) first)) ⌝ }
+        (historyIn (now (words .entry)) (now (bytes .entry)) first (now (path .entry))) ⌝ }
 {
     let mut count = 0;
     let mut defined = false;

@@ -13,7 +13,8 @@ ghost use Rattle.paths_numbers.specs.meaning.Path.{root};
 ghost use Rattle.log.specs.meaning.ReadBack.{defAt};
 ghost use Rattle.paths_numbers.specs.meaning.Lists.{any};
 ghost use Rattle.queries.specs.meaning.Live.{deletes};
-ghost use Rattle.queries.specs.machine.Table.{mixed, hashFrom, leastHeads, placeOf, slotOf, Holds, deletedAt, takesAt, Deleted};
+ghost use Rattle.queries.specs.machine.Table.{mixed, hashFrom, placeOf, slotOf, Holds, deletedAt, takesAt, Deleted, Sized};
+ghost use Rattle.queries.specs.machine.Table.{RoomForOne};
 use crate::definition::is_deleted_at;
 use crate::definition::overwrites_at;
 use log::limits::FEW_RECORDS;
@@ -24,7 +25,7 @@ const ROOT_HASH: u32 = 47;
 
 // Enters a definition with a path, behind which so many are later, into its list.
 pub fn enter_at(heads: &mut [u32], links: &mut [u32], deleted: bool, path: &[u8], later: usize)
-    requires { ⌜ (leastHeads ≤ length (now heads)) × (later < length (now links)) × (length (now links) ≤ 65536) ⌝ }
+    requires { ⌜ RoomForOne (now heads) (now links) later ⌝ }
     ensures { λ _. ⌜ now (heads .exit) ≡ set (now (heads .entry))
         (slotOf (length (now (heads .entry))) deleted (hashFrom 0 (now (path .entry)))) (later + 1) ⌝ }
     ensures { λ _. ⌜ now (links .exit) ≡ set (now (links .entry)) later
@@ -35,7 +36,7 @@ pub fn enter_at(heads: &mut [u32], links: &mut [u32], deleted: bool, path: &[u8]
 
 // The same, with the path's hash.
 pub fn enter(heads: &mut [u32], links: &mut [u32], deleted: bool, hash: u32, later: usize)
-    requires { ⌜ (leastHeads ≤ length (now heads)) × (later < length (now links)) × (length (now links) ≤ 65536) ⌝ }
+    requires { ⌜ RoomForOne (now heads) (now links) later ⌝ }
     ensures { λ _. ⌜ now (heads .exit) ≡ set (now (heads .entry)) (slotOf (length (now (heads .entry))) deleted hash) (later + 1) ⌝ }
     ensures { λ _. ⌜ now (links .exit) ≡ set (now (links .entry)) later
         (getD (now (heads .entry)) (slotOf (length (now (heads .entry))) deleted hash) 0) ⌝ }
@@ -83,7 +84,7 @@ pub fn holds(
 ) -> bool
     requires { ⌜ Holds (defAt (now words) (now bytes)) (takesAt deleted (now path)) (now links) (now later)
         (getD (now heads) (slotOf (length (now heads)) deleted hash) 0) ⌝ }
-    requires { ⌜ (leastHeads ≤ length (now heads)) × (length (now later) ≤ length (now links)) ⌝ }
+    requires { ⌜ Sized (now heads) (now links) (now later) ⌝ }
     ensures { λ t. ⌜ t ≡ any (takesAt deleted (now (path .entry)))
         (map (defAt (now (words .entry)) (now (bytes .entry))) (now (later .entry))) ⌝ }
 {
@@ -141,7 +142,7 @@ pub fn look_above(
     path: &[u8],
 ) -> Above
     requires { ⌜ Deleted (defAt (now words) (now bytes)) (now heads) (now links) (now later) ⌝ }
-    requires { ⌜ (leastHeads ≤ length (now heads)) × (length (now later) ≤ length (now links)) ⌝ }
+    requires { ⌜ Sized (now heads) (now links) (now later) ⌝ }
     ensures { λ a. ⌜ a ≡ record {
       deleted = any (deletes (now (path .entry)))
           (map (defAt (now (words .entry)) (now (bytes .entry))) (now (later .entry)));
@@ -174,7 +175,7 @@ fn root_deleted(
     path: &[u8],
 ) -> bool
     requires { ⌜ Deleted (defAt (now words) (now bytes)) (now heads) (now links) (now later) ⌝ }
-    requires { ⌜ (leastHeads ≤ length (now heads)) × (length (now later) ≤ length (now links)) ⌝ }
+    requires { ⌜ Sized (now heads) (now links) (now later) ⌝ }
     ensures { λ t. ⌜ t ≡ cond (startsWith slash (now (path .entry)))
         (any (deletedAt root) (map (defAt (now (words .entry)) (now (bytes .entry))) (now (later .entry)))) false ⌝ }
 {
@@ -208,7 +209,7 @@ fn or_deleted(
     found: bool,
 ) -> bool
     requires { ⌜ Deleted (defAt (now words) (now bytes)) (now heads) (now links) (now later) ⌝ }
-    requires { ⌜ (leastHeads ≤ length (now heads)) × (length (now later) ≤ length (now links)) ⌝ }
+    requires { ⌜ Sized (now heads) (now links) (now later) ⌝ }
     requires { ⌜ hash ≡ hashFrom 0 (now path) ⌝ }
     ensures { λ t. ⌜ t ≡ cond found true (any (deletedAt (now (path .entry)))
         (map (defAt (now (words .entry)) (now (bytes .entry))) (now (later .entry)))) ⌝ }

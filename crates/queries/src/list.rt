@@ -5,18 +5,13 @@ ghost use lib.ListN.{length};
 ghost use Rattle.paths_numbers.specs.meaning.Text.{written};
 ghost use Rattle.queries.specs.machine.Table.{fitted};
 
-// Writes numbers to the start of a list if it has room for them, and returns how many there are.
-pub fn fit(list: &mut [u32], numbers: &[u32]) -> u32
-    requires { ⌜ length (now numbers) ≤ 65536 ⌝ }
-    ensures { λ n. ⌜ n ≡ length (now (numbers .entry)) ⌝ }
+// Writes numbers to the start of a list if it has room for them.
+pub fn fit(list: &mut [u32], numbers: &[u32])
     ensures { λ _. ⌜ now (list .exit) ≡ fitted (now (list .entry)) (now (numbers .entry)) ⌝ }
 {
-    let count = numbers.len() as u32;
-    if list.len() < numbers.len() {
-        return count;
+    if numbers.len() <= list.len() {
+        copy(list, numbers);
     }
-    copy(list, numbers);
-    count
 }
 
 // Writes numbers to the start of a list.

@@ -8,8 +8,8 @@ ghost use Rattle.paths_numbers.specs.meaning.Text.{written};
 ghost use Rattle.log.specs.meaning.Record.{logCount};
 ghost use Rattle.log.specs.meaning.ReadBack.{chainOf, defAt};
 ghost use Rattle.queries.specs.meaning.Live.{isLive};
-ghost use Rattle.queries.specs.meaning.Query.{liveNumbers};
-ghost use Rattle.queries.specs.machine.Table.{leastHeads, fewHeads, Table, Room, fitted};
+ghost use Rattle.queries.specs.meaning.Query.{liveNumbers, liveIn};
+ghost use Rattle.queries.specs.machine.Table.{leastHeads, fewHeads, Table, Room, RoomForOne, Listed};
 use crate::definition::goes_on;
 use crate::later::enter;
 use crate::later::enter_at;
@@ -32,10 +32,8 @@ use paths_numbers::mir::lies_under;
 // start of a list, latest first, if it has room for them. Each call sets up four arrays: 1 MB, 128 KB
 // for a log of at most 8,192 records, or 16 KB for one of at most 1,024.
 pub fn live_list(words: &[u32], bytes: &[u8], first: u32, base: &[u8], list: &mut [u32]) -> u32
-    ensures { λ n. ⌜ n ≡ length (liveNumbers (defAt (now (words .entry)) (now (bytes .entry))) (now (base .entry))
-        (chainOf (now (words .entry)) first)) ⌝ }
-    ensures { λ _. ⌜ now (list .exit) ≡ fitted (now (list .entry))
-        (liveNumbers (defAt (now (words .entry)) (now (bytes .entry))) (now (base .entry)) (chainOf (now (words .entry)) first)) ⌝ }
+    ensures { λ n. ⌜ Listed (now (list .entry)) (now (list .exit)) n
+        (liveIn (now (words .entry)) (now (bytes .entry)) first (now (base .entry))) ⌝ }
 {
     if log_count(words) as usize <= LEAST_RECORDS {
         return live_list_least(words, bytes, first, base, list);
@@ -63,10 +61,8 @@ pub fn live_list(words: &[u32], bytes: &[u8], first: u32, base: &[u8], list: &mu
 // The same of a log of few records.
 fn live_list_few(words: &[u32], bytes: &[u8], first: u32, base: &[u8], list: &mut [u32]) -> u32
     requires { ⌜ logCount (now words) ≤ fewHeads ⌝ }
-    ensures { λ n. ⌜ n ≡ length (liveNumbers (defAt (now (words .entry)) (now (bytes .entry))) (now (base .entry))
-        (chainOf (now (words .entry)) first)) ⌝ }
-    ensures { λ _. ⌜ now (list .exit) ≡ fitted (now (list .entry))
-        (liveNumbers (defAt (now (words .entry)) (now (bytes .entry))) (now (base .entry)) (chainOf (now (words .entry)) first)) ⌝ }
+    ensures { λ n. ⌜ Listed (now (list .entry)) (now (list .exit)) n
+        (liveIn (now (words .entry)) (now (bytes .entry)) first (now (base .entry))) ⌝ }
 {
     let mut order = [0u32; FEW_RECORDS];
     let mut heads = [0u32; FEW_RECORDS];
@@ -88,10 +84,8 @@ fn live_list_few(words: &[u32], bytes: &[u8], first: u32, base: &[u8], list: &mu
 // The same of a log of the fewest records.
 fn live_list_least(words: &[u32], bytes: &[u8], first: u32, base: &[u8], list: &mut [u32]) -> u32
     requires { ⌜ logCount (now words) ≤ leastHeads ⌝ }
-    ensures { λ n. ⌜ n ≡ length (liveNumbers (defAt (now (words .entry)) (now (bytes .entry))) (now (base .entry))
-        (chainOf (now (words .entry)) first)) ⌝ }
-    ensures { λ _. ⌜ now (list .exit) ≡ fitted (now (list .entry))
-        (liveNumbers (defAt (now (words .entry)) (now (bytes .entry))) (now (base .entry)) (chainOf (now (words .entry)) first)) ⌝ }
+    ensures { λ n. ⌜ Listed (now (list .entry)) (now (list .exit)) n
+        (liveIn (now (words .entry)) (now (bytes .entry)) first (now (base .entry))) ⌝ }
 {
     let mut order = [0u32; LEAST_RECORDS];
     let mut heads = [0u32; LEAST_RECORDS];
@@ -123,14 +117,13 @@ fn live_list_by(
     live: &mut [u32],
 ) -> u32
     requires { ⌜ Room (logCount (now words)) (now order) (now heads) (now links) (now live) ⌝ }
-    ensures { λ n. ⌜ n ≡ length (liveNumbers (defAt (now (words .entry)) (now (bytes .entry))) (now (base .entry))
-        (chainOf (now (words .entry)) first)) ⌝ }
-    ensures { λ _. ⌜ now (list .exit) ≡ fitted (now (list .entry))
-        (liveNumbers (defAt (now (words .entry)) (now (bytes .entry))) (now (base .entry)) (chainOf (now (words .entry)) first)) ⌝ }
+    ensures { λ n. ⌜ Listed (now (list .entry)) (now (list .exit)) n
+        (liveIn (now (words .entry)) (now (bytes .entry)) first (now (base .entry))) ⌝ }
 {
     let n = chain_order(words, first, order);
     let count = live_of(words, bytes, base, &order[..n], heads, links, live);
-    fit(list, &live[..count])
+    fit(list, &live[..count]);
+    count as u32
 }
 
 // Writes the record numbers of a chain to the start of a list, and returns how many there are.
@@ -192,7 +185,7 @@ fn pass(
     links: &mut [u32],
 ) -> bool
     requires { ⌜ Table (defAt (now words) (now bytes)) (now base) (length (now heads)) (now heads) (now links) (now later) ⌝ }
-    requires { ⌜ (leastHeads ≤ length (now heads)) × (length (now later) < length (now links)) × (length (now links) ≤ 65536) ⌝ }
+    requires { ⌜ RoomForOne (now heads) (now links) (length (now later)) ⌝ }
     ensures { λ t. ⌜ t ≡ isLive (now (base .entry)) (defAt (now (words .entry)) (now (bytes .entry)) r)
         (map (defAt (now (words .entry)) (now (bytes .entry))) (now (later .entry))) ⌝ }
     ensures { λ _. ⌜ Table (defAt (now (words .entry)) (now (bytes .entry))) (now (base .entry)) (length (now (heads .exit)))

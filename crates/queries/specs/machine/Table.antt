@@ -9,6 +9,8 @@ use lib.ListN.{length, getD}
 use Rattle.paths_numbers.specs.meaning.Text.{same, written}
 use Rattle.paths_numbers.specs.meaning.Path.{atOrUnder}
 use Rattle.log.specs.meaning.Contents.{Def}
+use Rattle.log.specs.meaning.Record.{mostRecords}
+use Rattle.log.specs.machine.Limits.{fewRecords, leastRecords}
 use Rattle.queries.specs.meaning.Kind.{isDeletedNode, isOfProperty}
 use Rattle.queries.specs.meaning.Live.{overwrites}
 
@@ -23,13 +25,13 @@ hashFrom h (b ∷ s) = hashFrom (mixed h b) s
 
 -- how many heads the three tables have
 abbrev pub leastHeads : ℕ
-leastHeads = 1024
+leastHeads = leastRecords
 
 abbrev pub fewHeads : ℕ
-fewHeads = 8192
+fewHeads = fewRecords
 
 abbrev pub manyHeads : ℕ
-manyHeads = 65536
+manyHeads = mostRecords
 
 -- the place of a hash in either half of so many heads, and its slot: the odd ones are for deleted nodes
 unfoldable pub placeOf : ℕ → ℕ → ℕ
@@ -85,15 +87,27 @@ takesAt deleted path d = cond deleted (deletedAt path d) (overwrites path d)
 pub record Deleted (def : ℕ → Def) (heads links later : List ℕ) : Type 0 where
   pub at : (path : List ℕ) → Holds def (deletedAt path) links later (getD heads (slotOf (length heads) true (hashFrom 0 path)) 0)
 
+-- that a table has its heads, and a link for each definition
+abbrev pub Sized : List ℕ → List ℕ → List ℕ → Type 0
+Sized heads links later = (leastHeads ≤ length heads) × (length later ≤ length links)
+
+-- and room for one more, behind which so many are later
+abbrev pub RoomForOne : List ℕ → List ℕ → ℕ → Type 0
+RoomForOne heads links later = (leastHeads ≤ length heads) × (later < length links) × (length links ≤ mostRecords)
+
 -- that there is room for n definitions in order, for a table of zeros and for the answers
 pub record Room (n : ℕ) (order heads links live : List ℕ) : Type 0 where
   pub forOrder : n ≤ length order
   pub forHeads : leastHeads ≤ length heads
   pub forLinks : n ≤ length links
   pub forLive : n ≤ length live
-  pub most : length links ≤ 65536
+  pub most : length links ≤ mostRecords
   pub zeros : (slot : ℕ) → slot < length heads → getD heads slot 0 ≡ 0
 
 -- a list with the answers at its start, if it has room for them
 unfoldable pub fitted : List ℕ → List ℕ → List ℕ
 fitted list answers = cond (leb (length answers) (length list)) (written list 0 answers) list
+
+-- what is returned and left in the list for these answers: their count, and the list with them
+abbrev pub Listed : List ℕ → List ℕ → ℕ → List ℕ → Type 0
+Listed before after count answers = (count ≡ length answers) × (after ≡ fitted before answers)

@@ -27,6 +27,13 @@ historyNumbers def defined path (r ∷ later) =
     (cond (cond defined (deletes path (def r)) false) (r ∷ historyNumbers def false path later)
     (historyNumbers def defined path later))
 
+-- both, of the chain that starts at a record
+abbrev pub liveIn : List ℕ → List ℕ → ℕ → List ℕ → List ℕ
+liveIn words bytes first base = liveNumbers (defAt words bytes) base (chainOf words first)
+
+abbrev pub historyIn : List ℕ → List ℕ → ℕ → List ℕ → List ℕ
+historyIn words bytes first path = historyNumbers (defAt words bytes) false path (chainOf words first)
+
 -- "Lists hold definitions of the main chain": their numbers
 abbrev pub mainChain : List ℕ → List ℕ
 mainChain words = chainOf words (firstDef words)

@@ -25,8 +25,8 @@ returns : tie.Need-returns
 returns c =
     let v = c .before .before .before .before in
     let s = v .before .before .before .before .before in
-    checked fewRecords (s .args .words .now) (s .args .bytes .now) _ _ _ _ (v .walk .ensures) (c .first-fault .ensures) refl refl (s .pre .0)
-    (s .pre .1)
+    checked fewRecords (s .args .words .now) (s .args .bytes .now) _ _ _ _ (v .walk .ensures) (c .first-fault .ensures) refl refl
+    (s .pre .0) (s .pre .1)
 
 pub check-few-spec : {M : Type 1} → statement M
 check-few-spec =

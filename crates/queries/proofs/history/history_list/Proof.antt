@@ -1,5 +1,6 @@
 -- An array of zeros has room (Numbers: zeros-room).
 use mathlib.Core.Path.{refl}
+use Rattle.log.specs.meaning.Record.{mostRecords}
 use Rattle.queries.proofs.Chain.{count-most}
 use Rattle.queries.proofs.Numbers.{zeros-room}
 use borrow.Author.Needs.{needs}
@@ -25,7 +26,7 @@ slice-aggregate-history-list-by : tie.Need-slice-aggregate-history-list-by
 slice-aggregate-history-list-by c = search needs
 
 history-list-by-requires : tie.Need-history-list-by-requires
-history-list-by-requires c κs = zeros-room 65536 _ _ refl (count-most
+history-list-by-requires c κs = zeros-room mostRecords _ _ refl (count-most
     (c .before .before .before .before .before .before .before .before .args .words .now))
 
 same-length-2 : tie.Need-same-length-2

@@ -40,21 +40,14 @@ slice-aggregate-fit c =
     sym (length-take-le _ _ (omega (arith, m, n, h .ensures .0, h .kept .1 .1 .1 .1 .0, s .pre)))
 
 fit-requires : tie.Need-fit-requires
-fit-requires c κs =
-    let s = c .before .before .before .before .before .before .before .before .before .before .before in
-    let a = s .args in
+fit-requires c κs = search needs
+
+cast-result : tie.Need-cast-result
+cast-result c =
+    let a = c .before .before .before .before .before .before .before .before .before .before .before .before .before .before .args in
     let m = history-most (defAt (a .words .now) (a .bytes .now)) false (a .path .now) (chainOf (a .words .now) (a .first)) in
-    let n = chain-most (a .words .now) (a .first) in
-    let h = c .before .before .before .before .history-of in
-    omega (
-      arith,
-      m,
-      n,
-      count-most (a .words .now),
-      ap length (collected-part (a .found .now)
-          (historyNumbers (defAt (a .words .now) (a .bytes .now)) false (a .path .now) (chainOf (a .words .now) (a .first))) _ (h .result)
-          (h .ensures .1) (h .ensures .0)),
-    )
+    let h = c .before .before .before .before .before .before .before .history-of in
+    omega (arith, h .ensures .0, m, chain-most (a .words .now) (a .first), count-most (a .words .now))
 
 same-length : tie.Need-same-length
 same-length c = search needs
@@ -69,7 +62,7 @@ returns c =
     let f = c .before .before .fit in
     let e = collected-part (a .found .now) (historyNumbers (defAt (a .words .now) (a .bytes .now)) false (a .path .now)
     (chainOf (a .words .now) (a .first))) _ (h .result) (h .ensures .1) (h .ensures .0) in
-    (f .ensures .0 ∙ ap length e, f .ensures .1 ∙ ap (fitted (a .list .now)) e)
+    (h .ensures .0, f .ensures ∙ ap (fitted (a .list .now)) e)
 
 pub history-list-by-spec : {M : Type 1} → statement M
 history-list-by-spec =
@@ -79,6 +72,7 @@ history-list-by-spec =
     slice-reshare-prefix-fit
     slice-aggregate-fit
     fit-requires
+    cast-result
     same-length
     same-length-2
     returns)

@@ -1,7 +1,7 @@
 -- Arrays of zeros have room (Table: room-zeros).
 use mathlib.Core.Path.{refl}
 use native.Mathlib.Omega.{arith}
-use Rattle.log.specs.meaning.Record.{logCount}
+use Rattle.log.specs.meaning.Record.{logCount, mostRecords}
 use Rattle.queries.proofs.Chain.{count-most}
 use Rattle.queries.proofs.Table.{room-zeros}
 use borrow.Author.Needs.{needs}
@@ -53,7 +53,7 @@ slice-aggregate-live-list-by-4 c = search needs
 live-list-by-requires : tie.Need-live-list-by-requires
 live-list-by-requires c κs =
     let a = c .before .before .before .before .before .before .before .before .before .before .before .before .before .args in
-    room-zeros 65536 (logCount (a .words .now)) _ _ _ _ refl refl refl refl (omega arith) (omega arith) (count-most (a .words .now))
+    room-zeros mostRecords (logCount (a .words .now)) _ _ _ _ refl refl refl refl (omega arith) (omega arith) (count-most (a .words .now))
 
 same-length-3 : tie.Need-same-length-3
 same-length-3 c = search needs

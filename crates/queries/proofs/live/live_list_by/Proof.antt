@@ -58,7 +58,7 @@ slice-reshare-prefix-fit c =
     (v .ensures) in
     let m = live-most (defAt (a .words .now) (a .bytes .now)) (a .base .now) (chainOf (a .words .now) (a .first)) in
     let n = chain-most (a .words .now) (a .first) in
-    omega (arith, q .0, m, n, v .kept .1 .1 .1 .1 .1 .1 .0, s .pre .forLive)
+    omega (arith, q .0, m, n, o .ensures .0, v .kept .1 .1 .1 .1 .1 .1 .0, s .pre .forLive)
 
 slice-aggregate-fit : tie.Need-slice-aggregate-fit
 slice-aggregate-fit c =
@@ -72,29 +72,20 @@ slice-aggregate-fit c =
     (v .ensures) in
     let m = live-most (defAt (a .words .now) (a .bytes .now)) (a .base .now) (chainOf (a .words .now) (a .first)) in
     let n = chain-most (a .words .now) (a .first) in
-    sym (length-take-le _ _ (omega (arith, q .0, m, n, v .kept .1 .1 .1 .1 .1 .1 .0, s .pre .forLive)))
+    sym (length-take-le _ _ (omega (arith, q .0, m, n, o .ensures .0, v .kept .1 .1 .1 .1 .1 .1 .0, s .pre .forLive)))
 
 fit-requires : tie.Need-fit-requires
-fit-requires c κs =
-    let s = c .before .before .before .before .before .before .before .before .before .before .before .before .before .before .before
-    .before .before .before .before .before .before .before .before .before .before in
-    let a = s .args in
-    let o = c .before .before .before .before .before .before .before .before .before .before .before .before .before .before .before
-    .chain-order in
-    let v = c .before .before .before .before .before .before .before .before .live-of in
+fit-requires c κs = search needs
+
+cast-result : tie.Need-cast-result
+cast-result c =
+    let a = c .before .before .before .before .before .before .before .before .before .before .before .before .before .before .before .before .before .before .before .before .before .before .before .before .before .before .before .before .args in
+    let o = c .before .before .before .before .before .before .before .before .before .before .before .before .before .before .before .before .before .before .chain-order in
+    let v = c .before .before .before .before .before .before .before .before .before .before .before .live-of in
     let q = rw (collected-part (a .order .now) (chainOf (a .words .now) (a .first)) _ (o .result) (o .ensures .1) (o .ensures .0)) at
     (v .ensures) in
     let m = live-most (defAt (a .words .now) (a .bytes .now)) (a .base .now) (chainOf (a .words .now) (a .first)) in
-    let n = chain-most (a .words .now) (a .first) in
-    omega (
-      arith,
-      m,
-      n,
-      count-most (a .words .now),
-      ap length (collected-part (a .live .now)
-          (liveNumbers (defAt (a .words .now) (a .bytes .now)) (a .base .now) (chainOf (a .words .now) (a .first))) _ (v .result) (q .1)
-          (q .0)),
-    )
+    omega (arith, q .0, m, chain-most (a .words .now) (a .first), count-most (a .words .now))
 
 same-length : tie.Need-same-length
 same-length c = search needs
@@ -123,7 +114,7 @@ returns c =
     let e = collected-part (a .live .now) (liveNumbers (defAt (a .words .now) (a .bytes .now)) (a .base .now)
     (chainOf (a .words .now) (a .first))) _ (v .result) (q .1) (q .0) in
     let f = c .before .before .fit in
-    (f .ensures .0 ∙ ap length e, f .ensures .1 ∙ ap (fitted (a .list .now)) e)
+    (q .0, f .ensures ∙ ap (fitted (a .list .now)) e)
 
 pub live-list-by-spec : {M : Type 1} → statement M
 live-list-by-spec =
@@ -136,6 +127,7 @@ live-list-by-spec =
     slice-reshare-prefix-fit
     slice-aggregate-fit
     fit-requires
+    cast-result
     same-length
     same-length-2
     same-length-3

@@ -2,6 +2,7 @@
 use mathlib.Core.Path.{refl}
 use native.Mathlib.Omega.{arith}
 use Rattle.log.specs.meaning.Record.{logCount}
+use Rattle.queries.specs.machine.Table.{leastHeads}
 use Rattle.queries.proofs.Table.{room-zeros}
 use borrow.Author.Needs.{needs}
 use Rattle.queries.proofs.live.live_list_least.Statement.{statement}
@@ -20,7 +21,7 @@ slice-aggregate-live-list-by-4 : tie.Need-slice-aggregate-live-list-by-4
 slice-aggregate-live-list-by-4 c = search needs
 
 live-list-by-requires : tie.Need-live-list-by-requires
-live-list-by-requires c κs = room-zeros 1024 (logCount
+live-list-by-requires c κs = room-zeros leastHeads (logCount
     (c .before .before .before .before .before .before .before .before .before .args .words .now)) _ _ _ _ refl refl refl refl (omega arith)
     (omega arith) (c .before .before .before .before .before .before .before .before .before .pre)
 
