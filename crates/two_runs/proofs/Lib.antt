@@ -6,3 +6,4 @@ pub mod Pair
 pub mod Defined
 pub mod TwoRuns
 pub mod WholeRuns
+pub mod RunsMet

@@ -1,2 +1,3 @@
 -- Examples, computed by the checker.
 pub mod TwoRunsExample
+pub mod RunsExample

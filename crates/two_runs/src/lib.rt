@@ -1,2 +1,2 @@
-// Demand 3, the theorem about two whole runs: no code; specs/TwoRuns and specs/WholeRuns say it, and
-// proofs/WholeRuns has it.
+// Demand 3, the theorem about two whole runs: no code. TwoRuns and WholeRuns of specs/meaning say it,
+// proofs/WholeRuns has it, and proofs/RunsMet has two runs that meet its premises.

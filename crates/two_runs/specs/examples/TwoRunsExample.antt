@@ -1,5 +1,6 @@
 -- An instance of demand 3's premises that is not the easy one: the two stand in a node that a reference reopened, before a node of the same
--- path is made, the new subnode has a labelled node and a property in it, and a later deletion and re-creation follow.
+-- path is made, the new subnode has a labelled node and a property in it, and a later deletion and re-creation follow. And one where the
+-- two stand in a body that is not lowered.
 use Prim.Native.Nat.{ℕ}
 use mathlib.Core.Bool.{true, false}
 use mathlib.Core.Path.{_≡_, refl}
@@ -23,24 +24,33 @@ use Rattle.items.specs.meaning.Unbind.{without, unbind}
 use Rattle.items.specs.meaning.Lower.{lowered, lowerItem, lowerItems, lowerNode, lowerProperty, lowerDirective, lowerDeleteNode, deleteNode}
 use Rattle.items.specs.meaning.Lower.{placeOf, opened, labelTexts}
 use Rattle.two_runs.specs.meaning.TwoRuns.{plainName, quietDirective, quiet, quietIn, Names, Pair, Inserted, here, after, within}
+use Rattle.two_runs.specs.meaning.TwoRuns.{unlowered}
 use Rattle.input.specs.meaning.GoodName.{goodNames, goodNamesIn}
 use Rattle.lowering.specs.examples.Example.{span, part}
 
+-- what lowering makes of a description, with all that it computes through: the examples unfold this one
+unfoldable pub computedState : Trees → State
+unfolding lowered lowerItem lowerItems lowerNode lowerProperty lowerDirective lowerDeleteNode deleteNode placeOf opened labelTexts define
+    bind emit unbind without labelsOf nameOrMacro fullName nodeNameSpan propertyNameSpan firstOf has join same isEmpty lowerPhandle resolve
+    firstBinding lowerValues live isLive gone atOrUnder strip begins startsWith any setsOverlay
+computedState items = lowered items
+
 -- a node of this name and label with these items
-abbrev nodeNamed : ℕ → Trees → Trees → Tree
+abbrev pub nodeNamed : ℕ → Trees → Trees → Tree
 nodeNamed name labels items = tree 1 [] 0 (span 20 30) (part 5 (name ∷ []) 20 21 empty labels) items
 
 -- the deletion of a node by name
-abbrev deletionOf : ℕ → Tree
+abbrev pub deletionOf : ℕ → Tree
 deletionOf name = tree 3 [] 4 (span 40 50) (part 5 (name ∷ []) 45 46 empty empty) empty
 
--- l: c { p; }, in a new node b, and the deletion of b
+-- l: c { p; } in a new node b, with a deletion of p in it that has a reference beside the name; and the deletion of b
 abbrev pub subnode : Tree
 subnode =
     nodeNamed 98 empty
     (more
     (nodeNamed 99 (part 7 [] 20 21 (part 5 (108 ∷ []) 20 21 empty empty) empty)
-    (more (tree 2 [] 0 (span 24 26) (part 5 (112 ∷ []) 24 25 empty empty) empty) empty))
+    (more (tree 2 [] 0 (span 24 26) (part 5 (112 ∷ []) 24 25 empty empty) empty)
+    (more (tree 3 [] 5 (span 26 28) (part 5 (112 ∷ []) 26 27 empty (part 8 (108 ∷ []) 27 28 empty empty)) empty) empty)))
     empty)
 
 abbrev pub deletion : Tree
@@ -69,9 +79,7 @@ before = opened (47 ∷ 120 ∷ []) (part 8 (120 ∷ []) 10 12 empty empty) (spa
     (more (nodeNamed 120 (part 7 [] 3 5 (part 5 (120 ∷ []) 3 4 empty empty) empty) empty) empty)) [] start))
 
 pair : Pair newPath (47 ∷ 120 ∷ []) before subnode deletion
-unfolding lowered lowerItem lowerItems lowerNode lowerProperty lowerDirective lowerDeleteNode deleteNode placeOf opened labelTexts define
-    bind emit unbind without labelsOf nameOrMacro fullName nodeNameSpan propertyNameSpan firstOf has join same isEmpty lowerPhandle resolve
-    firstBinding lowerValues live isLive gone atOrUnder strip begins startsWith any setsOverlay quiet quietIn plainName quietDirective
+unfolding computedState quiet quietIn plainName quietDirective
 pair =
     record {
       inBody = refl;
@@ -88,11 +96,15 @@ pair =
     }
 
 pub inserted : Inserted newPath [] start (whole rest) (whole (more subnode (more deletion rest)))
-unfolding lowered lowerItem lowerItems lowerNode lowerProperty lowerDirective lowerDeleteNode deleteNode placeOf opened labelTexts define
-    bind emit unbind without labelsOf nameOrMacro fullName nodeNameSpan propertyNameSpan firstOf has join same isEmpty lowerPhandle resolve
-    firstBinding lowerValues live isLive gone atOrUnder strip begins startsWith any setsOverlay
+unfolding computedState
 inserted = after (within {p = 47 ∷ 120 ∷ []} refl (here pair))
 
 pub good : goodNamesIn (whole (more subnode (more deletion rest))) ≡ true
 unfolding goodNames goodNamesIn any
 good = refl
+
+-- the two in a body that is not lowered: a node with a name at the top, code 5
+pub inserted-nowhere : Inserted newPath [] start (more (nodeNamed 120 empty empty) empty)
+    (more (nodeNamed 120 empty (more subnode (more deletion empty))) empty)
+unfolding computedState
+inserted-nowhere = unlowered refl
