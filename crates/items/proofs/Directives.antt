@@ -31,7 +31,8 @@ use Rattle.input.specs.meaning.Phandle.{lowerPhandle}
 use Rattle.resolving.specs.meaning.Resolve.{Resolution, reaches, missing, firstBinding, resolve, unresolved}
 use Rattle.input.specs.meaning.Input.{textAt, spanAt, childAt, numberAt, chainAt, recordAt}
 use Rattle.items.specs.meaning.Lower.{bare, deleteNode, deleteResolved, deleteTarget, deleteReferenced, deleteNamed, lowerDeleteNode}
-use Rattle.items.specs.meaning.Lower.{deletePropertyNamed, lowerDirective}
+use Rattle.items.specs.meaning.Lower.{deletePropertyNamed, lowerDirective, versionDirective, pluginDirective, includeDirective}
+use Rattle.items.specs.meaning.Lower.{deleteNodeDirective, deletePropertyDirective}
 use Rattle.resolving.specs.machine.Lowers.{Lowers, LowersAt}
 use Rattle.input.specs.machine.Read.{optional, FirstOf}
 use Rattle.input.specs.machine.NameRead.{nameRead, nameText, isThere, fullRead, FullNameRead}
@@ -260,42 +261,42 @@ module _ {parent : PathAt} {c d : LowerCtx} {out bytes w b : List ℕ} (words te
       (spanAt words r) s)
   defines value e f = rw (← q, ← m) (under-as e (steps-under (λ p s. define (bare p value at) s) (λ p. define-grows _) f))
 
-  pub is-version : v ≡ 1 → Steps c d out bytes w b (define (bare (pathIn (c .bytes) bytes parent) version at))
+  pub is-version : v ≡ versionDirective → Steps c d out bytes w b (define (bare (pathIn (c .bytes) bytes parent) version at))
       → LowersAt parent c d out bytes w b (λ p s. lowerDirective (numberAt words r) p (chainAt words text (childAt words r))
       (spanAt words r) s)
   unfolding lowerDirective
   is-version e f = defines version (λ p s. rw e refl) f
 
-  pub is-plugin : v ≡ 2 → Steps c d out bytes w b (define (bare (pathIn (c .bytes) bytes parent) plugin at))
+  pub is-plugin : v ≡ pluginDirective → Steps c d out bytes w b (define (bare (pathIn (c .bytes) bytes parent) plugin at))
       → LowersAt parent c d out bytes w b (λ p s. lowerDirective (numberAt words r) p (chainAt words text (childAt words r))
       (spanAt words r) s)
   unfolding lowerDirective
   is-plugin e f = defines plugin (λ p s. rw e refl) f
 
-  pub is-include : {t : List ℕ} → v ≡ 3 → t ≡ [] → Steps c d out bytes w b (emit (report 2 t at ∷ []))
+  pub is-include : {t : List ℕ} → v ≡ includeDirective → t ≡ [] → Steps c d out bytes w b (emit (report 2 t at ∷ []))
       → LowersAt parent c d out bytes w b (λ p s. lowerDirective (numberAt words r) p (chainAt words text (childAt words r))
       (spanAt words r) s)
   unfolding lowerDirective
   is-include {t} e x f = rw (← q, ← m) (under-as (λ p s. rw (e, ← x) refl) (lowers-under (steps-lower (emit-grows (report 2 t at ∷ [])) f)))
 
-  pub is-delete-node : {parts : ℕ} → v ≡ 4 → parts ≡ childAt words r
+  pub is-delete-node : {parts : ℕ} → v ≡ deleteNodeDirective → parts ≡ childAt words r
       → LowersAt parent c d out bytes w b (λ p s. lowerDeleteNode p (chainAt words text parts) at s)
       → LowersAt parent c d out bytes w b (λ p s. lowerDirective (numberAt words r) p (chainAt words text (childAt words r))
       (spanAt words r) s)
   unfolding lowerDirective
   is-delete-node e x f = rw (← q, ← m, ← x) (under-as (λ p s. rw e refl) f)
 
-  pub is-delete-property : {parts : ℕ} → v ≡ 5 → parts ≡ childAt words r
+  pub is-delete-property : {parts : ℕ} → v ≡ deletePropertyDirective → parts ≡ childAt words r
       → LowersAt parent c d out bytes w b (λ p s. deletePropertyNamed p at (firstOf nameKind (chainAt words text parts)) s)
       → LowersAt parent c d out bytes w b (λ p s. lowerDirective (numberAt words r) p (chainAt words text (childAt words r))
       (spanAt words r) s)
   unfolding lowerDirective
   is-delete-property e x f = rw (← q, ← m, ← x) (under-as (λ p s. rw e refl) f)
 
-pub is-other : {parent : PathAt} {c : LowerCtx} {out bytes : List ℕ} (words text : List ℕ) (r v : ℕ) → v ≡ numberAt words r → (v ≡ 1 → ⊥)
-    → (v ≡ 2 → ⊥) → (v ≡ 3 → ⊥) → (v ≡ 4 → ⊥) → (v ≡ 5 → ⊥)
+pub is-other : {parent : PathAt} {c : LowerCtx} {out bytes : List ℕ} (words text : List ℕ) (r v : ℕ) → v ≡ numberAt words r → (v ≡ versionDirective → ⊥)
+    → (v ≡ pluginDirective → ⊥) → (v ≡ includeDirective → ⊥) → (v ≡ deleteNodeDirective → ⊥) → (v ≡ deletePropertyDirective → ⊥)
     → LowersAt parent c c out bytes out bytes (λ p s. lowerDirective (numberAt words r) p (chainAt words text (childAt words r))
     (spanAt words r) s)
 unfolding lowerDirective
 is-other words text r v q n₁ n₂ n₃ n₄ n₅ =
-    idle-under (λ p s. rw (← q) (simp (ne-eqb v 1 n₁, ne-eqb v 2 n₂, ne-eqb v 3 n₃, ne-eqb v 4 n₄, ne-eqb v 5 n₅)))
+    idle-under (λ p s. rw (← q) (simp (ne-eqb v versionDirective n₁, ne-eqb v pluginDirective n₂, ne-eqb v includeDirective n₃, ne-eqb v deleteNodeDirective n₄, ne-eqb v deletePropertyDirective n₅)))

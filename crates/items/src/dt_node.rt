@@ -18,14 +18,16 @@ ghost use Rattle.input.specs.meaning.Input.{recordCount, childAt, spanAt, chain
 ghost use Rattle.input.specs.machine.Linked.{Linked};
 ghost use Rattle.resolving.specs.machine.Lowers.{Lowers};
 ghost use Rattle.input.specs.machine.NameRead.{FullNameRead};
-ghost use Rattle.items.specs.machine.NodePlaced.{Places, PlacesIn, leadsOn};
+ghost use Rattle.items.specs.machine.NodePlaced.{Places, PlacesIn, leadsOn, placedAt, placedNowhere};
 ghost use Rattle.items.specs.machine.NodeLowered.{Settles};
 ghost use Rattle.input.specs.machine.PhandleRead.{labelAt, pathAt, phandleRead};
 use crate::dt_property::is_top;
+use crate::open_node::Opened;
 use crate::open_node::define_below;
 use crate::open_node::define_leading;
 use crate::open_node::define_there;
 use crate::open_node::open_node;
+use crate::report::NO_SPAN;
 use crate::report::emit_name;
 use crate::report::undefined_macro;
 use input::kinds::REFERENCE;
@@ -42,7 +44,6 @@ use input::record::child_at;
 use input::record::first_of;
 use input::record::has_kind;
 use input::record::span_at;
-use log::parts::Span;
 use log::parts::TargetKind;
 use making::ctx::LowerCtx;
 use making::place::PathAt;
@@ -114,17 +115,8 @@ fn place_by_reference(
 {
     let read = lower_phandle(words, text, reference);
     match read {
-        PhandleRead::Macro(m) => {
-            let told = undefined_macro(words, text, m, out, bytes, ctx);
-            PlacedNode {
-                node: NodePlace::Nowhere,
-                ctx: told,
-            }
-        }
-        PhandleRead::Unreadable => PlacedNode {
-            node: NodePlace::Nowhere,
-            ctx: ctx,
-        },
+        PhandleRead::Macro(m) => placed_nowhere(undefined_macro(words, text, m, out, bytes, ctx)),
+        PhandleRead::Unreadable => placed_nowhere(ctx),
         PhandleRead::Label => {
             let kind = TargetKind::Label;
             place_resolved(words, text, r, reference, read, kind, out, bytes, ctx)
@@ -169,13 +161,7 @@ fn place_resolved(
     let leads = resolve_phandle(words, text, reference, read, out, bytes, binds, defs);
     if leads_on(leads) {
         let made = define_leading(words, text, r, reference, leads, out, bytes, ctx);
-        let node = open_node(words, text, child_at(words, r), out, bytes, made);
-        let place = node.place;
-        let labelled = node.ctx;
-        return PlacedNode {
-            node: NodePlace::At(place),
-            ctx: labelled,
-        };
+        return placed_at(open_node(words, text, child_at(words, r), out, bytes, made));
     }
     let keeps = sets_overlay_in(out, defs);
     let label = phandle_label_at(words, text, reference);
@@ -260,18 +246,9 @@ fn place_below(
         (spanAt (now (words .entry)) r)) []) v) ⌝ }
 {
     if is_top(parent) {
-        return PlacedNode {
-            node: NodePlace::Nowhere,
-            ctx: refuse_node(words, r, SUBNODE_OUTSIDE, out, bytes, ctx),
-        };
+        return placed_nowhere(refuse_node(words, r, SUBNODE_OUTSIDE, out, bytes, ctx));
     }
-    let node = define_below(words, text, r, full, parent, out, bytes, ctx);
-    let place = node.place;
-    let labelled = node.ctx;
-    PlacedNode {
-        node: NodePlace::At(place),
-        ctx: labelled,
-    }
+    placed_at(define_below(words, text, r, full, parent, out, bytes, ctx))
 }
 
 // A node with a slash: the root, on top.
@@ -292,18 +269,31 @@ fn place_root(
         (chainAt (now (words .entry)) (now (text .entry)) (childAt (now (words .entry)) r)) (spanAt (now (words .entry)) r)) []) v ⌝ }
 {
     if !is_top(parent) {
-        return PlacedNode {
-            node: NodePlace::Nowhere,
-            ctx: refuse_node(words, r, ROOT_INSIDE, out, bytes, ctx),
-        };
+        return placed_nowhere(refuse_node(words, r, ROOT_INSIDE, out, bytes, ctx));
     }
     let root = [b'/'];
-    let node = define_there(words, text, r, &root, out, bytes, ctx);
+    placed_at(define_there(words, text, r, &root, out, bytes, ctx))
+}
+
+// A node that is opened.
+fn placed_at(node: Opened) -> PlacedNode
+    ensures { λ v. ⌜ v ≡ placedAt node ⌝ }
+{
     let place = node.place;
     let labelled = node.ctx;
     PlacedNode {
         node: NodePlace::At(place),
         ctx: labelled,
+    }
+}
+
+// A node that goes nowhere.
+fn placed_nowhere(ctx: LowerCtx) -> PlacedNode
+    ensures { λ v. ⌜ v ≡ placedNowhere ctx ⌝ }
+{
+    PlacedNode {
+        node: NodePlace::Nowhere,
+        ctx: ctx,
     }
 }
 
@@ -324,7 +314,7 @@ fn refuse_node(
 {
     let none: [u8; 0] = [];
     let span = node_name_span(words, child_at(words, r), span_at(words, r));
-    ctx.emit(out, bytes, code, &none, span, Span { from: 0, to: 0 })
+    ctx.emit(out, bytes, code, &none, span, NO_SPAN)
 }
 
 // After a body in a log of its own: kept as an extension for its reference, or dropped.

@@ -18,6 +18,12 @@ ghost use Rattle.items.specs.meaning.Lower.{deleteNode, deleteResolved, 
 ghost use Rattle.items.specs.meaning.Lower.{deletePropertyNamed, lowerDirective};
 ghost use Rattle.resolving.specs.machine.Lowers.{Lowers, LowersAt};
 ghost use Rattle.items.specs.machine.Deleting.{DeletesAt, DeletesBound, DefinesBound};
+use crate::directive::DELETE_NODE;
+use crate::directive::DELETE_PROPERTY;
+use crate::directive::INCLUDE;
+use crate::directive::PLUGIN;
+use crate::directive::VERSION;
+use crate::report::NO_SPAN;
 use crate::report::emit_name;
 use crate::report::undefined_macro;
 use crate::unbind::Base;
@@ -52,17 +58,6 @@ use resolving::resolve::first_with;
 use resolving::resolve::report_unresolved;
 use resolving::resolve::resolve_phandle;
 
-// The W of directives, by 01's numbers.
-const VERSION: u32 = 1;
-
-const PLUGIN: u32 = 2;
-
-const INCLUDE: u32 = 3;
-
-const DELETE_NODE: u32 = 4;
-
-const DELETE_PROPERTY: u32 = 5;
-
 // Lowers a directive.
 pub fn handle_dts_directive(
     words: &[u32],
@@ -89,8 +84,7 @@ pub fn handle_dts_directive(
         return ctx.define_at(out, bytes, DefKind::Plugin, span, span, parent);
     }
     if kind == INCLUDE {
-        let none = log::parts::Span { from: 0, to: 0 };
-        return ctx.emit(out, bytes, codes::INCLUDE, no_text(text), span, none);
+        return ctx.emit(out, bytes, codes::INCLUDE, no_text(text), span, NO_SPAN);
     }
     let parts = child_at(words, r);
     if kind == DELETE_NODE {
@@ -236,39 +230,16 @@ fn delete_target(
 {
     let label = phandle_label_at(words, text, r);
     let path = phandle_path_at(words, text, r);
+    let at = span_at(words, r);
     let first = ctx.binds.first;
     let leads = resolve_phandle(words, text, r, read, out, bytes, first, ctx.defs.first);
     match leads {
         Resolved::Bound(_) => delete_bound(ctx, out, bytes, false, label, path, span),
         Resolved::BoundPath(_) => delete_bound(ctx, out, bytes, true, label, path, span),
         Resolved::AtPath => delete_at(ctx, out, bytes, path, span),
-        Resolved::NoLabel => report_unresolved(
-            ctx,
-            out,
-            bytes,
-            leads,
-            label,
-            path,
-            span_at(words, r),
-        ),
-        Resolved::NoNode => report_unresolved(
-            ctx,
-            out,
-            bytes,
-            leads,
-            label,
-            path,
-            span_at(words, r),
-        ),
-        Resolved::NoNodeBelow(_) => report_unresolved(
-            ctx,
-            out,
-            bytes,
-            leads,
-            label,
-            path,
-            span_at(words, r),
-        ),
+        Resolved::NoLabel => report_unresolved(ctx, out, bytes, leads, label, path, at),
+        Resolved::NoNode => report_unresolved(ctx, out, bytes, leads, label, path, at),
+        Resolved::NoNodeBelow(_) => report_unresolved(ctx, out, bytes, leads, label, path, at),
     }
 }
 

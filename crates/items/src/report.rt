@@ -18,6 +18,9 @@ use log::parts::Span;
 use making::ctx::LowerCtx;
 use paths_numbers::codes::MACRO_UNDEFINED;
 
+// The second span of a diagnostic that has one only.
+pub const NO_SPAN: Span = Span { from: 0, to: 0 };
+
 // Reports it.
 pub fn emit_report(
     words: &[u32],
@@ -51,14 +54,7 @@ pub fn undefined_macro(
 {
     let span = span_at(words, m);
     let name = text_at(words, text, m);
-    ctx.emit(
-        out,
-        bytes,
-        MACRO_UNDEFINED,
-        name,
-        span,
-        Span { from: 0, to: 0 },
-    )
+    ctx.emit(out, bytes, MACRO_UNDEFINED, name, span, NO_SPAN)
 }
 
 // Reports a code at a record.
@@ -75,7 +71,7 @@ pub fn emit_code(
 {
     let none: [u8; 0] = [];
     let span = span_at(words, r);
-    ctx.emit(out, bytes, code, &none, span, Span { from: 0, to: 0 })
+    ctx.emit(out, bytes, code, &none, span, NO_SPAN)
 }
 
 // Reports the macros in the places of a name and of its unit address.

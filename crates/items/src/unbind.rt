@@ -214,21 +214,9 @@ pub fn unbind_all(
     ensures { λ d. ⌜ UnbindsAll base (now (name .entry)) (now (unit .entry)) ctx d (now (out .entry)) (now (bytes .entry)) (now (out .exit))
         (now (bytes .exit)) ⌝ }
 {
-    let first = ctx.binds.first;
+    let r = ctx.binds.first;
     let most = log_count(out);
-    let all = unbind(
-        ctx,
-        out,
-        bytes,
-        base,
-        name,
-        unit,
-        false,
-        name,
-        0,
-        first,
-        most,
-    );
+    let all = unbind(ctx, out, bytes, base, name, unit, false, name, 0, r, most);
     all.ctx
 }
 
@@ -256,23 +244,11 @@ pub fn unbind_others(
     ensures { λ d. ⌜ UnbindsOthers below (now (name .entry)) (now (unit .entry)) (now (label .entry)) ctx d (now (out .entry))
         (now (bytes .entry)) (now (out .exit)) (now (bytes .exit)) ⌝ }
 {
-    let first = ctx.binds.first;
-    let found = first_with(out, bytes, first, label);
+    let r = ctx.binds.first;
+    let found = first_with(out, bytes, r, label);
     let most = log_count(out);
     let base = bound_base(below, found.number);
-    let up = unbind(
-        ctx,
-        out,
-        bytes,
-        base,
-        name,
-        unit,
-        true,
-        label,
-        0,
-        first,
-        most,
-    );
+    let up = unbind(ctx, out, bytes, base, name, unit, true, label, 0, r, most);
     let here = up.next;
     let left = up.left;
     if left == 0 {

@@ -24,6 +24,7 @@ use Rattle.resolving.specs.declared.resolve.Resolved.the-variants as R
 use Rattle.items.specs.declared.dt_node.NodePlace.{NodePlace}
 use Rattle.items.specs.declared.dt_node.NodePlace.the-variants as N
 use Rattle.items.specs.declared.dt_node.PlacedNode.{PlacedNode}
+use Rattle.items.specs.declared.open_node.Opened.{Opened}
 
 -- a log that said s: what is reported is made, and a node that goes to a path is opened there
 abbrev pub PlacedTo : Context → List ℕ → List ℕ → List ℕ → List ℕ → Trees → Span → State → LowerCtx → Placed → NodePlace → Type 0
@@ -35,6 +36,13 @@ PlacedTo k w b input text parts span s d l (N.Aside r kind keeps) =
     × Represents k d w b (emit (l .reports) s)
 PlacedTo k w b input text parts span s d l N.Discarded = (l .place ≡ discarded) × Represents k d w b (emit (l .reports) s)
 PlacedTo k w b input text parts span s d l N.Nowhere = (l .place ≡ nowhere) × Represents k d w b (emit (l .reports) s)
+
+-- a node that is opened, and one that goes nowhere
+abbrev pub placedAt : Opened → PlacedNode
+placedAt o = record { node = N.At (o .place); ctx = o .ctx }
+
+abbrev pub placedNowhere : LowerCtx → PlacedNode
+placedNowhere c = record { node = N.Nowhere; ctx = c }
 
 -- from state c, under a path, of which it is known whether it is the empty one
 pub record Places (parent : PathAt) (c : LowerCtx) (words bytes w b input text : List ℕ) (parts : Trees) (span : Span) (l : List ℕ → Placed)

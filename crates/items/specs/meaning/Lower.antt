@@ -156,14 +156,30 @@ abbrev pub deletePropertyNamed : List ℕ → Span → Option Tree → State →
 deletePropertyNamed parent span (some n) s = define (bare (join parent (textOf n)) deletedProperty span) s
 deletePropertyNamed parent span none s = s
 
--- directives by 01's numbers: version, plugin, include (code 2), delete node, delete property; any other does nothing
+-- directives by 01's numbers, their W
+abbrev pub versionDirective : ℕ
+versionDirective = 1
+
+abbrev pub pluginDirective : ℕ
+pluginDirective = 2
+
+abbrev pub includeDirective : ℕ
+includeDirective = 3
+
+abbrev pub deleteNodeDirective : ℕ
+deleteNodeDirective = 4
+
+abbrev pub deletePropertyDirective : ℕ
+deletePropertyDirective = 5
+
+-- a directive by its W: an include has code 2, any other but these five does nothing
 unfoldable pub lowerDirective : ℕ → List ℕ → Trees → Span → State → State
 lowerDirective w parent parts span s =
-    cond (eqb w 1) (define (bare parent version span) s)
-    (cond (eqb w 2) (define (bare parent plugin span) s)
-    (cond (eqb w 3) (emit (report include [] span ∷ []) s)
-    (cond (eqb w 4) (lowerDeleteNode parent parts span s)
-    (cond (eqb w 5) (deletePropertyNamed parent span (firstOf nameKind parts) s)
+    cond (eqb w versionDirective) (define (bare parent version span) s)
+    (cond (eqb w pluginDirective) (define (bare parent plugin span) s)
+    (cond (eqb w includeDirective) (emit (report include [] span ∷ []) s)
+    (cond (eqb w deleteNodeDirective) (lowerDeleteNode parent parts span s)
+    (cond (eqb w deletePropertyDirective) (deletePropertyNamed parent span (firstOf nameKind parts) s)
     s))))
 
 -- an item of this kind, W, span, parts and second chain, with a way to lower the second chain as a body

@@ -16,8 +16,14 @@ enum-known-read c = search needs
 undefined-macro-requires : tie.Need-undefined-macro-requires
 undefined-macro-requires c κs = search needs
 
+placed-nowhere-requires : tie.Need-placed-nowhere-requires
+placed-nowhere-requires c κs = search needs
+
 enum-told : tie.Need-enum-told
 enum-told c = search needs
+
+placed-nowhere-requires-2 : tie.Need-placed-nowhere-requires-2
+placed-nowhere-requires-2 c κs = search needs
 
 enum-told-2 : tie.Need-enum-told-2
 enum-told-2 c = search needs
@@ -58,24 +64,24 @@ same-length-2 c = search needs
 returns : tie.Need-returns
 unfolding phandleRead
 returns c =
-    let a = c .before .before .before .before .before .before .before .before .before .before .before .before .before .before .before .args
+    let a = c .before .before .before .before .before .before .before .before .before .before .before .before .before .before .before .before .args
     in
     λ parent.
-    read-nowhere _ (phandleRead (a .words .now) (a .text .now) (a .reference)
-    (c .before .before .before .before .before .before .before .before .before .before .lower-phandle .result))
-    (c .before .before .before .before .before .before .before .before .before .before .lower-phandle .ensures)
-    (rw (c .before .before .before .before .before .before .before .before .read .given .1) refl)
-    (rw (c .before .before .before .before .before .before .before .before .read .given .1)
-    (c .before .before .before .before .undefined-macro .ensures))
+    rw (c .placed-nowhere .ensures) (read-nowhere _ (phandleRead (a .words .now) (a .text .now) (a .reference)
+    (c .before .before .before .before .before .before .before .before .before .before .before .lower-phandle .result))
+    (c .before .before .before .before .before .before .before .before .before .before .before .lower-phandle .ensures)
+    (rw (c .before .before .before .before .before .before .before .before .before .read .given .1) refl)
+    (rw (c .before .before .before .before .before .before .before .before .before .read .given .1)
+    (c .before .before .before .before .before .undefined-macro .ensures)))
 
 returns-2 : tie.Need-returns-2
 unfolding phandleRead
 returns-2 c =
-    let a = c .before .before .before .before .before .before .before .args in
+    let a = c .before .before .before .before .before .before .before .before .args in
     λ parent.
-    read-nowhere _ (phandleRead (a .words .now) (a .text .now) (a .reference) (c .before .before .lower-phandle .result))
-    (c .before .before .lower-phandle .ensures) (rw (c .enum-told .given .1) refl)
-    (rw (c .enum-told .given .1) reports-none)
+    rw (c .placed-nowhere2 .ensures) (read-nowhere _ (phandleRead (a .words .now) (a .text .now) (a .reference) (c .before .before .before .lower-phandle .result))
+    (c .before .before .before .lower-phandle .ensures) (rw (c .before .enum-told .given .1) refl)
+    (rw (c .before .enum-told .given .1) reports-none))
 
 same-length-3 : tie.Need-same-length-3
 same-length-3 c = search needs
@@ -132,7 +138,9 @@ place-by-reference-spec =
     lower-phandle-requires
     enum-known-read
     undefined-macro-requires
+    placed-nowhere-requires
     enum-told
+    placed-nowhere-requires-2
     enum-told-2
     place-resolved-requires
     enum-told-3

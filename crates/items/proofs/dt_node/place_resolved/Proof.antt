@@ -27,6 +27,9 @@ open-node-requires c
           (c .before .before .child-at .ensures),
     )
 
+placed-at-requires : tie.Need-placed-at-requires
+placed-at-requires c κs = search needs
+
 same-length : tie.Need-same-length
 same-length c = search needs
 
@@ -35,23 +38,18 @@ same-length-2 c = search needs
 
 returns : tie.Need-returns
 returns c =
-    let s = c .before .before .before .before .before .before .before .before .before .before .before .before .before .before .before
-    .before .before .before .before .before .before .before .before .before .before .before in
+    let s = c .before .before .before .before .before .before .before .before .before .before .before .before .before .before .before .before .before .before .before .before .before .before .before .before .before in
     let a = s .args in
-    let f = c .before .before .before .before .before .before .before .before .before .before .before .before .before .before .before
-    .before .before .before .before .resolve-phandle .ensures in
+    let f = c .before .before .before .before .before .before .before .before .before .before .before .before .before .before .before .before .before .before .resolve-phandle .ensures in
     λ parent.
-    place-found (a .ctx) (a .out .now) (a .bytes .now) _ _ _
-    (c .before .before .before .before .before .before .before .before .before .before .before .before .before .before .before .before
-    .before .before .before .resolve-phandle .result) (f .1) (f .0 _ (s .pre .1 .1)) _
-    (sym (c .before .before .before .before .before .before .before .before .before .before .before .before .before .before .before
-    .before .before .before .leads-on .ensures)
-    ∙ c .before .before .before .before .before .before .before .before .before .before .before .before .before .before .before .before
-    .before .if1 .taken)
-    (c .before .before .before .before .before .before .before .before .before .before .before .before .before .before .define-leading
+    rw (c .placed-at .ensures) (place-found (a .ctx) (a .out .now) (a .bytes .now) _ _ _
+    (c .before .before .before .before .before .before .before .before .before .before .before .before .before .before .before .before .before .before .resolve-phandle .result) (f .1) (f .0 _ (s .pre .1 .1)) _
+    (sym (c .before .before .before .before .before .before .before .before .before .before .before .before .before .before .before .before .before .leads-on .ensures)
+    ∙ c .before .before .before .before .before .before .before .before .before .before .before .before .before .before .before .before .if1 .taken)
+    (c .before .before .before .before .before .before .before .before .before .before .before .before .before .define-leading
     .ensures)
-    (rw (c .before .before .before .before .before .before .before .before .before .child-at .ensures) at
-    (c .before .before .before .before .before .before .open-node .ensures))
+    (rw (c .before .before .before .before .before .before .before .before .child-at .ensures) at
+    (c .before .before .before .before .before .open-node .ensures)))
 
 sets-overlay-in-requires : tie.Need-sets-overlay-in-requires
 sets-overlay-in-requires c κs = search needs
@@ -104,6 +102,7 @@ place-resolved-spec =
     define-leading-requires
     child-at-requires
     open-node-requires
+    placed-at-requires
     same-length
     same-length-2
     returns

@@ -45,17 +45,11 @@ report-unresolved-requires c κs = search needs
 enum-told-5 : tie.Need-enum-told-5
 enum-told-5 c = search needs
 
-span-at-requires-2 : tie.Need-span-at-requires-2
-span-at-requires-2 c κs = search needs
-
 report-unresolved-requires-2 : tie.Need-report-unresolved-requires-2
 report-unresolved-requires-2 c κs = search needs
 
 enum-told-6 : tie.Need-enum-told-6
 enum-told-6 c = search needs
-
-span-at-requires-3 : tie.Need-span-at-requires-3
-span-at-requires-3 c κs = search needs
 
 report-unresolved-requires-3 : tie.Need-report-unresolved-requires-3
 report-unresolved-requires-3 c κs = search needs
@@ -68,17 +62,15 @@ same-length-2 c = search needs
 
 returns : tie.Need-returns
 returns c =
-    let a = c .before .before .before .before .before .before .before .before .before .before .before .before .before .before .before
-    .before .before .before .args in
+    let a = c .before .before .before .before .before .before .before .before .before .before .before .before .before .before .before .before .before .before .before .args in
     λ t e. target-bound t (recordAt (a .words .now) (a .text .now) (a .r)) (meant (a .span)) (a .ctx)
-    (c .before .before .before .before .before .before .before .before .before .before .before .before .before .before .before .before
-    .before .before .pre) (c .before .before .before .before .before .before .before .before .before .resolve-phandle .ensures .0 t e)
+    (c .before .before .before .before .before .before .before .before .before .before .before .before .before .before .before .before .before .before .before .pre) (c .before .before .before .before .before .before .before .before .before .resolve-phandle .ensures .0 t e)
     (c .before .before .before .before .before .before .before .before .before .resolve-phandle .ensures .1) _
     (c .before .before .before .before .before .before .before .enum-told .given .1)
     (rw (
-      c .before .before .before .before .before .before .before .before .before .before .before .before .before .phandle-label-at
+      c .before .before .before .before .before .before .before .before .before .before .before .before .before .before .phandle-label-at
           .ensures,
-      c .before .before .before .before .before .before .before .before .before .before .before .before .phandle-path-at .ensures,
+      c .before .before .before .before .before .before .before .before .before .before .before .before .before .phandle-path-at .ensures,
     ) at
     (c .before .before .before .before .delete-bound .ensures))
 
@@ -90,17 +82,15 @@ same-length-4 c = search needs
 
 returns-2 : tie.Need-returns-2
 returns-2 c =
-    let a = c .before .before .before .before .before .before .before .before .before .before .before .before .before .before .before
-    .before .before .before .args in
+    let a = c .before .before .before .before .before .before .before .before .before .before .before .before .before .before .before .before .before .before .before .args in
     λ t e. target-below t (recordAt (a .words .now) (a .text .now) (a .r)) (meant (a .span)) (a .ctx)
-    (c .before .before .before .before .before .before .before .before .before .before .before .before .before .before .before .before
-    .before .before .pre) (c .before .before .before .before .before .before .before .before .before .resolve-phandle .ensures .0 t e)
+    (c .before .before .before .before .before .before .before .before .before .before .before .before .before .before .before .before .before .before .before .pre) (c .before .before .before .before .before .before .before .before .before .resolve-phandle .ensures .0 t e)
     (c .before .before .before .before .before .before .before .before .before .resolve-phandle .ensures .1) _
     (c .before .before .before .before .before .before .before .enum-told2 .given .1)
     (rw (
-      c .before .before .before .before .before .before .before .before .before .before .before .before .before .phandle-label-at
+      c .before .before .before .before .before .before .before .before .before .before .before .before .before .before .phandle-label-at
           .ensures,
-      c .before .before .before .before .before .before .before .before .before .before .before .before .phandle-path-at .ensures,
+      c .before .before .before .before .before .before .before .before .before .before .before .before .before .phandle-path-at .ensures,
     ) at
     (c .before .before .before .before .delete-bound2 .ensures))
 
@@ -112,14 +102,12 @@ same-length-6 c = search needs
 
 returns-3 : tie.Need-returns-3
 returns-3 c =
-    let a = c .before .before .before .before .before .before .before .before .before .before .before .before .before .before .before
-    .before .before .before .args in
+    let a = c .before .before .before .before .before .before .before .before .before .before .before .before .before .before .before .before .before .before .before .args in
     λ t e. target-at t (recordAt (a .words .now) (a .text .now) (a .r)) (meant (a .span)) (a .ctx)
-    (c .before .before .before .before .before .before .before .before .before .before .before .before .before .before .before .before
-    .before .before .pre) (c .before .before .before .before .before .before .before .before .before .resolve-phandle .ensures .0 t e)
+    (c .before .before .before .before .before .before .before .before .before .before .before .before .before .before .before .before .before .before .before .pre) (c .before .before .before .before .before .before .before .before .before .resolve-phandle .ensures .0 t e)
     (c .before .before .before .before .before .before .before .before .before .resolve-phandle .ensures .1)
     (c .before .before .before .before .before .before .before .enum-told3 .given .1)
-    (rw (c .before .before .before .before .before .before .before .before .before .before .before .before .phandle-path-at .ensures) at
+    (rw (c .before .before .before .before .before .before .before .before .before .before .before .before .before .phandle-path-at .ensures) at
     (c .before .before .before .before .delete-at .ensures))
 
 same-length-7 : tie.Need-same-length-7
@@ -136,16 +124,16 @@ returns-4 c =
     λ t e. target-label t (recordAt (a .words .now) (a .text .now) (a .r)) (meant (a .span)) (a .ctx)
     (c .before .before .before .before .before .before .before .before .before .before .before .before .before .before .before .before
     .before .before .before .pre)
-    (c .before .before .before .before .before .before .before .before .before .before .resolve-phandle .ensures .0 t e)
-    (c .before .before .before .before .before .before .before .before .before .before .resolve-phandle .ensures .1)
-    (c .before .before .before .before .before .span-at .ensures)
+    (c .before .before .before .before .before .before .before .before .before .resolve-phandle .ensures .0 t e)
+    (c .before .before .before .before .before .before .before .before .before .resolve-phandle .ensures .1)
+    (c .before .before .before .before .before .before .before .before .before .before .before .before .span-at .ensures)
     (rw (
       c .before .before .before .before .before .before .before .before .before .before .before .before .before .before
           .phandle-label-at .ensures,
       c .before .before .before .before .before .before .before .before .before .before .before .before .before .phandle-path-at .ensures,
     )
     at (c .before .before .before .before .report-unresolved .ensures))
-    (c .before .before .before .before .before .before .before .before .enum-told4 .given .1)
+    (c .before .before .before .before .before .before .before .enum-told4 .given .1)
 
 same-length-9 : tie.Need-same-length-9
 same-length-9 c = search needs
@@ -161,16 +149,16 @@ returns-5 c =
     λ t e. target-node t (recordAt (a .words .now) (a .text .now) (a .r)) (meant (a .span)) (a .ctx)
     (c .before .before .before .before .before .before .before .before .before .before .before .before .before .before .before .before
     .before .before .before .pre)
-    (c .before .before .before .before .before .before .before .before .before .before .resolve-phandle .ensures .0 t e)
-    (c .before .before .before .before .before .before .before .before .before .before .resolve-phandle .ensures .1)
-    (c .before .before .before .before .before .span-at2 .ensures)
+    (c .before .before .before .before .before .before .before .before .before .resolve-phandle .ensures .0 t e)
+    (c .before .before .before .before .before .before .before .before .before .resolve-phandle .ensures .1)
+    (c .before .before .before .before .before .before .before .before .before .before .before .before .span-at .ensures)
     (rw (
       c .before .before .before .before .before .before .before .before .before .before .before .before .before .before
           .phandle-label-at .ensures,
       c .before .before .before .before .before .before .before .before .before .before .before .before .before .phandle-path-at .ensures,
     )
     at (c .before .before .before .before .report-unresolved2 .ensures))
-    (c .before .before .before .before .before .before .before .before .enum-told5 .given .1)
+    (c .before .before .before .before .before .before .before .enum-told5 .given .1)
 
 same-length-11 : tie.Need-same-length-11
 same-length-11 c = search needs
@@ -186,16 +174,16 @@ returns-6 c =
     λ t e. target-nowhere t (recordAt (a .words .now) (a .text .now) (a .r)) (meant (a .span)) (a .ctx)
     (c .before .before .before .before .before .before .before .before .before .before .before .before .before .before .before .before
     .before .before .before .pre)
-    (c .before .before .before .before .before .before .before .before .before .before .resolve-phandle .ensures .0 t e)
-    (c .before .before .before .before .before .before .before .before .before .before .resolve-phandle .ensures .1)
-    (c .before .before .before .before .before .span-at3 .ensures)
+    (c .before .before .before .before .before .before .before .before .before .resolve-phandle .ensures .0 t e)
+    (c .before .before .before .before .before .before .before .before .before .resolve-phandle .ensures .1)
+    (c .before .before .before .before .before .before .before .before .before .before .before .before .span-at .ensures)
     (rw (
       c .before .before .before .before .before .before .before .before .before .before .before .before .before .before
           .phandle-label-at .ensures,
       c .before .before .before .before .before .before .before .before .before .before .before .before .before .phandle-path-at .ensures,
     )
     at (c .before .before .before .before .report-unresolved3 .ensures)) _
-    (c .before .before .before .before .before .before .before .before .enum-told6 .given .1)
+    (c .before .before .before .before .before .before .before .enum-told6 .given .1)
 
 pub delete-target-spec : {M : Type 1} → statement M
 delete-target-spec =
@@ -203,6 +191,7 @@ delete-target-spec =
     (tie.spec
     phandle-label-at-requires
     phandle-path-at-requires
+    span-at-requires
     resolve-phandle-requires
     enum-told
     delete-bound-requires
@@ -211,13 +200,10 @@ delete-target-spec =
     enum-told-3
     delete-at-requires
     enum-told-4
-    span-at-requires
     report-unresolved-requires
     enum-told-5
-    span-at-requires-2
     report-unresolved-requires-2
     enum-told-6
-    span-at-requires-3
     report-unresolved-requires-3
     same-length
     same-length-2
