@@ -1,9 +1,10 @@
 /* Calls our library for the judge, under valgrind; differential/memory compiles and runs it.
  *
- * A request on standard input is a struct Request and then the slices of the call. The reply on standard output is the answer and then the same slices as
- * the call left them; the judge looks whether those that are only read are what it sent. Each slice has memory of just its length, so that valgrind sees an
- * access before it or behind it, and an empty one is null. A slice that is written holds what the judge sent, but counts as not initialised: nothing may
- * depend on it, and what the answer says is written must be. If valgrind finds anything, the program says in which call, and ends. */
+ * A request on standard input is a struct Request and then the slices of the call. The reply on standard output is the answer and then
+ * the same slices as the call left them; the judge looks whether those that are only read are what it sent. Each slice has memory of just
+ * its length, so that valgrind sees an access before it or behind it, and an empty one is null. A slice that is written holds what the
+ * judge sent, but counts as not initialised: nothing may depend on it, and what the answer says is written must be. If valgrind finds
+ * anything, the program says in which call, and ends. */
 #include <inttypes.h>
 #include <stdio.h>
 #include <stdlib.h>

@@ -1,7 +1,7 @@
 /* How much stack each call of our library takes; differential/stack compiles and runs it.
  *
- * A call runs in a thread whose stack was painted before, and what is not paint afterwards was touched; what a thread touches that does nothing is
- * taken off. Lowering is tried on deeply nested nodes, and the queries on the log that it made. */
+ * A call runs in a thread whose stack was painted before, and what is not paint afterwards was touched; what a thread touches that does
+ * nothing is taken off. Lowering is tried on deeply nested nodes, and the queries on the log that it made. */
 #include <pthread.h>
 #include <stdio.h>
 #include <stdlib.h>
@@ -68,7 +68,8 @@ static size_t touched(void *(*run)(void *))
     if (stack == NULL)
         abort();
     memset(stack, PAINT, STACK);
-    if (pthread_attr_init(&attributes) || pthread_attr_setstack(&attributes, stack, STACK) || pthread_create(&thread, &attributes, run, NULL)
+    if (pthread_attr_init(&attributes) || pthread_attr_setstack(&attributes, stack, STACK)
+        || pthread_create(&thread, &attributes, run, NULL)
         || pthread_join(thread, NULL))
         abort();
     while (left < STACK && stack[left] == PAINT)

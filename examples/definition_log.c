@@ -3,8 +3,8 @@
  *   gcc -Iinclude examples/definition_log.c target/staticlib/libdefinition_log_c.a -o target/definition_log && target/definition_log
  *
  * definition_log.expected is what it must print. Its definitions, bindings, diagnostics, live lists and histories are the Rust's answers
- * (`differential/run ask`), its counts and refusals 01's table, counted by hand. The numbers of the log's records, which 01 leaves open, are
- * not printed. */
+ * (`differential/run ask`), its counts and refusals 01's table, counted by hand. The numbers of the log's records, which 01 leaves open,
+ * are not printed. */
 #include <inttypes.h>
 #include <stdio.h>
 #include <string.h>

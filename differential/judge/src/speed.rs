@@ -43,7 +43,8 @@ const MIXES: [Mix; 4] = [
 /// Measures all and prints the tables.
 pub fn run(side: &Library) -> Result<(), String> {
     println!(
-        "\n| description | records | made, records | made, bytes | ours, µs | Rust, µs | ratio | by medians | clearing | ratio without it | rows 1 to 6 | ns for a record |"
+        "\n| description | records | made, records | made, bytes | ours, µs | Rust, µs | ratio | by medians \
+         | clearing | ratio without it | rows 1 to 6 | ns for a record |"
     );
     println!("|---|---:|---:|---:|---:|---:|---:|---:|---:|---:|---:|---:|");
     for mix in &MIXES {

@@ -18,7 +18,8 @@ use mathlib.Core.Bool.{true, false}
 use mathlib.Core.Path.{_≡_, refl}
 use mathlib.Core.List.{List, [], _∷_}
 use Rattle.paths_numbers.specs.meaning.Reference.{label, labelPath, path}
-use Rattle.log.specs.meaning.Contents.{Def, number, reference, string, cellList, bytestring, phandle, node, property, deletedNode, deletedProperty, version, plugin}
+use Rattle.log.specs.meaning.Contents.{Def, number, reference, string, cellList, bytestring, phandle}
+use Rattle.log.specs.meaning.Contents.{node, property, deletedNode, deletedProperty, version, plugin}
 use Rattle.queries.specs.meaning.Live.{live, containsNode}
 use Rattle.queries.specs.meaning.History.{history}
 use Rattle.making.specs.meaning.State.{State}
