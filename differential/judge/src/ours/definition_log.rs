@@ -11,7 +11,8 @@ struct Answer {
 // A slice is passed as its pointer and its length.
 #[rustfmt::skip]
 unsafe extern "C" {
-    fn dl_iter_live_defs_under(w: *const u32, wl: usize, b: *const u8, bl: usize, p: *const u8, pl: usize, l: *mut u32, ll: usize) -> Answer;
+    fn dl_iter_live_defs_under(w: *const u32, wl: usize, b: *const u8, bl: usize, p: *const u8, pl: usize,
+        l: *mut u32, ll: usize) -> Answer;
     fn dl_history(w: *const u32, wl: usize, b: *const u8, bl: usize, p: *const u8, pl: usize, l: *mut u32, ll: usize) -> Answer;
     fn dl_contains_node(w: *const u32, wl: usize, b: *const u8, bl: usize, p: *const u8, pl: usize) -> Answer;
     fn dl_lower(w: *const u32, wl: usize, t: *const u8, tl: usize, o: *mut u32, ol: usize, b: *mut u8, bl: usize) -> Answer;
@@ -36,7 +37,8 @@ impl Answer {
 #[rustfmt::skip]
 const QUERIES: Queries = Queries {
     live: |words, bytes, base, list| unsafe {
-        dl_iter_live_defs_under(start(words), words.len(), start(bytes), bytes.len(), start(base), base.len(), start_mut(list), list.len()).read()
+        dl_iter_live_defs_under(start(words), words.len(), start(bytes), bytes.len(), start(base), base.len(),
+            start_mut(list), list.len()).read()
     },
     history: |words, bytes, path, list| unsafe {
         dl_history(start(words), words.len(), start(bytes), bytes.len(), start(path), path.len(), start_mut(list), list.len()).read()

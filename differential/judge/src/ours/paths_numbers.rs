@@ -35,7 +35,8 @@ unsafe extern "C" {
     fn pn_strip_base(p: *const u8, pl: usize, b: *const u8, bl: usize) -> usize;
     fn pn_good_path(p: *const u8, pl: usize) -> u32;
     fn pn_path_len(p: *const u8, pl: usize, n: *const u8, nl: usize, u: *const u8, ul: usize) -> usize;
-    fn pn_build_path(p: *const u8, pl: usize, n: *const u8, nl: usize, u: *const u8, ul: usize, o: *mut u8, ol: usize, at: usize) -> Written;
+    fn pn_build_path(p: *const u8, pl: usize, n: *const u8, nl: usize, u: *const u8, ul: usize,
+        o: *mut u8, ol: usize, at: usize) -> Written;
     fn pn_is_path(this: *const u8, tl: usize, p: *const u8, pl: usize, n: *const u8, nl: usize, u: *const u8, ul: usize) -> u32;
     fn pn_lies_under_path(this: *const u8, tl: usize, p: *const u8, pl: usize, n: *const u8, nl: usize, u: *const u8, ul: usize) -> u32;
     fn pn_path_lies_under(p: *const u8, pl: usize, n: *const u8, nl: usize, u: *const u8, ul: usize, b: *const u8, bl: usize) -> u32;
