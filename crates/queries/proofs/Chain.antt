@@ -4,13 +4,14 @@ use mathlib.Core.Path.{_≡_, refl, sym, _∙_}
 use mathlib.Core.Bool.{Bool, true, false}
 use mathlib.Core.List.{List, [], _∷_, map}
 use native.Mathlib.Omega.{arith}
-use borrow.Author.Tests.{leb-true, eqb-false, ne-eqb}
-use lib.Dec.{eqb, leb}
+use borrow.Author.Tests.{eqb-false, ne-eqb}
+use lib.Dec.{eqb}
 use lib.ListN.{length}
 use Rattle.paths_numbers.proofs.Texts.{by-test, not-both}
-use Rattle.log.specs.meaning.Record.{nextOf, leads, logCount, outCount, mostRecords}
+use Rattle.log.specs.meaning.Record.{nextOf, leads, logCount, mostRecords}
 use Rattle.log.specs.meaning.ReadBack.{chainFrom, chainOf}
 use Rattle.paths_numbers.specs.meaning.Lists.{any}
+use Rattle.log.proofs.Reached.{count-most as most-records}
 use Rattle.queries.specs.machine.Pass.{goesOn}
 
 -- a chain goes on where a record is left and the link leads to one
@@ -45,11 +46,7 @@ stops words r (suc left) t =
 
 -- a log has at most 65,536 records
 pub count-most : (words : List ℕ) → logCount words ≤ mostRecords
-unfolding logCount
-count-most words =
-    by-test (leb (outCount words) mostRecords)
-    (λ t. rw t (leb-true _ _ t))
-    (λ t. rw t (omega arith))
+count-most words = most-records words
 
 -- a chain has no more records than may be left
 chain-length : (words : List ℕ) (left r : ℕ) → length (chainFrom left words r) ≤ left
