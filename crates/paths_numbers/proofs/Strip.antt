@@ -92,6 +92,14 @@ pub under-tests : (p b : List ℕ)
 unfolding atOrUnder
 under-tests p b = ap isFound (strip-case p b _ _ _ refl refl refl) ∙ found-by (begins p b) _ _ _ _ _
 
+-- where the base is "/", that the path begins with it decides
+pub root-tests : (p b : List ℕ) → same b root ≡ true → atOrUnder p b ≡ begins p b
+root-tests p b r =
+    under-tests p b
+    ∙ by-test (begins p b)
+    (λ e. by-test (eqb (length p) (length b)) (λ l. simp (e, l)) (λ l. simp (e, l, r)))
+    (λ e. simp e)
+
 -- what is then left of the path
 pub stripped-tests : (p b : List ℕ)
     → stripped p b ≡ cond (atOrUnder p b) (cond (eqb (length p) (length b)) [] (cond (same b root) p (drop (length b) p))) []

@@ -11,14 +11,14 @@ use crate::text::starts_with;
 pub fn lies_under(this: &[u8], base: &[u8]) -> bool
     ensures { λ r. ⌜ r ≡ atOrUnder (now (this .entry)) (now (base .entry)) ⌝ }
 {
+    if is_root(base) {
+        return starts_with(this, base);
+    }
     if !starts_with(this, base) {
         return false;
     }
     let n = base.len();
     if this.len() == n {
-        return true;
-    }
-    if is_root(base) {
         return true;
     }
     this[n] == b'/'

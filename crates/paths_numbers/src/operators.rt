@@ -19,6 +19,13 @@ pub enum Evaluated {
     Missing,
 }
 
+// The infix operators that evaluate only what they need, by 01's numbers: && || ?:
+pub const AND: u32 = 11;
+
+pub const OR: u32 = 12;
+
+pub const CONDITIONAL: u32 = 19;
+
 // The lowest value.
 const LEAST: i64 = -9223372036854775808;
 
@@ -85,8 +92,8 @@ fn eval_relation(op: u32, a: i64, b: i64) -> Evaluated
     ensures { λ r. ⌜ r ≡ evalRelation op a b ⌝ }
 {
     match op {
-        11 => Evaluated::Value((is_true(a) & is_true(b)) as i64),
-        12 => Evaluated::Value((is_true(a) | is_true(b)) as i64),
+        AND => Evaluated::Value((is_true(a) & is_true(b)) as i64),
+        OR => Evaluated::Value((is_true(a) | is_true(b)) as i64),
         13 => Evaluated::Value((a < b) as i64),
         14 => Evaluated::Value((b < a) as i64),
         15 => Evaluated::Value((a <= b) as i64),

@@ -83,11 +83,21 @@ evalPrefix op a =
     (cond (eqb op 4) (Value (ofTruth (not (isTrue a))))
     Missing)))
 
+-- the numbers of the infix operators that "evaluate only what they need": && || ?:
+abbrev pub andOp : ℕ
+andOp = 11
+
+abbrev pub orOp : ℕ
+orOp = 12
+
+abbrev pub conditionalOp : ℕ
+conditionalOp = 19
+
 -- the infix operators by 01's numbers whose result is a truth: && || < > <= >= == !=
 unfoldable pub evalRelation : ℕ → ℤ → ℤ → Evaluated
 evalRelation op a b =
-    cond (eqb op 11) (Value (ofTruth (cond (isTrue a) (isTrue b) false)))
-    (cond (eqb op 12) (Value (ofTruth (cond (isTrue a) true (isTrue b))))
+    cond (eqb op andOp) (Value (ofTruth (cond (isTrue a) (isTrue b) false)))
+    (cond (eqb op orOp) (Value (ofTruth (cond (isTrue a) true (isTrue b))))
     (cond (eqb op 13) (Value (ofTruth (ltZ a b)))
     (cond (eqb op 14) (Value (ofTruth (ltZ b a)))
     (cond (eqb op 15) (Value (ofTruth (leZ a b)))
