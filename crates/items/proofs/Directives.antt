@@ -293,10 +293,18 @@ module _ {parent : PathAt} {c d : LowerCtx} {out bytes w b : List ℕ} (words te
   unfolding lowerDirective
   is-delete-property e x f = rw (← q, ← m, ← x) (under-as (λ p s. rw e refl) f)
 
-pub is-other : {parent : PathAt} {c : LowerCtx} {out bytes : List ℕ} (words text : List ℕ) (r v : ℕ) → v ≡ numberAt words r → (v ≡ versionDirective → ⊥)
+pub is-other : {parent : PathAt} {c : LowerCtx} {out bytes : List ℕ} (words text : List ℕ) (r v : ℕ) → v ≡ numberAt words r
+    → (v ≡ versionDirective → ⊥)
     → (v ≡ pluginDirective → ⊥) → (v ≡ includeDirective → ⊥) → (v ≡ deleteNodeDirective → ⊥) → (v ≡ deletePropertyDirective → ⊥)
     → LowersAt parent c c out bytes out bytes (λ p s. lowerDirective (numberAt words r) p (chainAt words text (childAt words r))
     (spanAt words r) s)
 unfolding lowerDirective
 is-other words text r v q n₁ n₂ n₃ n₄ n₅ =
-    idle-under (λ p s. rw (← q) (simp (ne-eqb v versionDirective n₁, ne-eqb v pluginDirective n₂, ne-eqb v includeDirective n₃, ne-eqb v deleteNodeDirective n₄, ne-eqb v deletePropertyDirective n₅)))
+    idle-under (λ p s. rw (← q) (simp (
+      ne-eqb v versionDirective n₁,
+      ne-eqb v pluginDirective n₂,
+      ne-eqb v includeDirective n₃,
+      ne-eqb v
+          deleteNodeDirective n₄,
+      ne-eqb v deletePropertyDirective n₅,
+    )))

@@ -1,4 +1,5 @@
 -- Steps of the code, which contracts inside the library cite.
+pub mod AtRecord
 pub mod Labelled
 pub mod Opened
 pub mod NodePlaced

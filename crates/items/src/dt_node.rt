@@ -6,21 +6,21 @@ ghost use mathlib.Core.Option.{some};
 ghost use Prim.Native.Nat.{ℕ, _<_};
 ghost use Rattle.paths_numbers.specs.meaning.Path.{root};
 ghost use Rattle.making.specs.declared.place.PathAt.{PathAt};
-ghost use Rattle.log.specs.machine.Parts.{targetMade};
 ghost use Rattle.making.specs.meaning.State.{emit};
 ghost use Rattle.input.specs.meaning.Report.{report};
-ghost use Rattle.input.specs.meaning.Name.{fullName, nodeNameSpan};
+ghost use Rattle.input.specs.meaning.Name.{fullName};
 ghost use Rattle.input.specs.meaning.Phandle.{lowerPhandle};
 ghost use Rattle.resolving.specs.meaning.Resolve.{resolve};
 ghost use Rattle.items.specs.meaning.Lower.{byResolution, byTarget, placedAs, byName, placeOf};
 ghost use Rattle.input.specs.meaning.GoodName.{goodNamesIn};
-ghost use Rattle.input.specs.meaning.Input.{recordCount, childAt, spanAt, chainAt, recordAt};
+ghost use Rattle.input.specs.meaning.Input.{recordCount, childAt, spanAt, recordAt};
 ghost use Rattle.input.specs.machine.Linked.{Linked};
 ghost use Rattle.resolving.specs.machine.Lowers.{Lowers};
 ghost use Rattle.input.specs.machine.NameRead.{FullNameRead};
-ghost use Rattle.items.specs.machine.NodePlaced.{Places, PlacesIn, leadsOn, placedAt, placedNowhere};
+ghost use Rattle.items.specs.machine.NodePlaced.{PlacesAt, PlacesInAt, leadsOn, placedAt, placedNowhere};
 ghost use Rattle.items.specs.machine.NodeLowered.{Settles};
-ghost use Rattle.input.specs.machine.PhandleRead.{labelAt, pathAt, phandleRead};
+ghost use Rattle.input.specs.machine.PhandleRead.{phandleRead};
+ghost use Rattle.items.specs.machine.AtRecord.{partsAt, nodeNameAt, namedAt};
 use crate::dt_property::is_top;
 use crate::open_node::Opened;
 use crate::open_node::define_below;
@@ -81,11 +81,10 @@ pub fn place_node(
 ) -> PlacedNode
     requires { ⌜ Linked (now words) ⌝ }
     requires { ⌜ r < recordCount (now words) ⌝ }
-    requires { ⌜ goodNamesIn (chainAt (now words) (now text) (childAt (now words) r)) ≡ true ⌝ }
-    ensures { λ v. ⌜ PlacesIn parent ctx (now (out .entry)) (now (bytes .entry)) (now (out .exit)) (now (bytes .exit)) (now (words .entry))
-        (now (text .entry)) (chainAt (now (words .entry)) (now (text .entry)) (childAt (now (words .entry)) r))
-        (spanAt (now (words .entry)) r) (λ p s. placeOf p (chainAt (now (words .entry)) (now (text .entry))
-        (childAt (now (words .entry)) r)) (spanAt (now (words .entry)) r) s) v ⌝ }
+    requires { ⌜ goodNamesIn (partsAt (now words) (now text) r) ≡ true ⌝ }
+    ensures { λ v. ⌜ PlacesInAt parent ctx (now (out .entry)) (now (bytes .entry)) (now (out .exit)) (now (bytes .exit))
+        (now (words .entry)) (now (text .entry)) r (λ p s. placeOf p (partsAt (now (words .entry)) (now (text .entry)) r)
+        (spanAt (now (words .entry)) r) s) v ⌝ }
 {
     let reference = first_of(words, child_at(words, r), REFERENCE);
     if reference == 0 {
@@ -107,9 +106,9 @@ fn place_by_reference(
     requires { ⌜ Linked (now words) ⌝ }
     requires { ⌜ r < recordCount (now words) ⌝ }
     requires { ⌜ reference < recordCount (now words) ⌝ }
-    ensures { λ v. ⌜ ((parent : PathAt) → PlacesIn parent ctx (now (out .entry)) (now (bytes .entry)) (now (out .exit)) (now (bytes .exit))
-        (now (words .entry)) (now (text .entry)) (chainAt (now (words .entry)) (now (text .entry)) (childAt (now (words .entry)) r))
-        (spanAt (now (words .entry)) r) (λ p s. byTarget (recordAt (now (words .entry)) (now (text .entry)) reference)
+    ensures { λ v. ⌜ ((parent : PathAt) → PlacesInAt parent ctx (now (out .entry)) (now (bytes .entry)) (now (out .exit))
+        (now (bytes .exit)) (now (words .entry)) (now (text .entry)) r
+        (λ p s. byTarget (recordAt (now (words .entry)) (now (text .entry)) reference)
         (lowerPhandle (recordAt (now (words .entry)) (now (text .entry)) reference) .reports)
         (lowerPhandle (recordAt (now (words .entry)) (now (text .entry)) reference) .result) s) v) ⌝ }
 {
@@ -146,15 +145,12 @@ fn place_resolved(
 ) -> PlacedNode
     requires { ⌜ Linked (now words) ⌝ }
     requires { ⌜ r < recordCount (now words) ⌝ }
-    requires { ⌜ phandleRead (now words) (now text) reference read .result ≡ some
-        (targetMade kind (labelAt (now words) (now text) reference) (pathAt (now words) (now text) reference)) ⌝ }
-    ensures { λ v. ⌜ ((parent : PathAt) → PlacesIn parent ctx (now (out .entry)) (now (bytes .entry)) (now (out .exit)) (now (bytes .exit))
-        (now (words .entry)) (now (text .entry)) (chainAt (now (words .entry)) (now (text .entry)) (childAt (now (words .entry)) r))
-        (spanAt (now (words .entry)) r) (λ p s. byResolution (recordAt (now (words .entry)) (now (text .entry)) reference)
-        (targetMade kind (labelAt (now (words .entry)) (now (text .entry)) reference)
-        (pathAt (now (words .entry)) (now (text .entry)) reference)) (s .defs)
-        (resolve (targetMade kind (labelAt (now (words .entry)) (now (text .entry)) reference)
-        (pathAt (now (words .entry)) (now (text .entry)) reference)) (s .binds) (s .defs))) v) ⌝ }
+    requires { ⌜ phandleRead (now words) (now text) reference read .result ≡ some (namedAt kind (now words) (now text) reference) ⌝ }
+    ensures { λ v. ⌜ ((parent : PathAt) → PlacesInAt parent ctx (now (out .entry)) (now (bytes .entry)) (now (out .exit))
+        (now (bytes .exit)) (now (words .entry)) (now (text .entry)) r
+        (λ p s. byResolution (recordAt (now (words .entry)) (now (text .entry)) reference)
+        (namedAt kind (now (words .entry)) (now (text .entry)) reference) (s .defs)
+        (resolve (namedAt kind (now (words .entry)) (now (text .entry)) reference) (s .binds) (s .defs))) v) ⌝ }
 {
     let binds = ctx.binds.first;
     let defs = ctx.defs.first;
@@ -200,13 +196,11 @@ pub fn place_by_name(
 ) -> PlacedNode
     requires { ⌜ Linked (now words) ⌝ }
     requires { ⌜ r < recordCount (now words) ⌝ }
-    requires { ⌜ goodNamesIn (chainAt (now words) (now text) (childAt (now words) r)) ≡ true ⌝ }
-    ensures { λ v. ⌜ Places parent ctx (now (out .entry)) (now (bytes .entry)) (now (out .exit)) (now (bytes .exit)) (now (words .entry))
-        (now (text .entry)) (chainAt (now (words .entry)) (now (text .entry)) (childAt (now (words .entry)) r))
-        (spanAt (now (words .entry)) r) (λ p. byName p (chainAt (now (words .entry)) (now (text .entry)) (childAt (now (words .entry)) r))
-        (nodeNameSpan (chainAt (now (words .entry)) (now (text .entry)) (childAt (now (words .entry)) r)) (spanAt (now (words .entry)) r))
-        (fullName (chainAt (now (words .entry)) (now (text .entry)) (childAt (now (words .entry)) r)) .reports)
-        (fullName (chainAt (now (words .entry)) (now (text .entry)) (childAt (now (words .entry)) r)) .result)) v ⌝ }
+    requires { ⌜ goodNamesIn (partsAt (now words) (now text) r) ≡ true ⌝ }
+    ensures { λ v. ⌜ PlacesAt parent ctx (now (out .entry)) (now (bytes .entry)) (now (out .exit)) (now (bytes .exit)) (now (words .entry))
+        (now (text .entry)) r (λ p. byName p (partsAt (now (words .entry)) (now (text .entry)) r)
+        (nodeNameAt (now (words .entry)) (now (text .entry)) r) (fullName (partsAt (now (words .entry)) (now (text .entry)) r) .reports)
+        (fullName (partsAt (now (words .entry)) (now (text .entry)) r) .result)) v ⌝ }
 {
     let parts = child_at(words, r);
     let full = full_name(words, parts);
@@ -237,13 +231,10 @@ fn place_below(
     requires { ⌜ Linked (now words) ⌝ }
     requires { ⌜ r < recordCount (now words) ⌝ }
     requires { ⌜ FullNameRead (now words) (childAt (now words) r) full ⌝ }
-    requires { ⌜ goodNamesIn (chainAt (now words) (now text) (childAt (now words) r)) ≡ true ⌝ }
-    ensures { λ v. ⌜ ((n : List ℕ) → fullName (chainAt (now (words .entry)) (now (text .entry))
-        (childAt (now (words .entry)) r)) .result ≡ some n → Places parent ctx (now (out .entry)) (now (bytes .entry)) (now (out .exit))
-        (now (bytes .exit)) (now (words .entry)) (now (text .entry))
-        (chainAt (now (words .entry)) (now (text .entry)) (childAt (now (words .entry)) r)) (spanAt (now (words .entry)) r)
-        (λ p. placedAs p n (nodeNameSpan (chainAt (now (words .entry)) (now (text .entry)) (childAt (now (words .entry)) r))
-        (spanAt (now (words .entry)) r)) []) v) ⌝ }
+    requires { ⌜ goodNamesIn (partsAt (now words) (now text) r) ≡ true ⌝ }
+    ensures { λ v. ⌜ ((n : List ℕ) → fullName (partsAt (now (words .entry)) (now (text .entry)) r) .result ≡ some n
+        → PlacesAt parent ctx (now (out .entry)) (now (bytes .entry)) (now (out .exit)) (now (bytes .exit)) (now (words .entry))
+        (now (text .entry)) r (λ p. placedAs p n (nodeNameAt (now (words .entry)) (now (text .entry)) r) []) v) ⌝ }
 {
     if is_top(parent) {
         return placed_nowhere(refuse_node(words, r, SUBNODE_OUTSIDE, out, bytes, ctx));
@@ -263,10 +254,8 @@ fn place_root(
 ) -> PlacedNode
     requires { ⌜ Linked (now words) ⌝ }
     requires { ⌜ r < recordCount (now words) ⌝ }
-    ensures { λ v. ⌜ Places parent ctx (now (out .entry)) (now (bytes .entry)) (now (out .exit)) (now (bytes .exit)) (now (words .entry))
-        (now (text .entry)) (chainAt (now (words .entry)) (now (text .entry)) (childAt (now (words .entry)) r))
-        (spanAt (now (words .entry)) r) (λ p. placedAs p root (nodeNameSpan
-        (chainAt (now (words .entry)) (now (text .entry)) (childAt (now (words .entry)) r)) (spanAt (now (words .entry)) r)) []) v ⌝ }
+    ensures { λ v. ⌜ PlacesAt parent ctx (now (out .entry)) (now (bytes .entry)) (now (out .exit)) (now (bytes .exit)) (now (words .entry))
+        (now (text .entry)) r (λ p. placedAs p root (nodeNameAt (now (words .entry)) (now (text .entry)) r) []) v ⌝ }
 {
     if !is_top(parent) {
         return placed_nowhere(refuse_node(words, r, ROOT_INSIDE, out, bytes, ctx));
@@ -309,8 +298,7 @@ fn refuse_node(
     requires { ⌜ Linked (now words) ⌝ }
     requires { ⌜ r < recordCount (now words) ⌝ }
     ensures { λ d. ⌜ ((text : List ℕ) → Lowers ctx d (now (out .entry)) (now (bytes .entry)) (now (out .exit)) (now (bytes .exit))
-        (emit (report code [] (nodeNameSpan (chainAt (now (words .entry)) text (childAt (now (words .entry)) r))
-        (spanAt (now (words .entry)) r)) ∷ []))) ⌝ }
+        (emit (report code [] (nodeNameAt (now (words .entry)) text r) ∷ []))) ⌝ }
 {
     let none: [u8; 0] = [];
     let span = node_name_span(words, child_at(words, r), span_at(words, r));
@@ -331,8 +319,7 @@ pub fn settle_aside(
     outer: LowerCtx,
 ) -> LowerCtx
     ensures { λ d. ⌜ Settles body d outer keeps (now (out .entry)) (now (bytes .entry)) (now (out .exit)) (now (bytes .exit))
-        (targetMade kind (labelAt (now (words .entry)) (now (text .entry)) reference)
-        (pathAt (now (words .entry)) (now (text .entry)) reference)) (spanAt (now (words .entry)) r)
+        (namedAt kind (now (words .entry)) (now (text .entry)) reference) (spanAt (now (words .entry)) r)
         (spanAt (now (words .entry)) reference) ⌝ }
 {
     if keeps {

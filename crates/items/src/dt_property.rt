@@ -7,19 +7,18 @@ ghost use mathlib.Core.List.{[]};
 ghost use Rattle.paths_numbers.specs.meaning.Cell.{bitsOf};
 ghost use Rattle.paths_numbers.specs.declared.dt_property.SizeRead.the-variants.{Size};
 ghost use Rattle.log.specs.meaning.Contents.{number, reference, cellList};
-ghost use Rattle.log.specs.machine.Parts.{targetMade};
 ghost use Rattle.making.specs.meaning.State.{define};
 ghost use Rattle.input.specs.meaning.Report.{one};
 ghost use Rattle.input.specs.meaning.Property.{lowerCell, lowerCells, sizedList, lowerValue, lowerValues};
 ghost use Rattle.items.specs.meaning.Lower.{lowerProperty};
-ghost use Rattle.input.specs.meaning.Input.{childAt, secondAt, spanAt, chainAt, recordAt};
+ghost use Rattle.input.specs.meaning.Input.{childAt, spanAt, chainAt, recordAt};
 ghost use Rattle.input.specs.meaning.GoodName.{goodNamesIn};
 ghost use Rattle.input.specs.machine.Linked.{Linked, At, RecordIn, ChainIn};
-ghost use Rattle.input.specs.machine.PhandleRead.{labelAt, pathAt};
 ghost use Rattle.input.specs.machine.ValueRead.{plainMade};
 ghost use Rattle.resolving.specs.machine.Lowers.{LowersAt};
 ghost use Rattle.items.specs.machine.Filled.{FillsProperty, FillsCells};
 ghost use Rattle.items.specs.machine.PropertyMade.{isTop, propertyAt};
+ghost use Rattle.items.specs.machine.AtRecord.{partsAt, contentsAt, namedAt};
 use crate::report::emit_code;
 use crate::report::emit_name;
 use crate::report::emit_report;
@@ -60,10 +59,10 @@ pub fn lower_dt_property(
 ) -> LowerCtx
     requires { ⌜ Linked (now words) ⌝ }
     requires { ⌜ RecordIn (now words) (now text) r nesting ⌝ }
-    requires { ⌜ goodNamesIn (chainAt (now words) (now text) (childAt (now words) r)) ≡ true ⌝ }
+    requires { ⌜ goodNamesIn (partsAt (now words) (now text) r) ≡ true ⌝ }
     ensures { λ d. ⌜ LowersAt parent ctx d (now (out .entry)) (now (bytes .entry)) (now (out .exit)) (now (bytes .exit))
-        (λ p s. lowerProperty p (chainAt (now (words .entry)) (now (text .entry)) (childAt (now (words .entry)) r))
-        (chainAt (now (words .entry)) (now (text .entry)) (secondAt (now (words .entry)) r)) (spanAt (now (words .entry)) r) s) ⌝ }
+        (λ p s. lowerProperty p (partsAt (now (words .entry)) (now (text .entry)) r) (contentsAt (now (words .entry)) (now (text .entry)) r)
+        (spanAt (now (words .entry)) r) s) ⌝ }
 {
     if ctx.short {
         return ctx;
@@ -236,8 +235,7 @@ fn lower_cell_list(
     requires { ⌜ Linked (now words) ⌝ }
     requires { ⌜ RecordIn (now words) (now text) r nesting ⌝ }
     ensures { λ d. ⌜ FillsProperty keep ctx d (now (out .entry)) (now (bytes .entry)) (now (out .exit)) (now (bytes .exit))
-        (sizedList (spanAt (now (words .entry)) r) (chainAt (now (words .entry)) (now (text .entry)) (childAt (now (words .entry)) r))
-        (Size size)) ⌝ }
+        (sizedList (spanAt (now (words .entry)) r) (partsAt (now (words .entry)) (now (text .entry)) r) (Size size)) ⌝ }
 {
     let made = push_cell_list(size, keep, out, bytes, ctx);
     lower_cells(
@@ -345,8 +343,7 @@ fn push_reference(
     ctx: LowerCtx,
 ) -> LowerCtx
     ensures { λ d. ⌜ FillsCells keep ctx d (now (out .entry)) (now (bytes .entry)) (now (out .exit)) (now (bytes .exit))
-        (one (reference (targetMade kind (labelAt (now (words .entry)) (now (text .entry)) r)
-        (pathAt (now (words .entry)) (now (text .entry)) r)))) ⌝ }
+        (one (reference (namedAt kind (now (words .entry)) (now (text .entry)) r))) ⌝ }
 {
     if !keep {
         return ctx;

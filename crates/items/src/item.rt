@@ -8,7 +8,7 @@ ghost use Rattle.paths_numbers.specs.meaning.Reference.{Target};
 ghost use Rattle.log.specs.machine.Parts.{meant};
 ghost use Rattle.making.specs.meaning.State.{emit};
 ghost use Rattle.input.specs.meaning.Tree.{nameKind, firstOf};
-ghost use Rattle.input.specs.meaning.Input.{recordCount, childAt, numberAt, spanAt, chainAt, recordAt};
+ghost use Rattle.input.specs.meaning.Input.{recordCount, numberAt, spanAt, chainAt, recordAt};
 ghost use Rattle.input.specs.machine.Linked.{Linked, At};
 ghost use Rattle.input.specs.machine.Read.{optional};
 ghost use Rattle.input.specs.machine.PhandleRead.{phandleRead};
@@ -18,6 +18,7 @@ ghost use Rattle.items.specs.meaning.Lower.{deleteNode, deleteResolved, 
 ghost use Rattle.items.specs.meaning.Lower.{deletePropertyNamed, lowerDirective};
 ghost use Rattle.resolving.specs.machine.Lowers.{Lowers, LowersAt};
 ghost use Rattle.items.specs.machine.Deleting.{DeletesAt, DeletesBound, DefinesBound};
+ghost use Rattle.items.specs.machine.AtRecord.{partsAt};
 use crate::directive::DELETE_NODE;
 use crate::directive::DELETE_PROPERTY;
 use crate::directive::INCLUDE;
@@ -70,10 +71,10 @@ pub fn handle_dts_directive(
 ) -> LowerCtx
     requires { ⌜ Linked (now words) ⌝ }
     requires { ⌜ r < recordCount (now words) ⌝ }
-    requires { ⌜ goodNamesIn (chainAt (now words) (now text) (childAt (now words) r)) ≡ true ⌝ }
+    requires { ⌜ goodNamesIn (partsAt (now words) (now text) r) ≡ true ⌝ }
     ensures { λ d. ⌜ LowersAt parent ctx d (now (out .entry)) (now (bytes .entry)) (now (out .exit)) (now (bytes .exit))
-        (λ p s. lowerDirective (numberAt (now (words .entry)) r) p
-        (chainAt (now (words .entry)) (now (text .entry)) (childAt (now (words .entry)) r)) (spanAt (now (words .entry)) r) s) ⌝ }
+        (λ p s. lowerDirective (numberAt (now (words .entry)) r) p (partsAt (now (words .entry)) (now (text .entry)) r)
+        (spanAt (now (words .entry)) r) s) ⌝ }
 {
     let kind = number_at(words, r);
     let span = span_at(words, r);

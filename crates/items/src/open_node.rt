@@ -8,13 +8,14 @@ ghost use Rattle.log.specs.meaning.Contents.{node};
 ghost use Rattle.making.specs.machine.Recs.{bareValue};
 ghost use Rattle.input.specs.meaning.Tree.{has, omitKind};
 ghost use Rattle.input.specs.meaning.Name.{nameOrMacro, labelled, labelsOf};
-ghost use Rattle.input.specs.meaning.Input.{recordCount, childAt, spanAt, chainAt, recordAt};
+ghost use Rattle.input.specs.meaning.Input.{recordCount, spanAt, chainAt, recordAt};
 ghost use Rattle.input.specs.machine.Linked.{Linked, At};
 ghost use Rattle.input.specs.machine.NameRead.{nameText};
 ghost use Rattle.items.specs.machine.Labelled.{LabelsAt};
 ghost use Rattle.items.specs.machine.Opened.{Opens, OpensAt};
 ghost use Rattle.items.specs.machine.NodePlaced.{DefinesLeading};
 ghost use Rattle.input.specs.machine.PhandleRead.{labelAt, pathAt};
+ghost use Rattle.items.specs.machine.AtRecord.{partsAt};
 use crate::report::undefined_macro;
 use input::kinds::LABEL;
 use input::kinds::OMIT;
@@ -57,7 +58,7 @@ pub fn define_below(
     requires { ⌜ Linked (now words) ⌝ }
     requires { ⌜ r < recordCount (now words) ⌝ }
     ensures { λ o. ⌜ OpensAt parent ctx (now (out .entry)) (now (bytes .entry)) (now (out .exit)) (now (bytes .exit))
-        (chainAt (now (words .entry)) (now (text .entry)) (childAt (now (words .entry)) r)) (spanAt (now (words .entry)) r)
+        (partsAt (now (words .entry)) (now (text .entry)) r) (spanAt (now (words .entry)) r)
         (λ (p : List ℕ). joined p (nameText (now (words .entry)) (now (text .entry)) (full .name))
         (nameText (now (words .entry)) (now (text .entry)) (full .unit))) o ⌝ }
 {
@@ -86,8 +87,7 @@ pub fn define_there(
     requires { ⌜ Linked (now words) ⌝ }
     requires { ⌜ r < recordCount (now words) ⌝ }
     ensures { λ o. ⌜ ((parent : PathAt) → OpensAt parent ctx (now (out .entry)) (now (bytes .entry)) (now (out .exit)) (now (bytes .exit))
-        (chainAt (now (words .entry)) (now (text .entry)) (childAt (now (words .entry)) r)) (spanAt (now (words .entry)) r)
-        (λ (p : List ℕ). now (path .entry)) o) ⌝ }
+        (partsAt (now (words .entry)) (now (text .entry)) r) (spanAt (now (words .entry)) r) (λ (p : List ℕ). now (path .entry)) o) ⌝ }
 {
     let parts = child_at(words, r);
     let kind = node_kind(words, parts);
@@ -112,8 +112,7 @@ pub fn define_leading(
     requires { ⌜ r < recordCount (now words) ⌝ }
     ensures { λ d. ⌜ DefinesLeading leads (labelAt (now (words .entry)) (now (text .entry)) reference)
         (pathAt (now (words .entry)) (now (text .entry)) reference) ctx d (now (out .entry)) (now (bytes .entry)) (now (out .exit))
-        (now (bytes .exit)) (chainAt (now (words .entry)) (now (text .entry)) (childAt (now (words .entry)) r))
-        (spanAt (now (words .entry)) r) ⌝ }
+        (now (bytes .exit)) (partsAt (now (words .entry)) (now (text .entry)) r) (spanAt (now (words .entry)) r) ⌝ }
 {
     let parts = child_at(words, r);
     let kind = node_kind(words, parts);
@@ -211,7 +210,7 @@ fn lower_label(
     requires { ⌜ r < recordCount (now words) ⌝ }
     ensures { λ d. ⌜ LabelsAt place ctx d (now (out .entry)) (now (bytes .entry)) (now (out .exit)) (now (bytes .exit))
         (λ (p : List ℕ). labelled p (recordAt (now (words .entry)) (now (text .entry)) r)
-        (nameOrMacro (chainAt (now (words .entry)) (now (text .entry)) (childAt (now (words .entry)) r)))) ⌝ }
+        (nameOrMacro (partsAt (now (words .entry)) (now (text .entry)) r))) ⌝ }
 {
     match name_or_macro(words, child_at(words, r)) {
         NameOrMacro::Name(n) => {

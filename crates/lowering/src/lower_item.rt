@@ -6,11 +6,12 @@ ghost use mathlib.Core.List.{List};
 ghost use Prim.Native.Nat.{ℕ};
 ghost use Rattle.making.specs.meaning.State.{State};
 ghost use Rattle.items.specs.meaning.Lower.{lowerNode, lowerItem, lowerItems};
-ghost use Rattle.input.specs.meaning.Input.{childAt, secondAt, spanAt, chainAt, recordAt};
+ghost use Rattle.input.specs.meaning.Input.{secondAt, spanAt, chainAt, recordAt};
 ghost use Rattle.input.specs.meaning.GoodName.{goodNames, goodNamesIn};
 ghost use Rattle.input.specs.machine.Linked.{Linked, RecordIn, ChainIn};
 ghost use Rattle.resolving.specs.machine.Lowers.{LowersAt};
 ghost use Rattle.items.specs.machine.NodeLowered.{LowersApart};
+ghost use Rattle.items.specs.machine.AtRecord.{partsAt, contentsAt};
 use input::kinds::DIRECTIVE;
 use input::kinds::NODE;
 use input::kinds::PREPROCESSOR;
@@ -102,9 +103,8 @@ fn lower_dt_node(
     requires { ⌜ RecordIn (now words) (now text) r nesting ⌝ }
     requires { ⌜ goodNames (recordAt (now words) (now text) r) ≡ true ⌝ }
     ensures { λ d. ⌜ LowersAt parent ctx d (now (out .entry)) (now (bytes .entry)) (now (out .exit)) (now (bytes .exit))
-        (λ p s. lowerNode p (chainAt (now (words .entry)) (now (text .entry)) (childAt (now (words .entry)) r))
-        (spanAt (now (words .entry)) r) (λ (q : List ℕ) (u : State). lowerItems
-        (chainAt (now (words .entry)) (now (text .entry)) (secondAt (now (words .entry)) r)) q u) s) ⌝ }
+        (λ p s. lowerNode p (partsAt (now (words .entry)) (now (text .entry)) r) (spanAt (now (words .entry)) r)
+        (λ (q : List ℕ) (u : State). lowerItems (contentsAt (now (words .entry)) (now (text .entry)) r) q u) s) ⌝ }
 {
     if ctx.short {
         return ctx;
@@ -117,20 +117,9 @@ fn lower_dt_node(
             let first = second_at(words, r);
             lower_items(words, text, first, place, nesting - 1, out, bytes, made)
         }
-        NodePlace::Aside(reference, kind, keeps) => {
+        NodePlace::Aside(phandle, kind, keeps) => {
             let body = lower_apart(words, text, r, keeps, nesting - 1, out, bytes, made);
-            settle_aside(
-                words,
-                text,
-                r,
-                reference,
-                kind,
-                keeps,
-                out,
-                bytes,
-                body,
-                made,
-            )
+            settle_aside(words, text, r, phandle, kind, keeps, out, bytes, body, made)
         }
         NodePlace::Discarded => {
             let body = lower_apart(words, text, r, false, nesting - 1, out, bytes, made);
@@ -153,10 +142,9 @@ fn lower_apart(
 ) -> LowerCtx
     requires { ⌜ Linked (now words) ⌝ }
     requires { ⌜ ChainIn (now words) (now text) (secondAt (now words) r) nesting ⌝ }
-    requires { ⌜ goodNamesIn (chainAt (now words) (now text) (secondAt (now words) r)) ≡ true ⌝ }
+    requires { ⌜ goodNamesIn (contentsAt (now words) (now text) r) ≡ true ⌝ }
     ensures { λ d. ⌜ LowersApart ctx d keeps (now (out .entry)) (now (bytes .entry)) (now (out .exit)) (now (bytes .exit))
-        (λ (q : List ℕ) (u : State). lowerItems (chainAt (now (words .entry)) (now (text .entry)) (secondAt (now (words .entry)) r)) q
-        u) ⌝ }
+        (λ (q : List ℕ) (u : State). lowerItems (contentsAt (now (words .entry)) (now (text .entry)) r) q u) ⌝ }
 {
     let inner = ctx.enter(keeps);
     let first = second_at(words, r);

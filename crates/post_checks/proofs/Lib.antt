@@ -3,3 +3,4 @@ pub mod Headers
 pub mod Duplicates
 pub mod PostChecks
 pub mod References
+pub mod PartsChecked

@@ -41,7 +41,7 @@ use Rattle.post_checks.specs.meaning.Post.{checkReferences}
 use Rattle.resolving.specs.machine.Lowers.{Lowers}
 use Rattle.resolving.specs.machine.Leading.{resolution, Leads}
 use Rattle.making.specs.machine.PathPlaces.{placedIn}
-use Rattle.post_checks.specs.machine.Checks.{Reports, textPlace, said, targetPlace}
+use Rattle.post_checks.specs.machine.Checks.{Reports, ReportsLive, textPlace, said, targetPlace}
 use Rattle.resolving.specs.machine.Leading.{targetLabel}
 use Rattle.resolving.specs.declared.resolve.Resolved.{Resolved}
 use Rattle.resolving.specs.declared.resolve.Resolved.the-variants as R
@@ -332,7 +332,7 @@ module _ {c d : LowerCtx} {words bytes w b : List ℕ} where
       → n ≡ length (liveNumbers (defAt words bytes) base (chainOf words (c .defs .first)))
       → after ≡ fitted list (liveNumbers (defAt words bytes) base (chainOf words (c .defs .first)))
       → Reports c d words bytes w b (take n after) (checkDefs (said c words bytes) (map (defAt words bytes) (take n after)))
-      → Reports c d words bytes w b [] (checkDefs (said c words bytes) (live [] (readDefs words bytes (c .defs .first))))
+      → ReportsLive c d words bytes w b
   unfolding readDefs
   live-reports list after base n z m f e h =
       let chain = chainOf words (c .defs .first) in
@@ -346,7 +346,7 @@ module _ {c d : LowerCtx} {words bytes w b : List ℕ} where
 
   -- as what lowering does to the log, but for an overlay
   pub phandles-lower : setsOverlay (readDefs words bytes (c .defs .first)) ≡ false
-      → Reports c d words bytes w b [] (checkDefs (said c words bytes) (live [] (readDefs words bytes (c .defs .first))))
+      → ReportsLive c d words bytes w b
       → Lowers c d words bytes w b (λ (s : State). emit (checkReferences s) s)
   unfolding checkReferences said
   phandles-lower o h =

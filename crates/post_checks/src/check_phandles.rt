@@ -5,17 +5,16 @@ ghost use mathlib.Core.List.{[], _∷_, map};
 ghost use Prim.Native.Nat.{_≤_};
 ghost use lib.ListN.{length};
 ghost use Rattle.log.specs.meaning.Record.{logCount, secondText};
-ghost use Rattle.log.specs.meaning.ReadBack.{chainOf, targetAt, cellAt, readCells, valueAt, readValues, nameSpanAt, defValueAt, defAt};
+ghost use Rattle.log.specs.meaning.ReadBack.{targetAt, cellAt, readCells, valueAt, readValues, nameSpanAt, defValueAt, defAt};
 ghost use Rattle.log.specs.meaning.ReadBack.{readDefs, readBindings};
 ghost use Rattle.log.specs.machine.Parts.{meant};
 ghost use Rattle.making.specs.meaning.State.{State, emit};
-ghost use Rattle.queries.specs.meaning.Live.{live};
 ghost use Rattle.resolving.specs.meaning.Resolve.{resolve};
 ghost use Rattle.resolving.specs.machine.Leading.{resolution, Leads};
 ghost use Rattle.post_checks.specs.meaning.Post.{checkTarget, checkCell, checkCells, checkValue, checkValues, checkDef, checkDefs};
 ghost use Rattle.post_checks.specs.meaning.Post.{checkReferences};
 ghost use Rattle.resolving.specs.machine.Lowers.{Lowers};
-ghost use Rattle.post_checks.specs.machine.Checks.{Reports, said, targetPlace};
+ghost use Rattle.post_checks.specs.machine.Checks.{Reports, ReportsLive, ReportsParts, said, targetPlace};
 ghost use Rattle.resolving.specs.machine.Leading.{targetLabel};
 use input::record::no_text;
 use log::kinds::CELL_LIST;
@@ -67,9 +66,7 @@ pub fn check_phandles(out: &mut [u32], bytes: &mut [u8], ctx: LowerCtx) -> Lower
 // The reports on all live definitions of a log of few records.
 fn check_few(out: &mut [u32], bytes: &mut [u8], ctx: LowerCtx) -> LowerCtx
     requires { ⌜ logCount (now out) ≤ 8192 ⌝ }
-    ensures { λ d. ⌜ Reports ctx d (now (out .entry)) (now (bytes .entry)) (now (out .exit)) (now (bytes .exit)) []
-        (checkDefs (said ctx (now (out .entry)) (now (bytes .entry)))
-        (live [] (readDefs (now (out .entry)) (now (bytes .entry)) (ctx .defs .first)))) ⌝ }
+    ensures { λ d. ⌜ ReportsLive ctx d (now (out .entry)) (now (bytes .entry)) (now (out .exit)) (now (bytes .exit)) ⌝ }
 {
     let mut list = [0u32; FEW_RECORDS];
     check_live(out, bytes, ctx, &mut list)
@@ -78,9 +75,7 @@ fn check_few(out: &mut [u32], bytes: &mut [u8], ctx: LowerCtx) -> LowerCtx
 // The reports on all live definitions of a log of the fewest records.
 fn check_least(out: &mut [u32], bytes: &mut [u8], ctx: LowerCtx) -> LowerCtx
     requires { ⌜ logCount (now out) ≤ 1024 ⌝ }
-    ensures { λ d. ⌜ Reports ctx d (now (out .entry)) (now (bytes .entry)) (now (out .exit)) (now (bytes .exit)) []
-        (checkDefs (said ctx (now (out .entry)) (now (bytes .entry)))
-        (live [] (readDefs (now (out .entry)) (now (bytes .entry)) (ctx .defs .first)))) ⌝ }
+    ensures { λ d. ⌜ ReportsLive ctx d (now (out .entry)) (now (bytes .entry)) (now (out .exit)) (now (bytes .exit)) ⌝ }
 {
     let mut list = [0u32; LEAST_RECORDS];
     check_live(out, bytes, ctx, &mut list)
@@ -89,9 +84,7 @@ fn check_least(out: &mut [u32], bytes: &mut [u8], ctx: LowerCtx) -> LowerCtx
 // The reports on all live definitions, with room for their list.
 fn check_live(out: &mut [u32], bytes: &mut [u8], ctx: LowerCtx, list: &mut [u32]) -> LowerCtx
     requires { ⌜ logCount (now out) ≤ length (now list) ⌝ }
-    ensures { λ d. ⌜ Reports ctx d (now (out .entry)) (now (bytes .entry)) (now (out .exit)) (now (bytes .exit)) []
-        (checkDefs (said ctx (now (out .entry)) (now (bytes .entry)))
-        (live [] (readDefs (now (out .entry)) (now (bytes .entry)) (ctx .defs .first)))) ⌝ }
+    ensures { λ d. ⌜ ReportsLive ctx d (now (out .entry)) (now (bytes .entry)) (now (out .exit)) (now (bytes .exit)) ⌝ }
 {
     let n = live_list(out, bytes, ctx.defs.first, no_text(bytes), list);
     check_definitions(out, bytes, ctx, &list[..n as usize])
@@ -134,9 +127,8 @@ fn check_values(
     span: Span,
     first: u32,
 ) -> LowerCtx
-    ensures { λ d. ⌜ Reports ctx d (now (out .entry)) (now (bytes .entry)) (now (out .exit)) (now (bytes .exit))
-        (chainOf (now (out .entry)) first) (checkValues (said ctx (now (out .entry)) (now (bytes .entry))) (meant span)
-        (readValues (now (out .entry)) (now (bytes .entry)) first)) ⌝ }
+    ensures { λ d. ⌜ ReportsParts checkValues readValues (meant span) first ctx d (now (out .entry)) (now (bytes .entry)) (now (out .exit))
+        (now (bytes .exit)) ⌝ }
 {
     let mut made = ctx;
     let mut r = first;
@@ -167,9 +159,8 @@ fn check_value(out: &mut [u32], bytes: &mut [u8], ctx: LowerCtx, span: Span, r: 
 
 // The reports on a chain of cells.
 fn check_cells(out: &mut [u32], bytes: &mut [u8], ctx: LowerCtx, span: Span, first: u32) -> LowerCtx
-    ensures { λ d. ⌜ Reports ctx d (now (out .entry)) (now (bytes .entry)) (now (out .exit)) (now (bytes .exit))
-        (chainOf (now (out .entry)) first) (checkCells (said ctx (now (out .entry)) (now (bytes .entry))) (meant span)
-        (readCells (now (out .entry)) (now (bytes .entry)) first)) ⌝ }
+    ensures { λ d. ⌜ ReportsParts checkCells readCells (meant span) first ctx d (now (out .entry)) (now (bytes .entry)) (now (out .exit))
+        (now (bytes .exit)) ⌝ }
 {
     let mut made = ctx;
     let mut r = first;

@@ -17,6 +17,7 @@ use Rattle.items.specs.meaning.Lower.{at, aside, discarded, nowhere, Pla
 use Rattle.input.specs.meaning.Input.{spanAt}
 use Rattle.input.specs.machine.PhandleRead.{labelAt, pathAt}
 use Rattle.resolving.specs.machine.Leading.{resolution, Leads}
+use Rattle.items.specs.machine.AtRecord.{partsAt}
 use Rattle.items.specs.machine.Opened.{bareNode}
 use Rattle.items.specs.machine.PropertyMade.{isTop}
 use Rattle.resolving.specs.declared.resolve.Resolved.{Resolved}
@@ -57,6 +58,16 @@ pub record PlacesIn (parent : PathAt) (c : LowerCtx) (words bytes w b input text
   pub places : (k : Context) (p : List ℕ) (s : State) → c .short ≡ false
       → Represents (withPlace (record { at = parent; path = p }) k) c words bytes s
       → PlacedTo (withPlace (record { at = parent; path = p }) k) w b input text parts span s (v .ctx) (l p s) (v .node)
+
+-- the same of the node of record r
+abbrev pub PlacesAt : PathAt → LowerCtx → List ℕ → List ℕ → List ℕ → List ℕ → List ℕ → List ℕ → ℕ → (List ℕ → Placed) → PlacedNode → Type 0
+PlacesAt parent c words bytes w b input text r l v =
+    Places parent c words bytes w b input text (partsAt input text r) (spanAt input r) l v
+
+abbrev pub PlacesInAt : PathAt → LowerCtx → List ℕ → List ℕ → List ℕ → List ℕ → List ℕ → List ℕ → ℕ → (List ℕ → State → Placed) → PlacedNode
+    → Type 0
+PlacesInAt parent c words bytes w b input text r l v =
+    PlacesIn parent c words bytes w b input text (partsAt input text r) (spanAt input r) l v
 
 -- the definition of a node where its reference leads
 pub record DefinesLeading (v : Resolved) (l path : List ℕ) (c d : LowerCtx) (words bytes w b : List ℕ) (parts : Trees) (span : Span) : Type

@@ -6,16 +6,18 @@ use mathlib.Core.List.{List, [], _∷_}
 use lib.Dec.{eqb, leb}
 use Rattle.making.specs.declared.ctx.LowerCtx.{LowerCtx}
 use Rattle.making.specs.declared.place.PathAt.{PathAt}
+use Rattle.paths_numbers.specs.meaning.Code.{versionLate, pluginMisplaced, beforeVersion}
 use Rattle.paths_numbers.specs.meaning.Text.{same}
 use Rattle.log.specs.meaning.Contents.{Span, Binding, Diag}
 use Rattle.log.specs.meaning.Record.{pluginKind, deletedPropertyKind, nOf, textStart, textLength, firstText}
-use Rattle.log.specs.meaning.ReadBack.{readDefs, readBindings}
+use Rattle.log.specs.meaning.ReadBack.{chainOf, readDefs, readBindings}
 use Rattle.making.specs.meaning.State.{State, emit}
 use Rattle.making.specs.machine.Represents.{Context, Represents}
 use Rattle.making.specs.machine.Kept.{Still, All, Kept}
 use Rattle.input.specs.meaning.Report.{report}
 use Rattle.paths_numbers.specs.meaning.Lists.{any}
-use Rattle.post_checks.specs.meaning.Post.{duplicate, duplicatesOf, Headers, defined}
+use Rattle.queries.specs.meaning.Live.{live}
+use Rattle.post_checks.specs.meaning.Post.{duplicate, duplicatesOf, checkDefs, Headers, defined}
 use Rattle.post_checks.specs.declared.«check_mir_post».Headers as declared
 
 -- from state c to state d, and from words and bytes to w and b: these diagnostics are added, where the records rs are in the log and no
@@ -37,9 +39,9 @@ headersOf h = record { only = h .only; allowed = h .allowed; seen = h .seen }
 -- the code that is reported, 0 for none
 unfoldable pub headerCode : ℕ → Headers → ℕ
 headerCode kind h =
-    cond (isPlain kind) (cond (h .seen) 0 23)
-    (cond (eqb kind pluginKind) (cond (h .allowed) 0 22)
-    (cond (h .only) 0 21))
+    cond (isPlain kind) (cond (h .seen) 0 beforeVersion)
+    (cond (eqb kind pluginKind) (cond (h .allowed) 0 pluginMisplaced)
+    (cond (h .only) 0 versionLate))
 
 unfoldable pub codeReport : ℕ → Span → List Diag
 codeReport code span = cond (eqb code 0) [] (report code [] span ∷ [])
@@ -82,7 +84,18 @@ said c words bytes =
       bytes = 0;
     }
 
--- the place of its label: an empty one where it names none
+-- the reports on the live definitions
+abbrev pub ReportsLive : LowerCtx → LowerCtx → List ℕ → List ℕ → List ℕ → List ℕ → Type 0
+ReportsLive c d words bytes w b =
+    Reports c d words bytes w b [] (checkDefs (said c words bytes) (live [] (readDefs words bytes (c .defs .first))))
+
+-- the reports on the chain of a property's values, or of a list's cells, with the span of the property's name
+abbrev pub ReportsParts : {A : Type 0} → (State → Span → List A → List Diag) → (List ℕ → List ℕ → ℕ → List A) → Span → ℕ → LowerCtx
+    → LowerCtx → List ℕ → List ℕ → List ℕ → List ℕ → Type 0
+ReportsParts check read span first c d words bytes w b =
+    Reports c d words bytes w b (chainOf words first) (check (said c words bytes) span (read words bytes first))
+
+-- the place of a reference's label: an empty one where it names none
 unfoldable pub targetPlace : List ℕ → ℕ → PathAt
 targetPlace words r =
     cond (eqb (nOf words r) 1) (textPlace (textStart words r) (textLength words r))

@@ -64,7 +64,8 @@ same-length-2 c = search needs
 returns : tie.Need-returns
 unfolding phandleRead
 returns c =
-    let a = c .before .before .before .before .before .before .before .before .before .before .before .before .before .before .before .before .args
+    let a = c .before .before .before .before .before .before .before .before .before .before .before .before .before .before .before
+    .before .args
     in
     λ parent.
     rw (c .placed-nowhere .ensures) (read-nowhere _ (phandleRead (a .words .now) (a .text .now) (a .reference)
@@ -79,7 +80,8 @@ unfolding phandleRead
 returns-2 c =
     let a = c .before .before .before .before .before .before .before .before .args in
     λ parent.
-    rw (c .placed-nowhere2 .ensures) (read-nowhere _ (phandleRead (a .words .now) (a .text .now) (a .reference) (c .before .before .before .lower-phandle .result))
+    rw (c .placed-nowhere2 .ensures) (read-nowhere _ (phandleRead (a .words .now) (a .text .now) (a .reference)
+    (c .before .before .before .lower-phandle .result))
     (c .before .before .before .lower-phandle .ensures) (rw (c .before .enum-told .given .1) refl)
     (rw (c .before .enum-told .given .1) reports-none))
 

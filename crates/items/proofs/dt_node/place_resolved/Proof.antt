@@ -38,14 +38,19 @@ same-length-2 c = search needs
 
 returns : tie.Need-returns
 returns c =
-    let s = c .before .before .before .before .before .before .before .before .before .before .before .before .before .before .before .before .before .before .before .before .before .before .before .before .before in
+    let s = c .before .before .before .before .before .before .before .before .before .before .before .before .before .before .before
+    .before .before .before .before .before .before .before .before .before .before in
     let a = s .args in
-    let f = c .before .before .before .before .before .before .before .before .before .before .before .before .before .before .before .before .before .before .resolve-phandle .ensures in
+    let f = c .before .before .before .before .before .before .before .before .before .before .before .before .before .before .before
+    .before .before .before .resolve-phandle .ensures in
     λ parent.
     rw (c .placed-at .ensures) (place-found (a .ctx) (a .out .now) (a .bytes .now) _ _ _
-    (c .before .before .before .before .before .before .before .before .before .before .before .before .before .before .before .before .before .before .resolve-phandle .result) (f .1) (f .0 _ (s .pre .1 .1)) _
-    (sym (c .before .before .before .before .before .before .before .before .before .before .before .before .before .before .before .before .before .leads-on .ensures)
-    ∙ c .before .before .before .before .before .before .before .before .before .before .before .before .before .before .before .before .if1 .taken)
+    (c .before .before .before .before .before .before .before .before .before .before .before .before .before .before .before .before
+    .before .before .resolve-phandle .result) (f .1) (f .0 _ (s .pre .1 .1)) _
+    (sym (c .before .before .before .before .before .before .before .before .before .before .before .before .before .before .before .before
+    .before .leads-on .ensures)
+    ∙ c .before .before .before .before .before .before .before .before .before .before .before .before .before .before .before .before .if1
+    .taken)
     (c .before .before .before .before .before .before .before .before .before .before .before .before .before .define-leading
     .ensures)
     (rw (c .before .before .before .before .before .before .before .before .child-at .ensures) at

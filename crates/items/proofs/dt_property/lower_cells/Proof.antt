@@ -16,7 +16,8 @@ use Rattle.items.proofs.dt_property.lower_cells.Statement.{statement}
 use Rattle.items.proofs.dt_property.lower_cells.Tie as tie
 
 abbrev Inv-loop : tie.InvT-loop
-Inv-loop words text first size keep nesting out₀ bytes₀ r₀ next₀ out bytes r next = ChainIn words text r nesting × (length out ≡ length out₀)
+Inv-loop words text first size keep nesting out₀ bytes₀ r₀ next₀ out bytes r next = ChainIn words text r nesting
+    × (length out ≡ length out₀)
     × (length bytes ≡ length bytes₀) × ((d : LowerCtx) (w b : List ℕ)
     → FillsCells keep next d out bytes w b (lowerCells size (chainAt words text r))
     → FillsCells keep next₀ d out₀ bytes₀ w b (lowerCells size (chainAt words text r₀)))

@@ -62,9 +62,12 @@ same-length-2 c = search needs
 
 returns : tie.Need-returns
 returns c =
-    let a = c .before .before .before .before .before .before .before .before .before .before .before .before .before .before .before .before .before .before .before .args in
+    let a = c .before .before .before .before .before .before .before .before .before .before .before .before .before .before .before
+    .before .before .before .before .args in
     λ t e. target-bound t (recordAt (a .words .now) (a .text .now) (a .r)) (meant (a .span)) (a .ctx)
-    (c .before .before .before .before .before .before .before .before .before .before .before .before .before .before .before .before .before .before .before .pre) (c .before .before .before .before .before .before .before .before .before .resolve-phandle .ensures .0 t e)
+    (c .before .before .before .before .before .before .before .before .before .before .before .before .before .before .before .before
+    .before .before .before .pre)
+    (c .before .before .before .before .before .before .before .before .before .resolve-phandle .ensures .0 t e)
     (c .before .before .before .before .before .before .before .before .before .resolve-phandle .ensures .1) _
     (c .before .before .before .before .before .before .before .enum-told .given .1)
     (rw (
@@ -82,9 +85,12 @@ same-length-4 c = search needs
 
 returns-2 : tie.Need-returns-2
 returns-2 c =
-    let a = c .before .before .before .before .before .before .before .before .before .before .before .before .before .before .before .before .before .before .before .args in
+    let a = c .before .before .before .before .before .before .before .before .before .before .before .before .before .before .before
+    .before .before .before .before .args in
     λ t e. target-below t (recordAt (a .words .now) (a .text .now) (a .r)) (meant (a .span)) (a .ctx)
-    (c .before .before .before .before .before .before .before .before .before .before .before .before .before .before .before .before .before .before .before .pre) (c .before .before .before .before .before .before .before .before .before .resolve-phandle .ensures .0 t e)
+    (c .before .before .before .before .before .before .before .before .before .before .before .before .before .before .before .before
+    .before .before .before .pre)
+    (c .before .before .before .before .before .before .before .before .before .resolve-phandle .ensures .0 t e)
     (c .before .before .before .before .before .before .before .before .before .resolve-phandle .ensures .1) _
     (c .before .before .before .before .before .before .before .enum-told2 .given .1)
     (rw (
@@ -102,12 +108,16 @@ same-length-6 c = search needs
 
 returns-3 : tie.Need-returns-3
 returns-3 c =
-    let a = c .before .before .before .before .before .before .before .before .before .before .before .before .before .before .before .before .before .before .before .args in
+    let a = c .before .before .before .before .before .before .before .before .before .before .before .before .before .before .before
+    .before .before .before .before .args in
     λ t e. target-at t (recordAt (a .words .now) (a .text .now) (a .r)) (meant (a .span)) (a .ctx)
-    (c .before .before .before .before .before .before .before .before .before .before .before .before .before .before .before .before .before .before .before .pre) (c .before .before .before .before .before .before .before .before .before .resolve-phandle .ensures .0 t e)
+    (c .before .before .before .before .before .before .before .before .before .before .before .before .before .before .before .before
+    .before .before .before .pre)
+    (c .before .before .before .before .before .before .before .before .before .resolve-phandle .ensures .0 t e)
     (c .before .before .before .before .before .before .before .before .before .resolve-phandle .ensures .1)
     (c .before .before .before .before .before .before .before .enum-told3 .given .1)
-    (rw (c .before .before .before .before .before .before .before .before .before .before .before .before .before .phandle-path-at .ensures) at
+    (rw (c .before .before .before .before .before .before .before .before .before .before .before .before .before .phandle-path-at
+    .ensures) at
     (c .before .before .before .before .delete-at .ensures))
 
 same-length-7 : tie.Need-same-length-7

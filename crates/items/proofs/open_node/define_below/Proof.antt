@@ -45,7 +45,8 @@ open-node-requires c
     .before .before .before .before in (
       s .pre .0,
       child-there _ (s .pre .0) (s .args .r) (s .pre .1) _
-          (c .before .before .before .before .before .before .before .before .before .before .before .before .before .before .child-at .ensures),
+          (c .before .before .before .before .before .before .before .before .before .before .before .before .before .before .child-at
+          .ensures),
     )
 
 same-length : tie.Need-same-length

@@ -90,7 +90,8 @@ loop-again c =
           (λ x y h z kept all s passed ch st. (
             all-more (still-kept kept s) all-none,
             rw
-                (c .before .before .before .before .before .before .before .before .before .before .before .before .before .next-of .ensures)
+                (c .before .before .before .before .before .before .before .before .before .before .before .before .before .next-of
+                .ensures)
                 (duplicates-kept kept (a .most) (a .first) (nextOf (a .out .now) (a .first)) (l .left) (l .r) passed _ all s ch st),
           )),
     )

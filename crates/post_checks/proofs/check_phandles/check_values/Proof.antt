@@ -1,29 +1,19 @@
--- The chain of values is walked, and what is reported on the way keeps it (Checks).
-use Prim.Native.Nat.{ℕ, _-_}
-use mathlib.Core.Path.{_≡_, refl, sym, _∙_}
-use mathlib.Core.List.{List, map}
+-- The chain of values is walked, and what is reported on the way keeps it (PartsChecked).
+use mathlib.Core.Path.{refl, sym, _∙_}
 use native.Mathlib.Omega.{arith}
-use lib.ListN.{length}
-use Rattle.log.specs.meaning.Record.{nextOf, logCount}
-use Rattle.log.specs.meaning.ReadBack.{chainFrom, chainOf, valueAt, readValues}
+use Rattle.log.specs.meaning.ReadBack.{valueAt, readValues}
 use Rattle.log.specs.machine.Parts.{meant}
-use Rattle.making.specs.machine.Kept.{all-none, all-more}
-use Rattle.making.proofs.Keeping.{still-kept}
 use Rattle.queries.proofs.Chain.{goes-left}
-use Rattle.post_checks.specs.meaning.Post.{checkValues}
-use Rattle.post_checks.specs.machine.Checks.{said}
-use Rattle.post_checks.proofs.Checks.{Walks, walks-start, walks-step, walks-end}
+use Rattle.post_checks.specs.meaning.Post.{checkValue, checkValues}
+use Rattle.post_checks.proofs.PartsChecked.{PartsWalk, parts-start, parts-step, parts-end}
 use Rattle.post_checks.proofs.References.{values-next}
 use borrow.Author.Needs.{needs}
 use Rattle.post_checks.proofs.check_phandles.check_values.Statement.{statement}
 use Rattle.post_checks.proofs.check_phandles.check_values.Tie as tie
 
 abbrev Inv-loop : tie.InvT-loop
-Inv-loop out₀ bytes₀ span first made₀ r₀ left₀ out bytes made r left = (length out ≡ length out₀)
-    × (length bytes ≡ length bytes₀)
-    × Walks made₀ made out₀ bytes₀ out bytes (chainFrom (logCount out₀) out₀ first) first (logCount out₀) r left
-    (checkValues (said made₀ out₀ bytes₀) (meant span) (map (valueAt out₀ bytes₀) (chainFrom (logCount out₀) out₀ first)))
-    (λ (passed later : List ℕ). checkValues (said made₀ out₀ bytes₀) (meant span) (map (valueAt out₀ bytes₀) later))
+Inv-loop out₀ bytes₀ span first made₀ r₀ left₀ out bytes made r left =
+    PartsWalk checkValues valueAt (meant span) made₀ made out₀ bytes₀ out bytes first r left
 
 abbrev μ-loop : tie.MeasureT-loop
 μ-loop out₀ bytes₀ span first made₀ r₀ left₀ out bytes made r left = left
@@ -32,14 +22,8 @@ log-count-requires : tie.Need-log-count-requires Inv-loop μ-loop
 log-count-requires c κs = search needs
 
 loop-holds : tie.Need-loop-holds Inv-loop μ-loop
-loop-holds c = let a = c .before .before .before .before .args in (
-  refl,
-  refl,
-  rw (c .log-count .ensures)
-      (walks-start (a .ctx) (a .out .now) (a .bytes .now) _ (a .first) (logCount (a .out .now)) _
-      (λ (passed later : List ℕ). checkValues (said (a .ctx) (a .out .now) (a .bytes .now)) (meant (a .span))
-      (map (valueAt (a .out .now) (a .bytes .now)) later)) refl),
-)
+loop-holds c = let a = c .before .before .before .before .args in
+    parts-start checkValues valueAt (meant (a .span)) (a .ctx) (a .out .now) (a .bytes .now) (a .first) _ (c .log-count .ensures)
 
 goes-on-requires : tie.Need-goes-on-requires Inv-loop μ-loop
 goes-on-requires c κs = search needs
@@ -64,23 +48,16 @@ loop-less c = let l = c .before .before .before .before .before .before .before 
 )
 
 loop-again : tie.Need-loop-again Inv-loop μ-loop
-loop-again
-    c = let a = c .before .before .before .before .before .before .before .before .before .before .before .before .before .before .before
+loop-again c =
+    let l = c .before .before .before .before .before .before .before .before .before .before .before .before .loop in
+    let a = c .before .before .before .before .before .before .before .before .before .before .before .before .before .before .before
     .before .before .args in
-    let l = c .before .before .before .before .before .before .before .before .before .before .before .before .loop in (
-      c .before .before .before .before .before .before .check-value .kept .0 ∙ l .inv .0,
-      c .before .before .before .before .before .before .check-value .kept .1 .0 ∙ l .inv .1,
-      walks-step (l .inv .2) (λ (passed later : List ℕ). checkValues (said (a .ctx) (a .out .now) (a .bytes .now)) (meant (a .span))
-          (map (valueAt (a .out .now) (a .bytes .now)) later)) (sym
-          (c .before .before .before .before .before .before .before .before .before .before .goes-on .ensures)
-          ∙ c .before .before .before .before .before .before .before .before .before .if1 .taken)
-          (c .before .before .before .before .before .before .check-value .ensures) _ (c .next-of .ensures) (λ x. x)
-          (λ x y h z kept all s passed ch st. (
-            all-more (still-kept kept s) all-none,
-            values-next h z kept (meant (a .span)) (l .r)
-                (chainFrom (l .left - 1) (a .out .now) (nextOf (a .out .now) (l .r))) s,
-          )),
-    )
+    let x = c .before .before .before .before .before .before .check-value in
+    parts-step checkValues valueAt (meant (a .span)) (l .inv) checkValue
+    (λ k s rep z kept later st. values-next rep z kept (meant (a .span)) (l .r) later st)
+    (sym (c .before .before .before .before .before .before .before .before .before .before .goes-on .ensures)
+    ∙ c .before .before .before .before .before .before .before .before .before .if1 .taken) (x .kept .0) (x .kept .1 .0) (x .ensures)
+    (c .next-of .ensures)
 
 same-length : tie.Need-same-length Inv-loop μ-loop
 same-length c = search needs
@@ -89,9 +66,11 @@ same-length-2 : tie.Need-same-length-2 Inv-loop μ-loop
 same-length-2 c = search needs
 
 returns : tie.Need-returns Inv-loop μ-loop
-unfolding readValues chainOf checkValues
-returns c = let l = c .before .before .before .loop in walks-end (l .inv .2) (sym (c .before .goes-on .ensures) ∙ c .if1 .left)
-    (λ passed. refl)
+unfolding readValues checkValues
+returns c =
+    let l = c .before .before .before .loop in
+    let a = c .before .before .before .before .before .before .before .before .args in
+    parts-end checkValues valueAt (meant (a .span)) (l .inv) (sym (c .before .goes-on .ensures) ∙ c .if1 .left) refl
 
 pub check-values-spec : {M : Type 1} → statement M
 check-values-spec =
