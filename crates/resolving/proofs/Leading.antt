@@ -2,10 +2,10 @@
 use Prim.Native.Nat.{ℕ, suc, _-_, _<_}
 use mathlib.Core.Path.{_≡_, refl, sym, ap, _∙_}
 use mathlib.Core.Bool.{Bool, true, false, cond}
-use mathlib.Core.List.{List, [], _∷_, _++_, map, append-assoc, append-nil, map-append}
+use mathlib.Core.List.{List, [], _∷_, _++_, map, append-nil, head-eq-of-cons-eq, tail-eq-of-cons-eq}
 use mathlib.Core.Option.{some, none}
 use native.Mathlib.Omega.{arith}
-use borrow.Author.Tests.{eqb-false}
+use borrow.Author.Tests.{eqb-true, eqb-false}
 use lib.Dec.{eqb}
 use lib.Seq.{append-snoc}
 use Rattle.paths_numbers.specs.meaning.Text.{same, isEmpty}
@@ -16,6 +16,7 @@ use Rattle.log.specs.meaning.Record.{nextOf, firstText, secondText, leads, logC
 use Rattle.log.specs.meaning.ReadBack.{chainFrom, chainOf, bindingAt, defAt, readBindings, readDefs}
 use Rattle.making.specs.machine.Represents.{lastNumber, Context, Represents, Steps}
 use Rattle.paths_numbers.specs.meaning.Lists.{any}
+use Rattle.paths_numbers.proofs.Lists.{any-append as any-both, any-head, any-back}
 use Rattle.queries.specs.machine.Pass.{goesOn}
 use Rattle.queries.specs.meaning.Live.{containsNode}
 use Rattle.queries.proofs.Chain.{goes, stops}
@@ -48,12 +49,9 @@ last-snoc [] n = refl
 last-snoc (a ∷ []) n = refl
 last-snoc (a ∷ b ∷ l) n = last-snoc (b ∷ l) n
 
--- whether some element of two lists passes a test
+-- whether some element passes a test, of two lists of which the first has none that does
 pub any-append : {A : Type 0} (f : A → Bool) (xs ys : List A) → any f xs ≡ false → any f (xs ++ ys) ≡ any f ys
-unfolding any
-any-append f [] ys h = refl
-any-append f (x ∷ xs) ys h =
-    by-test (f x) (λ q. absurd (not-both (rw q refl) h)) (λ q. rw q (any-append f xs ys (rw q at h)))
+any-append f xs ys h = any-both f xs ys ∙ rw h refl
 
 -- a chain that goes on is at a record
 pub goes-there : (words : List ℕ) (r left : ℕ) → goesOn words r left ≡ true → r ≡ 0 → ⊥
@@ -109,6 +107,55 @@ module _ {words bytes : List ℕ} {first : ℕ} {t : List ℕ} {previous r left 
         none-before = λ z. refl;
         there = λ n. absurd (n refl);
       }
+
+-- a list has one first element that passes a test
+one-first : (f : ℕ → Bool) (x y : List ℕ) (m n : ℕ) (z w : List ℕ) → x ++ m ∷ z ≡ y ++ n ∷ w → any f x ≡ false → any f y ≡ false
+    → f m ≡ true → f n ≡ true → (m ≡ n) × (x ≡ y)
+unfolding any
+one-first f [] [] m n z w e a b h k = (head-eq-of-cons-eq e, refl)
+one-first f [] (u ∷ y) m n z w e a b h k = absurd (not-both (rw (← head-eq-of-cons-eq e, h) refl) b)
+one-first f (t ∷ x) [] m n z w e a b h k = absurd (not-both (rw (head-eq-of-cons-eq e, k) refl) a)
+one-first f (t ∷ x) (u ∷ y) m n z w e a b h k =
+    by-test (f t) (λ q. absurd (not-both (rw q refl) a))
+    (λ q.
+    let r : f u ≡ false = rw (head-eq-of-cons-eq e) at q in
+    let i = one-first f x y m n z w (tail-eq-of-cons-eq e) (rw q at a) (rw r at b) h k in
+    (i .0, rw (head-eq-of-cons-eq e, i .1) refl))
+
+-- so that the chain and the text decide what the search answers
+module _ {words bytes : List ℕ} {first : ℕ} {t : List ℕ} where
+  passes : {r previous : ℕ} → FirstAt words bytes first t r previous → hasText words bytes t r ≡ true
+  passes x = rw (x .has, same-refl t) refl
+
+  never-missed : {f g : Found} → FirstWith words bytes first t f → FirstWith words bytes first t g → f .number ≡ 0
+      → (g .number ≡ 0 → ⊥) → ⊥
+  never-missed {f} {g} a b e n =
+      let x = b .there n in
+      let h = any-head (hasText words bytes t) (g .number) (x .after) (passes x) in
+      not-both (ap (any (hasText words bytes t)) (x .chain) ∙ any-back (hasText words bytes t) (x .before) (g .number ∷ x .after) h)
+      (a .none-there e)
+
+  pub answers-once : {f g : Found} → FirstWith words bytes first t f → FirstWith words bytes first t g
+      → (f .number ≡ g .number) × (f .previous ≡ g .previous)
+  answers-once {f} {g} a b =
+      by-test (eqb (f .number) 0)
+      (λ p.
+      by-test (eqb (g .number) 0)
+      (λ q.
+      let x = eqb-true (f .number) 0 p in
+      let y = eqb-true (g .number) 0 q in
+      (x ∙ sym y, a .none-before x ∙ sym (b .none-before y)))
+      (λ q. absurd (never-missed a b (eqb-true (f .number) 0 p) (eqb-false (g .number) 0 q))))
+      (λ p.
+      by-test (eqb (g .number) 0)
+      (λ q. absurd (never-missed b a (eqb-true (g .number) 0 q) (eqb-false (f .number) 0 p)))
+      (λ q.
+      let x = a .there (eqb-false (f .number) 0 p) in
+      let y = b .there (eqb-false (g .number) 0 q) in
+      let i = one-first (hasText words bytes t) (x .before) (y .before) (f .number) (g .number) (x .after) (y .after)
+      (sym (x .chain) ∙ y .chain) (x .others) (y .others)
+      (passes x) (passes y) in
+      (i .0, x .previousIs ∙ ap lastNumber (i .1) ∙ sym (y .previousIs))))
 
 -- the same of bindings: the label's first
 module _ (words bytes : List ℕ) (l : List ℕ) where

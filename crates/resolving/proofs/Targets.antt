@@ -7,7 +7,7 @@ use Rattle.log.specs.meaning.Contents.{Def, Binding}
 use Rattle.log.specs.meaning.Record.{nOf, firstText, secondText}
 use Rattle.log.specs.meaning.ReadBack.{targetAt, readDefs, readBindings}
 use Rattle.resolving.specs.meaning.Resolve.{firstBinding, byLabel, belowLabel, liveAt, resolve}
-use Rattle.resolving.specs.machine.Leading.{resolution, targetLabel, Leads}
+use Rattle.resolving.specs.machine.Leading.{resolution, targetLabel, Leads, AnswersTarget}
 use Rattle.resolving.specs.declared.resolve.Resolved.{Resolved}
 use Rattle.resolving.specs.declared.resolve.Resolved.the-variants as R
 use Rattle.resolving.proofs.Leading.{none-in, never-at}
@@ -22,9 +22,7 @@ module _ (words bytes : List ℕ) (r n : ℕ) (e : n ≡ nOf words r) where
     ds = readDefs words bytes defs
 
     abbrev Answers : Type 0
-    Answers =
-        (resolution words bytes (targetLabel words bytes r) (secondText words bytes r) v ≡ resolve (targetAt words bytes r) bs ds)
-        × Leads words bytes binds defs (targetLabel words bytes r) (secondText words bytes r) v
+    Answers = AnswersTarget words bytes binds defs r v
 
     pub answers-label : n ≡ 1 → resolution words bytes (firstText words bytes r) (secondText words bytes r) v ≡ byLabel
         (firstText words bytes r) (firstBinding (firstText words bytes r) bs)

@@ -1,17 +1,8 @@
 // Where references lead: resolve_phandle of lowering/mod.rs. What is asked of the log in hand is asked
 // by the heads of its chains, of any words and bytes.
-ghost use mathlib.Core.Path.{_≡_};
-ghost use mathlib.Core.List.{List};
-ghost use mathlib.Core.Option.{some};
-ghost use Prim.Native.Nat.{ℕ};
-ghost use Rattle.paths_numbers.specs.meaning.Reference.{Target};
 ghost use Rattle.log.specs.machine.Parts.{meant};
-ghost use Rattle.log.specs.meaning.Record.{secondText};
-ghost use Rattle.log.specs.meaning.ReadBack.{targetAt, readBindings, readDefs};
-ghost use Rattle.resolving.specs.meaning.Resolve.{byLabel, belowLabel, liveAt, firstBinding, resolve};
-ghost use Rattle.input.specs.machine.PhandleRead.{labelAt, pathAt, phandleRead};
-ghost use Rattle.resolving.specs.machine.Leading.{targetLabel, FirstWith, resolution, Leads, ReportsMissing};
-ghost use Rattle.making.specs.machine.PathPlaces.{placedIn};
+ghost use Rattle.resolving.specs.machine.Leading.{AnswersPhandle, AnswersTarget, AnswersLabel, AnswersBelow, AnswersPath};
+ghost use Rattle.resolving.specs.machine.Leading.{FirstWith, ReportsMissing};
 use input::phandle::PhandleRead;
 use input::phandle::phandle_label_at;
 use input::phandle::phandle_path_at;
@@ -24,7 +15,6 @@ use log::record::next_of;
 use log::record::out_field;
 use log::record::second_text;
 use making::ctx::LowerCtx;
-use making::place::PathAt;
 use making::place::second_place;
 use paths_numbers::codes::LABEL_NOT_FOUND;
 use paths_numbers::codes::NODE_NOT_FOUND;
@@ -62,12 +52,7 @@ pub fn resolve_phandle(
     binds: u32,
     defs: u32,
 ) -> Resolved
-    ensures { λ v. ⌜ ((t : Target) → phandleRead (now (words .entry)) (now (text .entry)) r read .result ≡ some t
-        → resolution (now (out .entry)) (now (bytes .entry)) (labelAt (now (words .entry)) (now (text .entry)) r)
-        (pathAt (now (words .entry)) (now (text .entry)) r) v ≡ resolve t (readBindings (now (out .entry)) (now (bytes .entry)) binds)
-        (readDefs (now (out .entry)) (now (bytes .entry)) defs)) ⌝ }
-    ensures { λ v. ⌜ Leads (now (out .entry)) (now (bytes .entry)) binds defs (labelAt (now (words .entry)) (now (text .entry)) r)
-        (pathAt (now (words .entry)) (now (text .entry)) r) v ⌝ }
+    ensures { λ v. ⌜ AnswersPhandle (now (words .entry)) (now (text .entry)) r read (now (out .entry)) (now (bytes .entry)) binds defs v ⌝ }
 {
     let label = phandle_label_at(words, text, r);
     let path = phandle_path_at(words, text, r);
@@ -82,11 +67,7 @@ pub fn resolve_phandle(
 
 // Where a reference of a log leads, by its record.
 pub fn resolve_target(out: &[u32], bytes: &[u8], binds: u32, defs: u32, r: u32) -> Resolved
-    ensures { λ v. ⌜ resolution (now (out .entry)) (now (bytes .entry)) (targetLabel (now (out .entry)) (now (bytes .entry)) r)
-        (secondText (now (out .entry)) (now (bytes .entry)) r) v ≡ resolve (targetAt (now (out .entry)) (now (bytes .entry)) r)
-        (readBindings (now (out .entry)) (now (bytes .entry)) binds) (readDefs (now (out .entry)) (now (bytes .entry)) defs) ⌝ }
-    ensures { λ v. ⌜ Leads (now (out .entry)) (now (bytes .entry)) binds defs (targetLabel (now (out .entry)) (now (bytes .entry)) r)
-        (secondText (now (out .entry)) (now (bytes .entry)) r) v ⌝ }
+    ensures { λ v. ⌜ AnswersTarget (now (out .entry)) (now (bytes .entry)) binds defs r v ⌝ }
 {
     let n = out_field(out, r, layout::N);
     let label = first_text(out, bytes, r);
@@ -105,9 +86,7 @@ pub fn resolve_target(out: &[u32], bytes: &[u8], binds: u32, defs: u32, r: u32) 
 
 // Where a label leads.
 pub fn resolve_label(out: &[u32], bytes: &[u8], binds: u32, label: &[u8]) -> Resolved
-    ensures { λ v. ⌜ ((p : List ℕ) → resolution (now (out .entry)) (now (bytes .entry)) (now (label .entry)) p v ≡ byLabel
-        (now (label .entry)) (firstBinding (now (label .entry)) (readBindings (now (out .entry)) (now (bytes .entry)) binds))) ⌝ }
-    ensures { λ v. ⌜ ((p : List ℕ) (defs : ℕ) → Leads (now (out .entry)) (now (bytes .entry)) binds defs (now (label .entry)) p v) ⌝ }
+    ensures { λ v. ⌜ AnswersLabel (now (out .entry)) (now (bytes .entry)) binds (now (label .entry)) v ⌝ }
 {
     let found = first_with(out, bytes, binds, label);
     if found.number == 0 {
@@ -125,10 +104,7 @@ pub fn resolve_below(
     label: &[u8],
     path: &[u8],
 ) -> Resolved
-    ensures { λ v. ⌜ resolution (now (out .entry)) (now (bytes .entry)) (now (label .entry)) (now (path .entry)) v ≡ belowLabel
-        (now (label .entry)) (now (path .entry)) (firstBinding (now (label .entry))
-        (readBindings (now (out .entry)) (now (bytes .entry)) binds)) (readDefs (now (out .entry)) (now (bytes .entry)) defs) ⌝ }
-    ensures { λ v. ⌜ Leads (now (out .entry)) (now (bytes .entry)) binds defs (now (label .entry)) (now (path .entry)) v ⌝ }
+    ensures { λ v. ⌜ AnswersBelow (now (out .entry)) (now (bytes .entry)) binds defs (now (label .entry)) (now (path .entry)) v ⌝ }
 {
     let found = first_with(out, bytes, binds, label);
     let number = found.number;
@@ -144,9 +120,7 @@ pub fn resolve_below(
 
 // Where a path leads.
 pub fn resolve_path(out: &[u32], bytes: &[u8], defs: u32, path: &[u8]) -> Resolved
-    ensures { λ v. ⌜ ((l : List ℕ) → resolution (now (out .entry)) (now (bytes .entry)) l (now (path .entry)) v ≡ liveAt (now (path .entry))
-        (readDefs (now (out .entry)) (now (bytes .entry)) defs)) ⌝ }
-    ensures { λ v. ⌜ ((l : List ℕ) (binds : ℕ) → Leads (now (out .entry)) (now (bytes .entry)) binds defs l (now (path .entry)) v) ⌝ }
+    ensures { λ v. ⌜ AnswersPath (now (out .entry)) (now (bytes .entry)) defs (now (path .entry)) v ⌝ }
 {
     if contains_node_in(out, bytes, defs, path) {
         return Resolved::AtPath;

@@ -6,19 +6,22 @@ use mathlib.Core.List.{List, [], _∷_, _++_}
 use mathlib.Core.Option.{Option, some, none}
 use Rattle.paths_numbers.specs.meaning.Text.{same}
 use Rattle.paths_numbers.specs.meaning.Path.{joined}
+use Rattle.paths_numbers.specs.meaning.Reference.{Target}
 use Rattle.making.specs.declared.ctx.LowerCtx.{LowerCtx}
 use Rattle.making.specs.declared.place.PathAt.{PathAt}
 use Rattle.log.specs.meaning.Contents.{Span}
 use Rattle.making.specs.meaning.State.{State, emit}
 use lib.Dec.{eqb}
 use Rattle.log.specs.meaning.Record.{nOf, firstText, secondText}
-use Rattle.log.specs.meaning.ReadBack.{chainOf, readBindings, readDefs}
+use Rattle.log.specs.meaning.ReadBack.{chainOf, targetAt, readBindings, readDefs}
 use Rattle.making.specs.machine.Represents.{Context, Represents, lastNumber}
 use Rattle.queries.specs.meaning.Kind.{setsOverlay}
 use Rattle.paths_numbers.specs.meaning.Lists.{any}
 use Rattle.queries.specs.meaning.Live.{containsNode}
 use Rattle.input.specs.meaning.Report.{report}
-use Rattle.resolving.specs.meaning.Resolve.{firstBinding, Resolution, reaches, missing}
+use Rattle.input.specs.machine.PhandleRead.{labelAt, pathAt, phandleRead}
+use Rattle.input.specs.declared.phandle.PhandleRead.{PhandleRead}
+use Rattle.resolving.specs.meaning.Resolve.{firstBinding, Resolution, reaches, missing, liveAt, byLabel, belowLabel, resolve}
 use Rattle.resolving.specs.declared.resolve.Found.{Found}
 use Rattle.resolving.specs.declared.resolve.Resolved.{Resolved}
 use Rattle.resolving.specs.declared.resolve.Resolved.the-variants as R
@@ -75,6 +78,42 @@ pub record Leads (words bytes : List ℕ) (binds defs : ℕ) (l p : List ℕ) (v
   pub there : (r : ℕ) → boundBy v ≡ some r → InChain words binds r
   pub first : (r : ℕ) → boundBy v ≡ some r → firstBinding l (readBindings words bytes binds) ≡ some (secondText words bytes r)
   pub alive : v ≡ R.AtPath → containsNode p (readDefs words bytes defs) ≡ true
+
+-- What the functions of resolve.rt answer of a log, by the heads of its chains of bindings and definitions: v stands for where the
+-- reference leads, and leads there as above.
+
+-- of a label, whatever path stands beside it
+abbrev pub AnswersLabel : List ℕ → List ℕ → ℕ → List ℕ → Resolved → Type 0
+AnswersLabel words bytes binds l v =
+    ((p : List ℕ) → resolution words bytes l p v ≡ byLabel l (firstBinding l (readBindings words bytes binds)))
+    × ((p : List ℕ) (defs : ℕ) → Leads words bytes binds defs l p v)
+
+-- of a path below a label
+abbrev pub AnswersBelow : List ℕ → List ℕ → ℕ → ℕ → List ℕ → List ℕ → Resolved → Type 0
+AnswersBelow words bytes binds defs l p v =
+    (resolution words bytes l p v ≡ belowLabel l p (firstBinding l (readBindings words bytes binds)) (readDefs words bytes defs))
+    × Leads words bytes binds defs l p v
+
+-- of a path, whatever label stands beside it
+abbrev pub AnswersPath : List ℕ → List ℕ → ℕ → List ℕ → Resolved → Type 0
+AnswersPath words bytes defs p v =
+    ((l : List ℕ) → resolution words bytes l p v ≡ liveAt p (readDefs words bytes defs))
+    × ((l : List ℕ) (binds : ℕ) → Leads words bytes binds defs l p v)
+
+-- of the log's reference r
+abbrev pub AnswersTarget : List ℕ → List ℕ → ℕ → ℕ → ℕ → Resolved → Type 0
+AnswersTarget words bytes binds defs r v =
+    (resolution words bytes (targetLabel words bytes r) (secondText words bytes r) v
+    ≡ resolve (targetAt words bytes r) (readBindings words bytes binds) (readDefs words bytes defs))
+    × Leads words bytes binds defs (targetLabel words bytes r) (secondText words bytes r) v
+
+-- of the input's reference r, if it can be read
+abbrev pub AnswersPhandle : List ℕ → List ℕ → ℕ → PhandleRead → List ℕ → List ℕ → ℕ → ℕ → Resolved → Type 0
+AnswersPhandle input text r read words bytes binds defs v =
+    ((t : Target) → phandleRead input text r read .result ≡ some t
+    → resolution words bytes (labelAt input text r) (pathAt input text r) v
+    ≡ resolve t (readBindings words bytes binds) (readDefs words bytes defs))
+    × Leads words bytes binds defs (labelAt input text r) (pathAt input text r) v
 
 -- a reference that leads nowhere reported, but in an overlay
 pub record ReportsMissing (v : Resolved) (l p : List ℕ) (span : Span) (c d : LowerCtx) (words bytes w b : List ℕ) : Type 0 where
