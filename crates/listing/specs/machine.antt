@@ -1,2 +1,3 @@
 -- Steps of the code, which contracts inside the library cite.
 pub mod Page
+pub mod Chains

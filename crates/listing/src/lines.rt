@@ -7,6 +7,7 @@ ghost use Rattle.log.specs.meaning.ReadBack.{spanAt, nameSpanAt, readLabels, de
 ghost use Rattle.listing.specs.meaning.Listing.{letter, pathField, definitionLine, labelLine, definitionLines, bindingLine};
 ghost use Rattle.listing.specs.meaning.Listing.{diagnosticLine, refusalLine};
 ghost use Rattle.listing.specs.machine.Page.{Puts};
+ghost use Rattle.listing.specs.machine.Chains.{recordLines};
 use crate::page::put_byte;
 use crate::page::put_number;
 use crate::page::put_span;
@@ -17,6 +18,8 @@ use log::kinds::NODE;
 use log::kinds::PLUGIN;
 use log::kinds::PROPERTY;
 use log::layout;
+use log::layout::FIRST_BINDING;
+use log::layout::FIRST_DEFINITION;
 use log::parts::name_span_of;
 use log::parts::span_of;
 use log::record::child_of;
@@ -28,8 +31,26 @@ use log::record::out_field;
 use log::record::second_text;
 use queries::definition::goes_on;
 
+// A record of the chain whose first record stands at a place of record 0.
+pub fn put_record(
+    words: &[u32],
+    bytes: &[u8],
+    chain: u32,
+    r: u32,
+    page: &mut [u8],
+    at: usize,
+) -> usize
+    ensures { λ to. ⌜ Puts (recordLines chain (now (words .entry)) (now (bytes .entry)) r) (now (page .entry)) at (now (page .exit)) to ⌝ }
+{
+    match chain {
+        FIRST_DEFINITION => put_definition(words, bytes, r, page, at),
+        FIRST_BINDING => put_binding(words, bytes, r, page, at),
+        _ => put_diagnostic(words, r, page, at),
+    }
+}
+
 // A definition with its labels.
-pub fn put_definition(words: &[u32], bytes: &[u8], r: u32, page: &mut [u8], at: usize) -> usize
+fn put_definition(words: &[u32], bytes: &[u8], r: u32, page: &mut [u8], at: usize) -> usize
     ensures { λ to. ⌜ Puts (definitionLines (defAt (now (words .entry)) (now (bytes .entry)) r)) (now (page .entry)) at (now (page .exit))
         to ⌝ }
 {
@@ -112,7 +133,7 @@ fn put_label(page: &mut [u8], at: usize, label: &[u8]) -> usize
 }
 
 // A binding.
-pub fn put_binding(words: &[u32], bytes: &[u8], r: u32, page: &mut [u8], at: usize) -> usize
+fn put_binding(words: &[u32], bytes: &[u8], r: u32, page: &mut [u8], at: usize) -> usize
     ensures { λ to. ⌜ Puts (bindingLine (bindingAt (now (words .entry)) (now (bytes .entry)) r)) (now (page .entry)) at (now (page .exit))
         to ⌝ }
 {
@@ -125,7 +146,7 @@ pub fn put_binding(words: &[u32], bytes: &[u8], r: u32, page: &mut [u8], at: usi
 }
 
 // A diagnostic, whatever its text is.
-pub fn put_diagnostic(words: &[u32], r: u32, page: &mut [u8], at: usize) -> usize
+fn put_diagnostic(words: &[u32], r: u32, page: &mut [u8], at: usize) -> usize
     ensures { λ to. ⌜ ((bytes : List ℕ) → Puts (diagnosticLine (diagAt (now (words .entry)) bytes r)) (now (page .entry)) at
         (now (page .exit)) to) ⌝ }
 {

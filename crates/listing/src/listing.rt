@@ -1,14 +1,11 @@
 // The listing of a log, and the line of a refusal, at the start of a page.
-ghost use Prim.Native.Nat.{ℕ};
 ghost use mathlib.Core.Path.{_≡_};
-ghost use mathlib.Core.List.{List, flatMap};
-ghost use Rattle.log.specs.meaning.ReadBack.{readDefs, readBindings, readDiags, readLog};
-ghost use Rattle.listing.specs.meaning.Listing.{definitionLines, bindingLine, diagnosticLine, listing, refusalLine};
+ghost use Rattle.log.specs.meaning.ReadBack.{readLog};
+ghost use Rattle.listing.specs.meaning.Listing.{listing, refusalLine};
 ghost use Rattle.listing.specs.machine.Page.{pageAt, Puts, filled};
+ghost use Rattle.listing.specs.machine.Chains.{chainLines};
 ghost use Rattle.listing.specs.meaning.Program.{answerText};
-use crate::lines::put_binding;
-use crate::lines::put_definition;
-use crate::lines::put_diagnostic;
+use crate::lines::put_record;
 use crate::lines::put_refusal;
 use crate::page::put_text;
 use log::layout;
@@ -47,72 +44,22 @@ fn write_listing(words: &[u32], bytes: &[u8], page: &mut [u8]) -> usize
     ensures { λ n. ⌜ pageAt (now (page .exit)) n ≡ filled (now (page .entry))
         (listing (readLog (now (words .entry)) (now (bytes .entry)))) ⌝ }
 {
-    let binds = put_definitions(
-        words,
-        bytes,
-        out_field(words, 0, layout::FIRST_DEFINITION),
-        page,
-        0,
-    );
-    let diags = put_bindings(
-        words,
-        bytes,
-        out_field(words, 0, layout::FIRST_BINDING),
-        page,
-        binds,
-    );
-    let post = put_diagnostics(
-        words,
-        out_field(words, 0, layout::FIRST_DIAGNOSTIC),
-        page,
-        diags,
-    );
-    let end = put_diagnostics(words, out_field(words, 0, layout::FIRST_POST), page, post);
+    let binds = put_chain(words, bytes, layout::FIRST_DEFINITION, page, 0);
+    let diags = put_chain(words, bytes, layout::FIRST_BINDING, page, binds);
+    let post = put_chain(words, bytes, layout::FIRST_DIAGNOSTIC, page, diags);
+    let end = put_chain(words, bytes, layout::FIRST_POST, page, post);
     put_text(page, end, b".\n")
 }
 
-// A chain of definitions.
-fn put_definitions(words: &[u32], bytes: &[u8], first: u32, page: &mut [u8], at: usize) -> usize
-    ensures { λ to. ⌜ Puts (flatMap definitionLines (readDefs (now (words .entry)) (now (bytes .entry)) first)) (now (page .entry)) at
-        (now (page .exit)) to ⌝ }
+// The chain whose first record stands at a place of record 0.
+fn put_chain(words: &[u32], bytes: &[u8], chain: u32, page: &mut [u8], at: usize) -> usize
+    ensures { λ to. ⌜ Puts (chainLines chain (now (words .entry)) (now (bytes .entry))) (now (page .entry)) at (now (page .exit)) to ⌝ }
 {
     let mut to = at;
-    let mut r = first;
+    let mut r = out_field(words, 0, chain);
     let mut left = log_count(words);
     while goes_on(words, r, left) {
-        to = put_definition(words, bytes, r, page, to);
-        r = next_of(words, r);
-        left -= 1;
-    }
-    to
-}
-
-// A chain of bindings.
-fn put_bindings(words: &[u32], bytes: &[u8], first: u32, page: &mut [u8], at: usize) -> usize
-    ensures { λ to. ⌜ Puts (flatMap bindingLine (readBindings (now (words .entry)) (now (bytes .entry)) first)) (now (page .entry)) at
-        (now (page .exit)) to ⌝ }
-{
-    let mut to = at;
-    let mut r = first;
-    let mut left = log_count(words);
-    while goes_on(words, r, left) {
-        to = put_binding(words, bytes, r, page, to);
-        r = next_of(words, r);
-        left -= 1;
-    }
-    to
-}
-
-// A chain of diagnostics, whatever their texts are.
-fn put_diagnostics(words: &[u32], first: u32, page: &mut [u8], at: usize) -> usize
-    ensures { λ to. ⌜ ((bytes : List ℕ) → Puts (flatMap diagnosticLine (readDiags (now (words .entry)) bytes first)) (now (page .entry)) at
-        (now (page .exit)) to) ⌝ }
-{
-    let mut to = at;
-    let mut r = first;
-    let mut left = log_count(words);
-    while goes_on(words, r, left) {
-        to = put_diagnostic(words, r, page, to);
+        to = put_record(words, bytes, chain, r, page, to);
         r = next_of(words, r);
         left -= 1;
     }

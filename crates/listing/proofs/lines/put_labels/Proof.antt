@@ -1,6 +1,7 @@
 -- Loop invariant: what is left of the chain gives the page with all of it (Walks: lines-next, lines-end).
+use Prim.Native.Nat.{ℕ}
 use mathlib.Core.Path.{_≡_, refl, sym, ap, _∙_}
-use mathlib.Core.List.{map, flatMap}
+use mathlib.Core.List.{List, flatMap}
 use native.Mathlib.Omega.{arith}
 use lib.ListN.{length}
 use Rattle.log.specs.meaning.Record.{firstText}
@@ -9,15 +10,19 @@ use Rattle.queries.proofs.Chain.{goes-left}
 use Rattle.listing.specs.meaning.Listing.{labelLine}
 use Rattle.listing.specs.machine.Page.{pageAt, put}
 use Rattle.listing.proofs.Pages.{puts-same, puts-length}
-use Rattle.listing.proofs.Walks.{lines-next, lines-end}
+use Rattle.listing.proofs.Walks.{lines-next, lines-end, lines-of}
 use borrow.Author.Needs.{needs}
 use Rattle.listing.proofs.lines.put_labels.Statement.{statement}
 use Rattle.listing.proofs.lines.put_labels.Tie as tie
 
+-- the line of a label's record
+abbrev label : List ℕ → List ℕ → ℕ → List ℕ
+label words bytes r = labelLine (firstText words bytes r)
+
 abbrev Inv-loop : tie.InvT-loop
 Inv-loop words bytes first page₀ at to₀ r₀ left₀ page to r left = (length page ≡ length page₀)
     × (put (flatMap labelLine (readLabels words bytes first)) (pageAt page₀ at) ≡ put
-    (flatMap labelLine (map (firstText words bytes) (chainFrom left words r))) (pageAt page to))
+    (flatMap (label words bytes) (chainFrom left words r)) (pageAt page to))
 
 abbrev μ-loop : tie.MeasureT-loop
 μ-loop words bytes first page₀ at to₀ r₀ left₀ page to r left = left
@@ -27,7 +32,8 @@ log-count-requires c κs = search needs
 
 loop-holds : tie.Need-loop-holds Inv-loop μ-loop
 unfolding readLabels chainOf
-loop-holds c = (refl, rw (c .log-count .ensures) refl)
+loop-holds c = let a = c .before .before .before .before .args in
+    (refl, rw (c .log-count .ensures, lines-of labelLine (firstText (a .words .now) (a .bytes .now))) refl)
 
 goes-on-requires : tie.Need-goes-on-requires Inv-loop μ-loop
 goes-on-requires c κs = search needs
@@ -52,7 +58,8 @@ loop-less c = let l = c .before .before .before .before .before .before .before 
     omega (
       arith,
       goes-left
-          (c .before .before .before .before .before .before .before .before .before .before .before .before .before .args .words .now) (l .r)
+          (c .before .before .before .before .before .before .before .before .before .before .before .before .before .args .words .now)
+          (l .r)
           (l .left) (sym (c .before .before .before .before .before .before .before .goes-on .ensures)
           ∙ c .before .before .before .before .before .before .if1 .taken),
     )
@@ -62,10 +69,11 @@ loop-again c = let a = c .before .before .before .before .before .before .before
     let l = c .before .before .before .before .before .before .before .before .loop in (
       puts-length (c .before .before .before .put-label .ensures)
           ∙ l .inv .0,
-      lines-next labelLine (firstText (a .words .now) (a .bytes .now)) (a .words .now) (l .r) (l .left) _ _ (l .inv .1)
+      lines-next (label (a .words .now) (a .bytes .now)) (a .words .now) (l .r) (l .left) _ _ (l .inv .1)
           (sym (c .before .before .before .before .before .before .before .goes-on .ensures)
           ∙ c .before .before .before .before .before .before .if1 .taken) _ _
-          (puts-same (ap labelLine (c .before .before .before .before .first-text .ensures)) (c .before .before .before .put-label .ensures))
+          (puts-same (ap labelLine (c .before .before .before .before .first-text .ensures))
+          (c .before .before .before .put-label .ensures))
           _ (c .next-of .ensures),
     )
 
@@ -76,7 +84,7 @@ returns : tie.Need-returns Inv-loop μ-loop
 returns c = let a = c .before .before .before .before .before .before .before .args in
     let l = c .before .before .loop in
     record {
-      gives = lines-end labelLine (firstText (a .words .now) (a .bytes .now)) (a .words .now) (l .r) (l .left) _ _ (l .inv .1)
+      gives = lines-end (label (a .words .now) (a .bytes .now)) (a .words .now) (l .r) (l .left) _ _ (l .inv .1)
           (sym (c .before .goes-on .ensures) ∙ c .if1 .left);
     }
 
