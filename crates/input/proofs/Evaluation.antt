@@ -11,7 +11,8 @@ use lib.Dec.{eqb}
 use lib.IntN.{ℤ}
 use types.Run.{OneOf}
 use denote.Enum.Declared.{tagOf}
-use Rattle.paths_numbers.specs.meaning.Expression.{evalPrefix, evalInfix, evalRelation, evalCode, isTrue, ofTruth}
+use Rattle.paths_numbers.specs.meaning.Expression.{andOp, orOp, conditionalOp, evalPrefix, evalInfix, evalRelation, evalCode, isTrue}
+use Rattle.paths_numbers.specs.meaning.Expression.{ofTruth}
 use Rattle.paths_numbers.specs.declared.operators.Evaluated.{Evaluated}
 use Rattle.paths_numbers.specs.declared.operators.Evaluated.the-variants as Eval
 use Rattle.paths_numbers.proofs.operators.Evaluated as Result
@@ -107,26 +108,27 @@ prefix-first op n span [] = refl
 prefix-first op n span (x ∷ l) = simp (ne-eqb op 0 n)
 
 -- one of two operands its two first, where both are there
-two-operands : (op : ℕ) → (op ≡ 0 → ⊥) → (op ≡ 19 → ⊥) → (span : Span) (x y : Outcome) (l : List Outcome)
+two-operands : (op : ℕ) → (op ≡ 0 → ⊥) → (op ≡ conditionalOp → ⊥) → (span : Span) (x y : Outcome) (l : List Outcome)
     → infixOf op span (x ∷ y ∷ l) ≡ withValue x (λ a. applied op span a y)
-two-operands op n m span x y [] = simp (ne-eqb op 0 n, ne-eqb op 19 m)
-two-operands op n m span x y (z ∷ l) = simp (ne-eqb op 0 n, ne-eqb op 19 m)
+two-operands op n m span x y [] = simp (ne-eqb op 0 n, ne-eqb op conditionalOp m)
+two-operands op n m span x y (z ∷ l) = simp (ne-eqb op 0 n, ne-eqb op conditionalOp m)
 
 -- && and || where the first operand decides, and an infix operator where it does not
 pub decided : (op : ℕ) (span : Span) (a : ℤ) (y : Outcome) → decides op a ≡ true → value (ofTruth (isTrue a)) ≡ applied op span a y
 unfolding decides
 decided op span a y e =
-    by-test (eqb op 11)
+    by-test (eqb op andOp)
     (λ q. let f = not-true (isTrue a) (rw q at e) in rw (q, f) refl)
-    (λ q. by-test (eqb op 12) (λ p. let t = rw (q, p) at e in rw (q, p, t) refl) (λ p. absurd (not-both {t = false} (rw (q, p) at e) refl)))
+    (λ q. by-test (eqb op orOp) (λ p. let t = rw (q, p) at e in rw (q, p, t) refl)
+    (λ p. absurd (not-both {t = false} (rw (q, p) at e) refl)))
 
 pub undecided : (op : ℕ) (span : Span) (a : ℤ) (y : Outcome) → decides op a ≡ false
     → withValue y (λ b. evaluated span (evalInfix op a b)) ≡ applied op span a y
 unfolding decides evalInfix evalRelation
 undecided op span a y e =
-    by-test (eqb op 11)
-    (λ q. let t = not-false (isTrue a) (rw q at e) in rw (eqb-true op 11 q, t) refl)
-    (λ q. by-test (eqb op 12) (λ p. let f = rw (q, p) at e in rw (eqb-true op 12 p, f) refl) (λ p. rw (q, p) refl))
+    by-test (eqb op andOp)
+    (λ q. let t = not-false (isTrue a) (rw q at e) in rw (eqb-true op andOp q, t) refl)
+    (λ q. by-test (eqb op orOp) (λ p. let f = rw (q, p) at e in rw (eqb-true op orOp p, f) refl) (λ p. rw (q, p) refl))
 
 module _ (words text : List ℕ) (l : Linked words) where
   operands : (r : ℕ) → (r ≡ 0 → ⊥) → r < recordCount words
@@ -146,7 +148,8 @@ module _ (words text : List ℕ) (l : Linked words) where
   infix-short op span zero y e a z = rw (no-operands words text) refl
   infix-short op span (suc x) y e a z = rw (behind (suc x) y e (λ q. omega arith) a, z, no-operands words text) refl
 
-  pub infix-two : (op : ℕ) → (op ≡ 0 → ⊥) → (op ≡ 19 → ⊥) → (span : Span) (x y : ℕ) → y ≡ afterAt words x → At words x → At words y
+  pub infix-two : (op : ℕ) → (op ≡ 0 → ⊥) → (op ≡ conditionalOp → ⊥) → (span : Span) (x y : ℕ) → y ≡ afterAt words x → At words x
+      → At words y
       → (y ≡ 0 → ⊥)
       → withValue (eval (recordAt words text x)) (λ a. applied op span a (eval (recordAt words text y))) ≡ infixOf op span
       (evals (chainAt words text x))
@@ -157,7 +160,7 @@ module _ (words text : List ℕ) (l : Linked words) where
 
   -- fewer than three, and three
   pub conditional-short : (span : Span) (x y z : ℕ) → y ≡ afterAt words x → z ≡ afterAt words y → At words x → At words y → z ≡ 0
-      → missing ≡ infixOf 19 span (evals (chainAt words text x))
+      → missing ≡ infixOf conditionalOp span (evals (chainAt words text x))
   conditional-short span zero y z e f a b q = rw (no-operands words text) refl
   conditional-short span (suc x) zero z e f a b q = rw (behind (suc x) 0 e (λ q. omega arith) a, no-operands words text) refl
   conditional-short span (suc x) (suc y) z e f a b q =
@@ -166,7 +169,7 @@ module _ (words text : List ℕ) (l : Linked words) where
   pub conditional-three : (span : Span) (x y z : ℕ) → y ≡ afterAt words x → z ≡ afterAt words y → At words x → At words y → At words z
       → (z ≡ 0 → ⊥)
       → chosen (eval (recordAt words text x)) (eval (recordAt words text y)) (eval (recordAt words text z))
-      ≡ infixOf 19 span (evals (chainAt words text x))
+      ≡ infixOf conditionalOp span (evals (chainAt words text x))
   conditional-three span x y z e f a b c n =
       let m = before-some words text y z f n in
       rw (behind x y e (before-some words text x y e m) a, behind y z f m b, operands z n (c n)) refl
@@ -187,7 +190,7 @@ module _ (words text : List ℕ) (l : Linked words) where
       second-at : At words y
       second-at = chain-after words text x y e l nesting h .at
 
-      module _ (op : ℕ) (n : op ≡ 0 → ⊥) (m : op ≡ 19 → ⊥) (k : y ≡ 0 → ⊥) where
+      module _ (op : ℕ) (n : op ≡ 0 → ⊥) (m : op ≡ conditionalOp → ⊥) (k : y ≡ 0 → ⊥) where
         two : withValue (eval (recordAt words text x)) (λ a. applied op span a (eval (recordAt words text y))) ≡ infixOf op span
             (evals (chainAt words text x))
         two = infix-two op n m span x y e (h .at) second-at k
@@ -202,16 +205,17 @@ module _ (words text : List ℕ) (l : Linked words) where
 
       module _ (z : ℕ) (f : z ≡ afterAt words y) (k : z ≡ 0 → ⊥) where
         three : chosen (eval (recordAt words text x)) (eval (recordAt words text y)) (eval (recordAt words text z))
-            ≡ infixOf 19 span (evals (chainAt words text x))
+            ≡ infixOf conditionalOp span (evals (chainAt words text x))
         three =
             conditional-three span x y z e f (h .at) second-at
             (chain-after words text y z f l nesting (chain-after words text x y e l nesting h) .at) k
 
         pub conditional-fails : OneOf (1 ∷ 2 ∷ 3 ∷ []) (tagOf the-type v)
-            → outcomeOf words text v ≡ infixOf 19 span (evals (chainAt words text x))
+            → outcomeOf words text v ≡ infixOf conditionalOp span (evals (chainAt words text x))
         conditional-fails o =
             failure-passes words text v (λ a. cond (isTrue a) (eval (recordAt words text y)) (eval (recordAt words text z))) o ∙ rw q three
 
         pub conditional-value : (a : ℤ) → v ≡ E.Value a
-            → cond (isTrue a) (eval (recordAt words text y)) (eval (recordAt words text z)) ≡ infixOf 19 span (evals (chainAt words text x))
+            → cond (isTrue a) (eval (recordAt words text y)) (eval (recordAt words text z)) ≡ infixOf conditionalOp span
+            (evals (chainAt words text x))
         conditional-value a w = rw (operand-value a w) at three

@@ -1,5 +1,5 @@
 -- What an accepted input keeps: its links go up, its texts lie inside, and its description has good names, fit places and at most 64
--- nestings.
+-- child, item and value links from record 0 to its deepest record.
 use Prim.Native.Nat.{ℕ, zero, suc, _+_, _*_, _≤_, _<_}
 use mathlib.Core.Path.{_≡_, refl, sym, _∙_}
 use mathlib.Core.Bool.{Bool, true, false, cond}

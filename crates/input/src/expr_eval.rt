@@ -3,10 +3,10 @@
 ghost use mathlib.Core.Path.{_≡_};
 ghost use mathlib.Core.List.{List};
 ghost use Prim.Native.Nat.{ℕ};
-ghost use Rattle.paths_numbers.specs.meaning.Expression.{evalPrefix, evalInfix};
+ghost use Rattle.paths_numbers.specs.meaning.Expression.{conditionalOp, evalPrefix, evalInfix};
 ghost use Rattle.log.specs.meaning.Contents.{Span};
 ghost use Rattle.input.specs.meaning.Expr.{withValue, evaluated, literal, firstOperand, applied, prefixOf, infixOf, eval, evals};
-ghost use Rattle.input.specs.meaning.Input.{childAt, numberAt, spanAt, chainAt, recordAt};
+ghost use Rattle.input.specs.meaning.Input.{childAt, numberAt, spanAt, chainAt, childrenAt, recordAt};
 ghost use Rattle.input.specs.machine.Linked.{Linked, RecordIn, ChainIn};
 ghost use Rattle.input.specs.machine.Evaluation.{outcomeOf, decides};
 use crate::kinds::CHARACTER;
@@ -23,18 +23,14 @@ use crate::record::text_at;
 use paths_numbers::expr_eval::ParsedI64;
 use paths_numbers::expr_eval::int_code;
 use paths_numbers::expr_eval::parse_int_tok_i64;
+use paths_numbers::operators::AND;
+use paths_numbers::operators::CONDITIONAL;
 use paths_numbers::operators::Evaluated;
+use paths_numbers::operators::OR;
 use paths_numbers::operators::eval_code;
 use paths_numbers::operators::eval_infix;
 use paths_numbers::operators::eval_prefix;
 use paths_numbers::operators::is_true;
-
-// The infix operators that evaluate only what they need.
-const AND: u32 = 11;
-
-const OR: u32 = 12;
-
-const CONDITIONAL: u32 = 19;
 
 // A value, or why there is none.
 pub enum Evaluation {
@@ -85,7 +81,7 @@ fn eval_prefix_at(words: &[u32], text: &[u8], r: u32, nesting: u32) -> Evaluatio
     requires { ⌜ Linked (now words) ⌝ }
     requires { ⌜ ChainIn (now words) (now text) (childAt (now words) r) nesting ⌝ }
     ensures { λ e. ⌜ outcomeOf (now (words .entry)) (now (text .entry)) e ≡ prefixOf (numberAt (now (words .entry)) r)
-        (spanAt (now (words .entry)) r) (evals (chainAt (now (words .entry)) (now (text .entry)) (childAt (now (words .entry)) r))) ⌝ }
+        (spanAt (now (words .entry)) r) (evals (childrenAt (now (words .entry)) (now (text .entry)) r)) ⌝ }
 {
     let op = number_at(words, r);
     if op == 0 {
@@ -99,7 +95,7 @@ fn eval_infix_at(words: &[u32], text: &[u8], r: u32, nesting: u32) -> Evaluation
     requires { ⌜ Linked (now words) ⌝ }
     requires { ⌜ ChainIn (now words) (now text) (childAt (now words) r) nesting ⌝ }
     ensures { λ e. ⌜ outcomeOf (now (words .entry)) (now (text .entry)) e ≡ infixOf (numberAt (now (words .entry)) r)
-        (spanAt (now (words .entry)) r) (evals (chainAt (now (words .entry)) (now (text .entry)) (childAt (now (words .entry)) r))) ⌝ }
+        (spanAt (now (words .entry)) r) (evals (childrenAt (now (words .entry)) (now (text .entry)) r)) ⌝ }
 {
     let op = number_at(words, r);
     if op == 0 {
@@ -116,7 +112,7 @@ fn eval_infix_at(words: &[u32], text: &[u8], r: u32, nesting: u32) -> Evaluation
 fn eval_conditional_at(words: &[u32], text: &[u8], x: u32, nesting: u32) -> Evaluation
     requires { ⌜ Linked (now words) ⌝ }
     requires { ⌜ ChainIn (now words) (now text) x nesting ⌝ }
-    ensures { λ e. ⌜ ((span : Span) → outcomeOf (now (words .entry)) (now (text .entry)) e ≡ infixOf 19 span
+    ensures { λ e. ⌜ ((span : Span) → outcomeOf (now (words .entry)) (now (text .entry)) e ≡ infixOf conditionalOp span
         (evals (chainAt (now (words .entry)) (now (text .entry)) x))) ⌝ }
 {
     let y = after(words, x);
@@ -138,7 +134,7 @@ fn eval_conditional_at(words: &[u32], text: &[u8], x: u32, nesting: u32) -> Eval
 fn eval_binary(words: &[u32], text: &[u8], r: u32, op: u32, x: u32, nesting: u32) -> Evaluation
     requires { ⌜ Linked (now words) ⌝ }
     requires { ⌜ ChainIn (now words) (now text) x nesting ⌝ }
-    requires { ⌜ (op ≡ 0 → ⊥) × (op ≡ 19 → ⊥) ⌝ }
+    requires { ⌜ (op ≡ 0 → ⊥) × (op ≡ conditionalOp → ⊥) ⌝ }
     ensures { λ e. ⌜ outcomeOf (now (words .entry)) (now (text .entry)) e ≡ infixOf op (spanAt (now (words .entry)) r)
         (evals (chainAt (now (words .entry)) (now (text .entry)) x)) ⌝ }
 {

@@ -3,6 +3,7 @@
 pub mod expr_eval;
 pub mod kinds;
 mod layout;
+pub mod limits;
 pub mod name;
 pub mod phandle;
 mod place;

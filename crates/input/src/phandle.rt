@@ -6,6 +6,7 @@ ghost use Rattle.input.specs.meaning.Input.{recordCount, recordAt};
 ghost use Rattle.input.specs.machine.Linked.{Linked};
 ghost use Rattle.input.specs.machine.PhandleRead.{labelAt, pathAt, phandleRead, readAs};
 use crate::kinds::MACRO;
+use crate::place::RAW;
 use crate::record::child_at;
 use crate::record::first_of;
 use crate::record::no_text;
@@ -14,9 +15,6 @@ use crate::record::text_at;
 use paths_numbers::phandle::MirPhandleTarget;
 use paths_numbers::phandle::phandle_label;
 use paths_numbers::phandle::phandle_path;
-
-// The W of a raw reference.
-const RAW: u32 = 1;
 
 // What a reference names, by the names of the Rust's MirPhandleTarget; or the macro that is not
 // defined, or that it cannot be read.

@@ -25,6 +25,7 @@ use crate::kinds::REFERENCE;
 use crate::kinds::SLASH;
 use crate::kinds::STRING;
 use crate::kinds::UNIT_ADDRESS;
+use paths_numbers::operators::CONDITIONAL;
 
 // Where a record stands, by number.
 pub const ITEMS: u32 = 1;
@@ -46,6 +47,20 @@ const NAMES: u32 = 8;
 const MACROS: u32 = 9;
 
 const NO_PLACE: u32 = 10;
+
+// The last W of a directive, of a reference, which is a raw one's, and of a prefix.
+const LAST_DIRECTIVE: u32 = 6;
+
+pub const RAW: u32 = 1;
+
+const LAST_PREFIX: u32 = 4;
+
+// The last code point, and the surrogates, which are none.
+const LAST_CHARACTER: u32 = 0x10ffff;
+
+const FIRST_SURROGATE: u32 = 0xd800;
+
+const LAST_SURROGATE: u32 = 0xdfff;
 
 // What a record says by itself: its kind fits its place, its W its kind, and its span does not end before it starts.
 pub fn fits_alone(place: u32, kind: u32, w: u32, start: u32, end: u32) -> bool
@@ -198,19 +213,19 @@ fn w_fits(kind: u32, w: u32) -> bool
         if w < 1 {
             return false;
         }
-        return w <= 6;
+        return w <= LAST_DIRECTIVE;
     }
     if kind == REFERENCE {
-        return w <= 1;
+        return w <= RAW;
     }
     if kind == CHARACTER {
         return is_character(w);
     }
     if kind == PREFIX {
-        return w <= 4;
+        return w <= LAST_PREFIX;
     }
     if kind == INFIX {
-        return w <= 19;
+        return w <= CONDITIONAL;
     }
     w == 0
 }
@@ -219,13 +234,13 @@ fn w_fits(kind: u32, w: u32) -> bool
 fn is_character(w: u32) -> bool
     ensures { λ t. ⌜ t ≡ isCharacter w ⌝ }
 {
-    if 0x10ffff < w {
+    if LAST_CHARACTER < w {
         return false;
     }
-    if w < 0xd800 {
+    if w < FIRST_SURROGATE {
         return true;
     }
-    0xdfff < w
+    LAST_SURROGATE < w
 }
 
 // Whether a number is in a list.

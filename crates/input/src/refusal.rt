@@ -17,6 +17,9 @@ ghost use Rattle.input.specs.meaning.GoodName.{goodName};
 use crate::kinds::NAME;
 use crate::kinds::REFERENCE;
 use crate::layout;
+use crate::limits::MOST_LINKS;
+use crate::limits::MOST_RECORDS;
+use crate::limits::MOST_TEXT;
 use crate::place;
 use log::answer::REFUSED_DEPTH;
 use log::answer::REFUSED_KIND;
@@ -25,13 +28,6 @@ use log::answer::REFUSED_NAME;
 use log::answer::REFUSED_SIZE;
 use log::answer::REFUSED_TEXT;
 use log::record::text_in;
-
-// The records and the bytes of text that an input may have, and the child, item and value links from record 0.
-const MOST_RECORDS: usize = 2048;
-
-const MOST_TEXT: usize = 65536;
-
-pub const MOST_LINKS: u32 = 64;
 
 // How a record stands is one number: this times its depth, and its place's number; 0 where no link has led to it.
 const PLACES: u32 = 16;
@@ -276,7 +272,18 @@ fn bad_text(words: &[u32], text: &[u8], r: u32) -> bool
 fn bad_head(words: &[u32]) -> bool
     ensures { λ t. ⌜ t ≡ badHead (now (words .entry)) ⌝ }
 {
-    any_word(words, &[0, 1, 3, 4, 5, 6, 7])
+    any_word(
+        words,
+        &[
+            layout::KIND,
+            layout::NEXT,
+            layout::TEXT_START,
+            layout::TEXT_LENGTH,
+            layout::W,
+            layout::SPAN_START,
+            layout::SPAN_END,
+        ],
+    )
 }
 
 // Whether one of these words of record 0 is not zero.

@@ -7,7 +7,7 @@ ghost use Rattle.paths_numbers.specs.meaning.Bytestring.{countOf};
 ghost use Rattle.input.specs.meaning.Expr.{firstOperand, evals};
 ghost use Rattle.input.specs.meaning.Property.{numberCell, fittedCell, outcomeCell, referenceCell, lowerCell, sizedList};
 ghost use Rattle.input.specs.meaning.Property.{countedBytes, referenceValue, lowerValue};
-ghost use Rattle.input.specs.meaning.Input.{recordCount, childAt, spanAt, textAt, chainAt, recordAt};
+ghost use Rattle.input.specs.meaning.Input.{recordCount, spanAt, textAt, childrenAt, recordAt};
 ghost use Rattle.input.specs.machine.Linked.{Linked, RecordIn};
 ghost use Rattle.input.specs.machine.Evaluation.{outcomeOf};
 ghost use Rattle.input.specs.machine.PhandleRead.{phandleRead};
@@ -46,6 +46,9 @@ use paths_numbers::dt_property::size_code;
 use paths_numbers::expr_eval::ParsedInt;
 use paths_numbers::expr_eval::int_code;
 use paths_numbers::expr_eval::parse_int_tok;
+
+// The width of the cells that a reference may stand in.
+const REFERENCE_BITS: u32 = 32;
 
 // What a cell's record gives: a number, a reference of a kind, or nothing but a report.
 pub enum CellRead {
@@ -118,7 +121,7 @@ fn expression_cell(words: &[u32], text: &[u8], r: u32, size: BitsSize, nesting: 
     requires { ⌜ Linked (now words) ⌝ }
     requires { ⌜ RecordIn (now words) (now text) r nesting ⌝ }
     ensures { λ v. ⌜ cellMade (now (words .entry)) (now (text .entry)) r v ≡ outcomeCell size (spanAt (now (words .entry)) r)
-        (firstOperand (evals (chainAt (now (words .entry)) (now (text .entry)) (childAt (now (words .entry)) r)))) ⌝ }
+        (firstOperand (evals (childrenAt (now (words .entry)) (now (text .entry)) r))) ⌝ }
 {
     if nesting == 0 {
         return CellRead::Failed(Report::Nothing);
@@ -149,7 +152,7 @@ fn reference_cell(r: u32, size: BitsSize, t: TargetRead) -> CellRead
     match t {
         TargetRead::Failed(report) => CellRead::Failed(report),
         TargetRead::Target(kind) => {
-            if size.bits() == 32 {
+            if size.bits() == REFERENCE_BITS {
                 return CellRead::Phandle(kind);
             }
             CellRead::Failed(Report::Code(codes::REFERENCE_WIDTH, r))
@@ -191,8 +194,7 @@ pub fn read_value(words: &[u32], text: &[u8], r: u32) -> ValueRead
 
 // A cell list of a width that was read, at record r.
 fn sized_list(r: u32, size: SizeRead) -> ValueRead
-    ensures { λ v. ⌜ ((words text : List ℕ) → valueMade words text r v ≡ sizedList (spanAt words r) (chainAt words text (childAt words r))
-        size) ⌝ }
+    ensures { λ v. ⌜ ((words text : List ℕ) → valueMade words text r v ≡ sizedList (spanAt words r) (childrenAt words text r) size) ⌝ }
 {
     match size {
         SizeRead::Size(s) => ValueRead::CellList(s),

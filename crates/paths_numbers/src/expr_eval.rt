@@ -9,9 +9,15 @@ use crate::codes;
 use crate::dt_property::BitsSize;
 
 // The largest and the smallest signed 64-bit number, by their distance from 0.
-const MOST_UP: u64 = 9223372036854775807;
+pub(crate) const MOST_UP: u64 = 9223372036854775807;
 
-const MOST_DOWN: u64 = 9223372036854775808;
+pub(crate) const MOST_DOWN: u64 = 9223372036854775808;
+
+// The base of a number without a prefix.
+const DECIMAL: u64 = 10;
+
+// What a byte that is no digit counts as: more than any base has.
+const NO_DIGIT: u64 = 36;
 
 // How the reading of an integer fails, by the names of the Rust's std::num::IntErrorKind.
 pub enum IntErrorKind {
@@ -52,7 +58,7 @@ pub fn parse_int_tok(text: &[u8], size: BitsSize) -> ParsedInt
     let most = size.most();
     let s = trim_suffixes(text);
     let base = base_of(s);
-    if base == 10 {
+    if base == DECIMAL {
         return read_unsigned(s, base, most);
     }
     read_unsigned(&s[2..], base, most)
@@ -64,7 +70,7 @@ pub fn parse_int_tok_i64(text: &[u8]) -> ParsedI64
 {
     let s = trim_suffixes(text);
     let base = base_of(s);
-    if base == 10 {
+    if base == DECIMAL {
         return read_signed(s, base);
     }
     read_signed(&s[2..], base)
@@ -99,16 +105,16 @@ fn base_of(s: &[u8]) -> u64
     ensures { λ r. ⌜ r ≡ baseOf (now (s .entry)) ⌝ }
 {
     if s.len() < 2 {
-        return 10;
+        return DECIMAL;
     }
     if s[0] != b'0' {
-        return 10;
+        return DECIMAL;
     }
     match s[1] {
         b'x' | b'X' => 16,
         b'b' | b'B' => 2,
         b'o' | b'O' => 8,
-        _ => 10,
+        _ => DECIMAL,
     }
 }
 
@@ -176,29 +182,29 @@ fn read_digits(s: &[u8], base: u64, most: u64, over: IntErrorKind) -> ParsedInt
     ParsedInt::Value(acc)
 }
 
-// The value of a digit, 36 where the byte is none.
+// The value of a digit, NO_DIGIT where the byte is none.
 pub(crate) fn digit(b: u8) -> u64
     ensures { λ r. ⌜ r ≡ digitOf b ⌝ }
 {
     if b < b'0' {
-        return 36;
+        return NO_DIGIT;
     }
     if b <= b'9' {
         return (b - 48) as u64;
     }
     if b < b'A' {
-        return 36;
+        return NO_DIGIT;
     }
     if b <= b'Z' {
         return (b - 55) as u64;
     }
     if b < b'a' {
-        return 36;
+        return NO_DIGIT;
     }
     if b <= b'z' {
         return (b - 87) as u64;
     }
-    36
+    NO_DIGIT
 }
 
 // A reading as a positive number.

@@ -5,6 +5,8 @@ ghost use lib.Signed.{quotZ};
 ghost use Rattle.paths_numbers.specs.meaning.Expression.{isTrue, evalPrefix, evalInfix, isWithin, within, mostOf, quotient};
 ghost use Rattle.paths_numbers.specs.meaning.Expression.{remainder, shiftLeft, shiftRight, evalRelation, evalConditional, evalCode};
 use crate::codes;
+use crate::expr_eval::MOST_DOWN;
+use crate::expr_eval::MOST_UP;
 
 // An operator's result, or why there is none.
 pub enum Evaluated {
@@ -175,9 +177,9 @@ fn most(a: i64, b: i64) -> u64
     ensures { λ r. ⌜ r ≡ mostOf a b ⌝ }
 {
     if (a < 0) == (b < 0) {
-        return 9223372036854775807;
+        return MOST_UP;
     }
-    9223372036854775808
+    MOST_DOWN
 }
 
 // The quotient of two values, rounded toward 0.

@@ -5,7 +5,7 @@ use mathlib.Core.Bool.{Bool, false, not, cond}
 use mathlib.Core.List.{List, [], _∷_}
 use lib.Dec.{eqb}
 use lib.IntN.{ℤ}
-use Rattle.paths_numbers.specs.meaning.Expression.{isTrue}
+use Rattle.paths_numbers.specs.meaning.Expression.{andOp, orOp, isTrue}
 use Rattle.input.specs.meaning.Report.{undefinedMacro}
 use Rattle.input.specs.meaning.Expr.{Outcome, value, fails, missing, failsWith}
 use Rattle.input.specs.meaning.Input.{spanAt, recordAt}
@@ -21,4 +21,4 @@ outcomeOf words text (E.Failed code r) = failsWith code (spanAt words r)
 
 -- "&&, || … evaluate only what they need": whether the first operand decides
 unfoldable pub decides : ℕ → ℤ → Bool
-decides op a = cond (eqb op 11) (not (isTrue a)) (cond (eqb op 12) (isTrue a) false)
+decides op a = cond (eqb op andOp) (not (isTrue a)) (cond (eqb op orOp) (isTrue a) false)

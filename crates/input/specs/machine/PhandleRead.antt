@@ -6,6 +6,7 @@ use lib.Dec.{eqb}
 use Rattle.paths_numbers.specs.meaning.Reference.{Target, label, labelPath, path, target, labelOf, pathOf}
 use Rattle.paths_numbers.specs.declared.phandle.MirPhandleTarget.{MirPhandleTarget}
 use Rattle.paths_numbers.specs.declared.phandle.MirPhandleTarget.the-variants as K
+use Rattle.input.specs.meaning.Place.{rawReference}
 use Rattle.input.specs.meaning.Report.{Got, found, failed, undefinedMacro}
 use Rattle.input.specs.meaning.Input.{numberAt, textAt, recordAt}
 use Rattle.input.specs.declared.phandle.PhandleRead.{PhandleRead}
@@ -13,10 +14,10 @@ use Rattle.input.specs.declared.phandle.PhandleRead.the-variants.{Macro,
 
 -- the label and the path that a reference record gives: W 1 is raw, another names the label of its whole text
 unfoldable pub labelAt : List ℕ → List ℕ → ℕ → List ℕ
-labelAt words text r = cond (eqb (numberAt words r) 1) (labelOf (target (textAt words text r))) (textAt words text r)
+labelAt words text r = cond (eqb (numberAt words r) rawReference) (labelOf (target (textAt words text r))) (textAt words text r)
 
 unfoldable pub pathAt : List ℕ → List ℕ → ℕ → List ℕ
-pathAt words text r = cond (eqb (numberAt words r) 1) (pathOf (target (textAt words text r))) []
+pathAt words text r = cond (eqb (numberAt words r) rawReference) (pathOf (target (textAt words text r))) []
 
 -- a target of a kind, with this label and this path
 abbrev pub targetOf : List ℕ → List ℕ → List ℕ → List ℕ → PhandleRead → Got Target

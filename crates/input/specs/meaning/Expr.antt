@@ -6,7 +6,7 @@ use lib.Dec.{eqb}
 use lib.IntN.{ℤ, pos}
 use Rattle.paths_numbers.specs.meaning.Code.{macroUndefined}
 use Rattle.paths_numbers.specs.meaning.Number.{signedNumber, intCode}
-use Rattle.paths_numbers.specs.meaning.Expression.{evalPrefix, evalInfix, evalCode, isTrue, ofTruth}
+use Rattle.paths_numbers.specs.meaning.Expression.{andOp, orOp, conditionalOp, evalPrefix, evalInfix, evalCode, isTrue, ofTruth}
 use Rattle.paths_numbers.specs.declared.expr_eval.ParsedI64.{ParsedI64}
 use Rattle.paths_numbers.specs.declared.expr_eval.ParsedI64.the-variants as I
 use Rattle.paths_numbers.specs.declared.operators.Evaluated.{Evaluated}
@@ -62,19 +62,19 @@ either a y = cond (isTrue a) (value (pos 1)) (withValue y (λ b. value (ofTruth 
 -- an infix operator on the values of two operands
 abbrev pub applied : ℕ → Span → ℤ → Outcome → Outcome
 applied op span a y =
-    cond (eqb op 11) (both a y) (cond (eqb op 12) (either a y) (withValue y (λ b. evaluated span (evalInfix op a b))))
+    cond (eqb op andOp) (both a y) (cond (eqb op orOp) (either a y) (withValue y (λ b. evaluated span (evalInfix op a b))))
 
 -- the condition and the two choices of ?:
 abbrev pub chosen : Outcome → Outcome → Outcome → Outcome
 chosen x y z = withValue x (λ a. cond (isTrue a) y z)
 
--- operator 19 takes three operands, the others two; W 0 and an operand too few fail "before any operand is evaluated"
+-- ?: takes three operands, the others two; W 0 and an operand too few fail "before any operand is evaluated"
 abbrev pub infixOf : ℕ → Span → List Outcome → Outcome
 infixOf op span [] = missing
 infixOf op span (x ∷ []) = missing
-infixOf op span (x ∷ y ∷ []) = cond (eqb op 0) missing (cond (eqb op 19) missing (withValue x (λ a. applied op span a y)))
+infixOf op span (x ∷ y ∷ []) = cond (eqb op 0) missing (cond (eqb op conditionalOp) missing (withValue x (λ a. applied op span a y)))
 infixOf op span (x ∷ y ∷ z ∷ l) =
-    cond (eqb op 0) missing (cond (eqb op 19) (chosen x y z) (withValue x (λ a. applied op span a y)))
+    cond (eqb op 0) missing (cond (eqb op conditionalOp) (chosen x y z) (withValue x (λ a. applied op span a y)))
 
 abbrev pub prefixOf : ℕ → Span → List Outcome → Outcome
 prefixOf op span [] = missing

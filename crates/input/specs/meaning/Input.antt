@@ -78,13 +78,20 @@ treesAt (suc f) words text (suc r) =
 unfoldable pub chainAt : List ℕ → List ℕ → ℕ → Trees
 chainAt words text r = treesAt (recordCount words) words text r
 
+-- the chains that record r leads to: its children, and what its W leads to, the items of a node and the values of a property
+abbrev pub childrenAt : List ℕ → List ℕ → ℕ → Trees
+childrenAt words text r = chainAt words text (childAt words r)
+
+abbrev pub bodyAt : List ℕ → List ℕ → ℕ → Trees
+bodyAt words text r = chainAt words text (secondAt words r)
+
 -- the tree of record r alone
 unfoldable pub recordAt : List ℕ → List ℕ → ℕ → Tree
 recordAt words text r =
     tree (kindAt words r) (textAt words text r) (numberAt words r) (spanAt words r)
-    (chainAt words text (childAt words r))
-    (chainAt words text (secondAt words r))
+    (childrenAt words text r)
+    (bodyAt words text r)
 
 -- "Record 0 holds only the first top item as child": the top items
 unfoldable pub description : List ℕ → List ℕ → Trees
-description words text = chainAt words text (childAt words 0)
+description words text = childrenAt words text 0

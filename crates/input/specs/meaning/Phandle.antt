@@ -6,6 +6,7 @@ use lib.Dec.{eqb}
 use Rattle.paths_numbers.specs.meaning.Text.{isEmpty}
 use Rattle.paths_numbers.specs.meaning.Reference.{Target, label, labelPath, path, unreadable, target}
 use Rattle.input.specs.meaning.Tree.{Tree, textOf, wOf, childrenOf, firstOf, macroKind}
+use Rattle.input.specs.meaning.Place.{rawReference}
 use Rattle.input.specs.meaning.Report.{Got, found, failed, undefinedMacro}
 
 -- a target that can be read
@@ -17,7 +18,8 @@ readable unreadable = failed []
 
 -- a reference record without a macro: W 1 is raw, W 0 a name, "length 0 missing"
 abbrev pub plainTarget : Tree → Got Target
-plainTarget r = cond (eqb (wOf r) 1) (readable (target (textOf r))) (cond (isEmpty (textOf r)) (failed []) (found (label (textOf r))))
+plainTarget r = cond (eqb (wOf r) rawReference) (readable (target (textOf r)))
+    (cond (isEmpty (textOf r)) (failed []) (found (label (textOf r))))
 
 abbrev pub macroFirst : Option Tree → Tree → Got Target
 macroFirst (some m) r = failed (undefinedMacro m ∷ [])

@@ -3,6 +3,7 @@ use Prim.Native.Nat.{ℕ, suc, max}
 use mathlib.Core.Bool.{Bool, true, false, not, cond}
 use mathlib.Core.List.{List, [], _∷_}
 use lib.Dec.{eqb, leb}
+use Rattle.paths_numbers.specs.meaning.Expression.{conditionalOp}
 use Rattle.paths_numbers.specs.meaning.Text.{isEmpty}
 use Rattle.log.specs.meaning.Contents.{Span}
 use Rattle.paths_numbers.specs.meaning.Lists.{any}
@@ -79,15 +80,25 @@ lastSurrogate = 57343
 abbrev pub isCharacter : ℕ → Bool
 isCharacter w = cond (leb w largestCodePoint) (not (cond (leb firstSurrogate w) (leb w lastSurrogate) false)) false
 
+-- the last of a directive's, a reference's and a prefix's W
+abbrev pub lastDirective : ℕ
+lastDirective = 6
+
+abbrev pub rawReference : ℕ
+rawReference = 1
+
+abbrev pub lastPrefix : ℕ
+lastPrefix = 4
+
 -- W not "outside its list", where it is a number: a directive's is 1 to 6, a reference's 0 or 1, a character's a code point, a prefix's 0
--- to 4, an infix's 0 to 19, and 0 of a kind with "no W named"
+-- to 4, an infix's 0 to that of ?:, and 0 of a kind with "no W named"
 unfoldable pub wFits : ℕ → ℕ → Bool
 wFits k w =
-    cond (eqb k directiveKind) (cond (leb 1 w) (leb w 6) false)
-    (cond (eqb k referenceKind) (leb w 1)
+    cond (eqb k directiveKind) (cond (leb 1 w) (leb w lastDirective) false)
+    (cond (eqb k referenceKind) (leb w rawReference)
     (cond (eqb k characterKind) (isCharacter w)
-    (cond (eqb k prefixKind) (leb w 4)
-    (cond (eqb k infixKind) (leb w 19)
+    (cond (eqb k prefixKind) (leb w lastPrefix)
+    (cond (eqb k infixKind) (leb w conditionalOp)
     (eqb w 0)))))
 
 -- row 4's rule of what a record says by itself: its kind in its place, its W, and no "span end before start"

@@ -4,6 +4,7 @@ use borrow.Author.Tests.{ne-eqb}
 use Rattle.paths_numbers.proofs.Integers.{read}
 use Rattle.input.specs.machine.Evaluation.{decides}
 use borrow.Author.Needs.{needs}
+use Rattle.paths_numbers.specs.meaning.Expression.{andOp, orOp}
 use Rattle.input.proofs.expr_eval.first_decides.Statement.{statement}
 use Rattle.input.proofs.expr_eval.first_decides.Tie as tie
 
@@ -25,7 +26,7 @@ returns-3 : tie.Need-returns-3
 unfolding decides
 returns-3 c =
     let r = c .match .rest in
-    simp (ne-eqb _ 11 (r .0 .1), ne-eqb _ 12 (r .1))
+    simp (ne-eqb _ andOp (r .0 .1), ne-eqb _ orOp (r .1))
 
 pub first-decides-spec : {M : Type 1} → statement M
 first-decides-spec =
