@@ -19,7 +19,8 @@ use Rattle.input.specs.meaning.Tree.{Tree, Trees, tree, empty, more, kindOf, wO
 use Rattle.input.specs.meaning.Tree.{nameKind, unitAddressKind, referenceKind, slashKind}
 use Rattle.input.specs.meaning.Name.{fullName}
 use Rattle.making.specs.meaning.State.{State, start, emit}
-use Rattle.items.specs.meaning.Lower.{at, nowhere, placeOf, opened, lowerItem, lowered}
+use Rattle.items.specs.meaning.Lower.{versionDirective, pluginDirective, deleteNodeDirective, at, nowhere, placeOf, opened, lowerItem}
+use Rattle.items.specs.meaning.Lower.{lowered}
 use Rattle.post_checks.specs.meaning.Post.{postChecks}
 
 -- a unit address, where there is one, "that holds one", a name
@@ -38,9 +39,9 @@ plainName parts =
 -- property is let pass: whether that is a deletion by reference or not, the theorem covers it
 unfoldable pub quietDirective : ℕ → Trees → Bool
 quietDirective w parts =
-    cond (eqb w 1) false
-    (cond (eqb w 2) false
-    (cond (eqb w 4) (not (has referenceKind parts))
+    cond (eqb w versionDirective) false
+    (cond (eqb w pluginDirective) false
+    (cond (eqb w deleteNodeDirective) (not (has referenceKind parts))
     true))
 
 -- an item of the two, with all that it holds: "All nodes in these two have plain names"
@@ -69,7 +70,7 @@ pub record Pair (new parent : List ℕ) (s : State) (n d : Tree) : Type 0 where
   pub newPath : Names parent n new
   -- "a delete node directive whose name gives that path"
   pub deletion : kindOf d ≡ directiveKind
-  pub deletesNode : wOf d ≡ 4
+  pub deletesNode : wOf d ≡ deleteNodeDirective
   pub samePath : Names parent d new
   -- plain names, nothing by reference, no version or plugin directive
   pub quietNode : quiet n ≡ true
