@@ -3,12 +3,13 @@
 use std::{env, fs, path::Path, path::PathBuf};
 
 /// Our crates that are read, lowest first.
-const CRATES: [&str; 9] = [
+const CRATES: [&str; 10] = [
     "paths_numbers",
     "log",
     "making",
     "queries",
     "input",
+    "resolving",
     "post_checks",
     "items",
     "lowering",
