@@ -9,6 +9,7 @@ pub mod Alike
 pub mod WrittenTest
 pub mod WrittenExample
 pub mod Pinned
+pub mod WrittenPinned
 -- Laws of texts.
 pub mod Texts
 -- Laws of row 8's test: its links, its marks, its loops and its answer.

@@ -1,11 +1,11 @@
--- Two written logs that say the same are alike in every word but record numbers and text starts: nothing else is left open.
+-- The chains of two written logs that say the same are alike, in every word but record numbers and text starts.
 use Prim.Native.Nat.{ℕ, _+_, _*_, _^_, _≤_, _<_}
 use mathlib.Core.Path.{_≡_, refl, sym, ap, _∙_}
 use mathlib.Core.Logic.{_⊎_, inl, inr, ⊎-elim}
 use mathlib.Core.Bool.{true, false, not}
 use mathlib.Core.List.{List, [], _∷_, map}
 use native.Mathlib.Omega.{arith}
-use borrow.Author.Tests.{ne-eqb, eqb-true, eqb-false, le-leb, lt-leb, leb-true}
+use borrow.Author.Tests.{ne-eqb, eqb-true, eqb-false, le-leb, lt-leb}
 use lib.Dec.{eqb}
 use lib.ListN.{length, take, drop}
 use Rattle.paths_numbers.specs.meaning.Reference.{Target, label, labelPath, path, unreadable, labelOf, pathOf}
@@ -22,8 +22,7 @@ use Rattle.log.specs.meaning.Sound.{Place, definitions, extensions, bind
 use Rattle.log.specs.meaning.Sound.{below, followed, timesReached, sound, lowestFault}
 use Rattle.log.specs.meaning.Written.{hasText, hasSecondText, hasN, hasM, named, Kept, Written}
 use Rattle.log.specs.meaning.Alike.{AlikeWords, AlikeAll, none, more, AlikeValue, AlikeDef, AlikeExt, AlikeLog, Words32}
-use Rattle.log.specs.meaning.Pinned.{Zeros, Pinned}
-use Rattle.log.proofs.Reached.{Reached, heads-inside, good, reached-leads, reached-inside, text-length, childless}
+use Rattle.log.proofs.Reached.{Reached, reached-leads, reached-inside, text-length, childless}
 use Rattle.log.proofs.Reached.{Head, defs, exts, binds, diags, post}
 use Rattle.log.proofs.Chains.{Chain, ends, goes-on, Starts, chain-list, chain-end, along-start, along-chain, head-starts}
 use Rattle.log.proofs.Chains.{child-starts, body-starts}
@@ -244,18 +243,6 @@ named-last k n i h =
 -- a text without bytes
 no-bytes : (bytes : List ℕ) (start size : ℕ) → size ≡ 0 → _≡_ {A = List ℕ} (take size (drop start bytes)) []
 no-bytes bytes start size e = rw e refl
-
--- what is zero in a written log
-written-zeros : {w b : List ℕ} {n m : ℕ} {l : Log} → Written w b n m l → Zeros w b
-written-zeros {w} {b} x =
-    record {
-      unreachedWords = x .clearWords;
-      unreachedBytes = x .clearBytes;
-      emptyText = λ r h. x .kept r h .emptyText;
-      emptySecond = λ r h. x .kept r h .emptySecond;
-      heads = heads-inside w b (x .rules);
-      links = λ r h. good w b (x .rules) r (leb-true 1 (timesReached (followed w) r) h) .links;
-    }
 
 module _ {w b v c : List ℕ} {n m n′ m′ : ℕ} {l l′ : Log} (x : Written w b n m l) (y : Written v c n′ m′ l′) where
   -- records of one kind, and with one N
@@ -657,7 +644,7 @@ module _ {w b v c : List ℕ} {n m n′ m′ : ℕ} {l l′ : Log} (x : Written 
         (head-stands v c (y .rules) d) h e
 
     -- all chains
-    log-alike : l ≡ l′ → AlikeLog w b v c
+    pub log-alike : l ≡ l′ → AlikeLog w b v c
     unfolding readLog readDefs readExts readBindings readDiags
     log-alike e =
         let t : readLog w b ≡ readLog v c = x .reads ∙ e ∙ sym (y .reads) in
@@ -667,16 +654,4 @@ module _ {w b v c : List ℕ} {n m n′ m′ : ℕ} {l l′ : Log} (x : Written 
           binds = head-alike (bindingAt w b) (bindingAt v c) (AlikeWords w b v c) binds binds binding-alike (ap (λ (a : Log). a .binds) t);
           diags = head-alike (diagAt w b) (diagAt v c) (AlikeWords w b v c) diags diags diag-alike (ap (λ (a : Log). a .diags) t);
           post = head-alike (diagAt w b) (diagAt v c) (AlikeWords w b v c) post post diag-alike (ap (λ (a : Log). a .post) t);
-        }
-
-    -- whole logs
-    pub written-pinned : l ≡ l′ → n ≡ n′ → m ≡ m′ → Pinned w b v c
-    written-pinned e p q =
-        record {
-          records = log-alike e;
-          counted = x .counted ∙ p ∙ sym (y .counted);
-          countedBytes = x .countedBytes ∙ q ∙ sym (y .countedBytes);
-          restOfHead = λ i h k. (x .restOfHead i h k, y .restOfHead i h k);
-          left = written-zeros x;
-          right = written-zeros y;
         }

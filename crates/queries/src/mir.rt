@@ -8,9 +8,9 @@ ghost use Rattle.paths_numbers.specs.meaning.Path.{joined};
 ghost use Rattle.log.specs.meaning.ReadBack.{defAt, readDefs};
 ghost use Rattle.queries.specs.meaning.Kind.{setsOverlay};
 ghost use Rattle.paths_numbers.specs.meaning.Lists.{any};
-ghost use Rattle.queries.specs.meaning.Live.{deletes, live, nodeAt, containsNode};
+ghost use Rattle.queries.specs.meaning.Live.{live, containsNode};
 ghost use Rattle.queries.specs.meaning.Labels.{hasLabelAt};
-ghost use Rattle.queries.specs.machine.Pass.{foundAfter};
+ghost use Rattle.queries.specs.machine.Pass.{nodeFound, labelFound};
 use crate::definition::deletes_above;
 use crate::definition::deletes_above_path;
 use crate::definition::goes_on;
@@ -135,8 +135,7 @@ fn unbinds_in(words: &[u32], bytes: &[u8], first: u32, label: &[u8], path: &[u8]
 
 // Whether a live node at a path is found after a definition.
 fn contains_node_after(words: &[u32], bytes: &[u8], r: u32, path: &[u8], found: bool) -> bool
-    ensures { λ t. ⌜ t ≡ foundAfter (nodeAt (now (path .entry)) (defAt (now (words .entry)) (now (bytes .entry)) r))
-        (deletes (now (path .entry)) (defAt (now (words .entry)) (now (bytes .entry)) r)) found ⌝ }
+    ensures { λ t. ⌜ t ≡ nodeFound (now (path .entry)) (defAt (now (words .entry)) (now (bytes .entry)) r) found ⌝ }
 {
     if found {
         return !deletes_above(words, bytes, r, path);
@@ -154,9 +153,8 @@ fn contains_node_path_after(
     unit: &[u8],
     found: bool,
 ) -> bool
-    ensures { λ t. ⌜ t ≡ foundAfter (nodeAt (joined (now (parent .entry)) (now (name .entry)) (now (unit .entry)))
-        (defAt (now (words .entry)) (now (bytes .entry)) r)) (deletes (joined (now (parent .entry)) (now (name .entry)) (now (unit .entry)))
-        (defAt (now (words .entry)) (now (bytes .entry)) r)) found ⌝ }
+    ensures { λ t. ⌜ t ≡ nodeFound (joined (now (parent .entry)) (now (name .entry)) (now (unit .entry)))
+        (defAt (now (words .entry)) (now (bytes .entry)) r) found ⌝ }
 {
     if found {
         return !deletes_above_path(words, bytes, r, parent, name, unit);
@@ -173,9 +171,8 @@ fn unbinds_after(
     path: &[u8],
     found: bool,
 ) -> bool
-    ensures { λ t. ⌜ t ≡ foundAfter (hasLabelAt (now (label .entry)) (now (path .entry))
-        (defAt (now (words .entry)) (now (bytes .entry)) r)) (deletes (now (path .entry))
-        (defAt (now (words .entry)) (now (bytes .entry)) r)) found ⌝ }
+    ensures { λ t. ⌜ t ≡ labelFound (now (label .entry)) (now (path .entry))
+        (defAt (now (words .entry)) (now (bytes .entry)) r) found ⌝ }
 {
     if found {
         return !deletes_above(words, bytes, r, path);

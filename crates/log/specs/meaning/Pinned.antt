@@ -10,7 +10,7 @@ use Rattle.log.specs.meaning.Record.{recordWords, headWords, outField, t
 use Rattle.log.specs.meaning.Record.{recordsUsed, bytesUsed}
 use Rattle.log.specs.meaning.Sound.{isReached, headsOut, linksOut}
 use Rattle.log.specs.meaning.Written.{holders}
-use Rattle.log.specs.meaning.Alike.{AlikeLog}
+use Rattle.log.specs.meaning.Alike.{AlikeWords, AlikeLog}
 
 -- what is zero in a log
 pub record Zeros (words bytes : List ℕ) : Type 0 where
@@ -24,9 +24,18 @@ pub record Zeros (words bytes : List ℕ) : Type 0 where
   pub heads : headsOut words ≡ false
   pub links : (r : ℕ) → isReached words r ≡ true → linksOut words r ≡ false
 
--- every word and byte but record numbers and text starts: those of the records that chains reach, record 0's, and the zeros of both
+-- a record of the other that record r is alike
+pub record Partner (w b v c : List ℕ) (r : ℕ) : Type 0 where
+  pub of : ℕ
+  pub reached : isReached v of ≡ true
+  pub alike : AlikeWords w b v c r of
+
+-- every word and byte but record numbers and text starts: those of the records in the chains, which are all that are reached, record 0's,
+-- and the zeros of both
 pub record Pinned (w b v c : List ℕ) : Type 0 where
   pub records : AlikeLog w b v c
+  pub leftAll : (r : ℕ) → isReached w r ≡ true → Partner w b v c r
+  pub rightAll : (s : ℕ) → isReached v s ≡ true → Partner v c w b s
   pub counted : recordsUsed w ≡ recordsUsed v
   pub countedBytes : bytesUsed w ≡ bytesUsed v
   pub restOfHead : (i : ℕ) → headWords ≤ i → i < recordWords → (outField w 0 i ≡ 0) × (outField v 0 i ≡ 0)
