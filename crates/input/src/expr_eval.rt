@@ -6,7 +6,7 @@ ghost use Prim.Native.Nat.{ℕ};
 ghost use Rattle.paths_numbers.specs.meaning.Expression.{conditionalOp, evalPrefix, evalInfix};
 ghost use Rattle.log.specs.meaning.Contents.{Span};
 ghost use Rattle.input.specs.meaning.Expr.{withValue, evaluated, literal, firstOperand, applied, prefixOf, infixOf, eval, evals};
-ghost use Rattle.input.specs.meaning.Input.{childAt, numberAt, spanAt, chainAt, childrenAt, recordAt};
+ghost use Rattle.input.specs.meaning.Input.{childAt, numberAt, spanAt, chainAt, partsAt, recordAt};
 ghost use Rattle.input.specs.machine.Linked.{Linked, RecordIn, ChainIn};
 ghost use Rattle.input.specs.machine.Evaluation.{outcomeOf, decides};
 use crate::kinds::CHARACTER;
@@ -81,7 +81,7 @@ fn eval_prefix_at(words: &[u32], text: &[u8], r: u32, nesting: u32) -> Evaluatio
     requires { ⌜ Linked (now words) ⌝ }
     requires { ⌜ ChainIn (now words) (now text) (childAt (now words) r) nesting ⌝ }
     ensures { λ e. ⌜ outcomeOf (now (words .entry)) (now (text .entry)) e ≡ prefixOf (numberAt (now (words .entry)) r)
-        (spanAt (now (words .entry)) r) (evals (childrenAt (now (words .entry)) (now (text .entry)) r)) ⌝ }
+        (spanAt (now (words .entry)) r) (evals (partsAt (now (words .entry)) (now (text .entry)) r)) ⌝ }
 {
     let op = number_at(words, r);
     if op == 0 {
@@ -95,7 +95,7 @@ fn eval_infix_at(words: &[u32], text: &[u8], r: u32, nesting: u32) -> Evaluation
     requires { ⌜ Linked (now words) ⌝ }
     requires { ⌜ ChainIn (now words) (now text) (childAt (now words) r) nesting ⌝ }
     ensures { λ e. ⌜ outcomeOf (now (words .entry)) (now (text .entry)) e ≡ infixOf (numberAt (now (words .entry)) r)
-        (spanAt (now (words .entry)) r) (evals (childrenAt (now (words .entry)) (now (text .entry)) r)) ⌝ }
+        (spanAt (now (words .entry)) r) (evals (partsAt (now (words .entry)) (now (text .entry)) r)) ⌝ }
 {
     let op = number_at(words, r);
     if op == 0 {

@@ -7,7 +7,7 @@ ghost use Rattle.paths_numbers.specs.meaning.Bytestring.{countOf};
 ghost use Rattle.input.specs.meaning.Expr.{firstOperand, evals};
 ghost use Rattle.input.specs.meaning.Property.{numberCell, fittedCell, outcomeCell, referenceCell, lowerCell, sizedList};
 ghost use Rattle.input.specs.meaning.Property.{countedBytes, referenceValue, lowerValue};
-ghost use Rattle.input.specs.meaning.Input.{recordCount, spanAt, textAt, childrenAt, recordAt};
+ghost use Rattle.input.specs.meaning.Input.{recordCount, spanAt, textAt, partsAt, recordAt};
 ghost use Rattle.input.specs.machine.Linked.{Linked, RecordIn};
 ghost use Rattle.input.specs.machine.Evaluation.{outcomeOf};
 ghost use Rattle.input.specs.machine.PhandleRead.{phandleRead};
@@ -121,7 +121,7 @@ fn expression_cell(words: &[u32], text: &[u8], r: u32, size: BitsSize, nesting: 
     requires { ⌜ Linked (now words) ⌝ }
     requires { ⌜ RecordIn (now words) (now text) r nesting ⌝ }
     ensures { λ v. ⌜ cellMade (now (words .entry)) (now (text .entry)) r v ≡ outcomeCell size (spanAt (now (words .entry)) r)
-        (firstOperand (evals (childrenAt (now (words .entry)) (now (text .entry)) r))) ⌝ }
+        (firstOperand (evals (partsAt (now (words .entry)) (now (text .entry)) r))) ⌝ }
 {
     if nesting == 0 {
         return CellRead::Failed(Report::Nothing);
@@ -194,7 +194,7 @@ pub fn read_value(words: &[u32], text: &[u8], r: u32) -> ValueRead
 
 // A cell list of a width that was read, at record r.
 fn sized_list(r: u32, size: SizeRead) -> ValueRead
-    ensures { λ v. ⌜ ((words text : List ℕ) → valueMade words text r v ≡ sizedList (spanAt words r) (childrenAt words text r) size) ⌝ }
+    ensures { λ v. ⌜ ((words text : List ℕ) → valueMade words text r v ≡ sizedList (spanAt words r) (partsAt words text r) size) ⌝ }
 {
     match size {
         SizeRead::Size(s) => ValueRead::CellList(s),

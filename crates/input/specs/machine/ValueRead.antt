@@ -9,7 +9,7 @@ use Rattle.log.specs.meaning.Contents.{Cell, number, reference, Value, string, 
 use Rattle.log.specs.machine.Parts.{targetMade}
 use Rattle.input.specs.meaning.Report.{Got, found, failed, Made, one, nothing}
 use Rattle.input.specs.meaning.Property.{sizedList}
-use Rattle.input.specs.meaning.Input.{spanAt, textAt, childrenAt}
+use Rattle.input.specs.meaning.Input.{spanAt, textAt, partsAt}
 use Rattle.input.specs.machine.PhandleRead.{labelAt, pathAt}
 use Rattle.input.specs.machine.Reported.{reportsOf}
 use Rattle.input.specs.declared.value_read.CellRead.{CellRead}
@@ -42,5 +42,5 @@ module _ (words text : List ℕ) (r : ℕ) where
   -- a value at record r
   abbrev pub valueMade : ValueRead → Made Value
   valueMade (Read.Plain v) = plainMade v
-  valueMade (Read.CellList size) = sizedList (spanAt words r) (childrenAt words text r) (Size size)
+  valueMade (Read.CellList size) = sizedList (spanAt words r) (partsAt words text r) (Size size)
   valueMade (Read.Failed d) = nothing (reportsOf words text d)

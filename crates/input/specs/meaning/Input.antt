@@ -78,20 +78,21 @@ treesAt (suc f) words text (suc r) =
 unfoldable pub chainAt : List ℕ → List ℕ → ℕ → Trees
 chainAt words text r = treesAt (recordCount words) words text r
 
--- the chains that record r leads to: its children, and what its W leads to, the items of a node and the values of a property
-abbrev pub childrenAt : List ℕ → List ℕ → ℕ → Trees
-childrenAt words text r = chainAt words text (childAt words r)
+-- the chains that record r leads to: its parts, which are a cell list's cells and an expression's operands, and what its W leads to, the
+-- items of a node or the values of a property
+abbrev pub partsAt : List ℕ → List ℕ → ℕ → Trees
+partsAt words text r = chainAt words text (childAt words r)
 
-abbrev pub bodyAt : List ℕ → List ℕ → ℕ → Trees
-bodyAt words text r = chainAt words text (secondAt words r)
+abbrev pub contentsAt : List ℕ → List ℕ → ℕ → Trees
+contentsAt words text r = chainAt words text (secondAt words r)
 
 -- the tree of record r alone
 unfoldable pub recordAt : List ℕ → List ℕ → ℕ → Tree
 recordAt words text r =
     tree (kindAt words r) (textAt words text r) (numberAt words r) (spanAt words r)
-    (childrenAt words text r)
-    (bodyAt words text r)
+    (partsAt words text r)
+    (contentsAt words text r)
 
 -- "Record 0 holds only the first top item as child": the top items
 unfoldable pub description : List ℕ → List ℕ → Trees
-description words text = childrenAt words text 0
+description words text = partsAt words text 0
