@@ -20,8 +20,7 @@ use Rattle.paths_numbers.proofs.Texts.{by-test, not-both}
 use Rattle.log.specs.meaning.Contents.{Span}
 use Rattle.input.specs.meaning.Tree.{macroKind, numberKind, characterKind, prefixKind, parenthesisKind, infixKind}
 use Rattle.input.specs.meaning.Expr.{Outcome, value, missing, failsWith, withValue, evaluated, firstOperand, applied, chosen}
-use Rattle.input.specs.meaning.Expr.{prefixOf, infixOf}
-use Rattle.input.specs.meaning.Expr.{combined, eval, evals}
+use Rattle.input.specs.meaning.Expr.{prefixOf, infixOf, combined, eval, evals}
 use Rattle.input.specs.meaning.Input.{recordCount, kindAt, nextAt, childAt, numberAt, spanAt, textAt, chainAt, recordAt}
 use Rattle.input.specs.machine.Linked.{Linked, At, ChainIn}
 use Rattle.input.specs.machine.Read.{afterAt}

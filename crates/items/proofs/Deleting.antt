@@ -19,7 +19,7 @@ use Rattle.log.specs.machine.Parts.{meant}
 use Rattle.log.specs.meaning.Contents.{Span, Def, deletedNode, Binding}
 use Rattle.log.specs.meaning.Record.{firstText, secondText}
 use Rattle.log.specs.meaning.ReadBack.{chainOf, defAt, readDefs}
-use Rattle.making.specs.machine.PathPlaces.{pathIn}
+use Rattle.making.specs.machine.PathPlaces.{pathIn, placedIn}
 use Rattle.making.specs.meaning.State.{State, define}
 use Rattle.making.specs.machine.Represents.{Context, withPlace, Represents, Steps}
 use Rattle.making.proofs.InHand.{represents-defs, place-reads, def-path}
@@ -30,7 +30,6 @@ use Rattle.items.specs.meaning.Unbind.{unbind}
 use Rattle.items.specs.meaning.Lower.{bare, deleteNode}
 use Rattle.resolving.specs.machine.Lowers.{Lowers, LowersAt}
 use Rattle.resolving.specs.machine.Leading.{hasText, FirstAt, FirstWith}
-use Rattle.making.specs.machine.PathPlaces.{placedIn}
 use Rattle.items.specs.machine.Unbinding.{at-named, at-given, UnbindsAll}
 use Rattle.items.specs.machine.Deleting.{DeletesAt}
 use Rattle.resolving.specs.declared.resolve.Found.{Found}

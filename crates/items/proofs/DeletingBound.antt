@@ -20,7 +20,7 @@ use Rattle.log.specs.machine.Parts.{meant}
 use Rattle.log.specs.meaning.Contents.{Span, Def, deletedNode, Binding}
 use Rattle.log.specs.meaning.Record.{oneOf, nextOf, firstText, secondText, logCount}
 use Rattle.log.specs.meaning.ReadBack.{chainFrom, chainOf, bindingAt, readBindings}
-use Rattle.making.specs.machine.PathPlaces.{pathIn}
+use Rattle.making.specs.machine.PathPlaces.{pathIn, placedIn}
 use Rattle.making.specs.meaning.State.{State, define}
 use Rattle.making.specs.machine.Adding.{removeAt, unbindAt}
 use Rattle.making.specs.machine.Represents.{Context, Represents, Steps, Unlinks, lastNumber}
@@ -33,7 +33,6 @@ use Rattle.resolving.specs.meaning.Resolve.{firstBinding}
 use Rattle.items.specs.meaning.Unbind.{bindsLabelOf, without, unbind}
 use Rattle.items.specs.meaning.Lower.{bare, deleteNode}
 use Rattle.resolving.specs.machine.Leading.{hasText, FirstAt, FirstWith}
-use Rattle.making.specs.machine.PathPlaces.{placedIn}
 use Rattle.items.specs.machine.Unbinding.{baseOf, goesWith, passesAt, withBinds, passed, ahead, BaseAt, at-bound, at-below, Stays}
 use Rattle.items.specs.machine.Unbinding.{Walk, Unbinds, boundBase, boundPath, FirstOfLabel, UnbindsOthers, UnlinksFirst}
 use Rattle.items.specs.machine.Deleting.{DeletesBound, DefinesBound}

@@ -14,7 +14,7 @@ use Rattle.log.specs.declared.parts.Span.{Span as SpanRead}
 use Rattle.making.specs.declared.recs.DefKind.{DefKind}
 use Rattle.log.specs.declared.parts.TargetKind.{TargetKind}
 use Rattle.log.specs.meaning.Contents.{Span, node, Def, Binding}
-use Rattle.making.specs.machine.PathPlaces.{pathIn}
+use Rattle.making.specs.machine.PathPlaces.{pathIn, placedIn}
 use Rattle.log.specs.meaning.Record.{secondText}
 use Rattle.log.specs.meaning.ReadBack.{readBindings, readDefs}
 use Rattle.making.specs.machine.Recs.{bareValue, bareDef}
@@ -33,7 +33,6 @@ use Rattle.input.specs.meaning.Input.{spanAt, recordAt}
 use Rattle.resolving.specs.machine.Lowers.{Lowers}
 use Rattle.input.specs.machine.PhandleRead.{labelAt, pathAt, phandleRead}
 use Rattle.resolving.specs.machine.Leading.{resolution, Leads, ReportsMissing}
-use Rattle.making.specs.machine.PathPlaces.{placedIn}
 use Rattle.items.specs.machine.Opened.{bareNode, Opens}
 use Rattle.items.specs.machine.NodePlaced.{PlacesIn, DefinesLeading, leadsOn}
 use Rattle.resolving.specs.declared.resolve.Resolved.{Resolved}

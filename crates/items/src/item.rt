@@ -8,7 +8,7 @@ ghost use Rattle.paths_numbers.specs.meaning.Reference.{Target};
 ghost use Rattle.log.specs.machine.Parts.{meant};
 ghost use Rattle.making.specs.meaning.State.{emit};
 ghost use Rattle.input.specs.meaning.Tree.{nameKind, firstOf};
-ghost use Rattle.input.specs.meaning.Input.{recordCount, numberAt, spanAt, chainAt, recordAt};
+ghost use Rattle.input.specs.meaning.Input.{recordCount, numberAt, spanAt, chainAt, recordAt, partsAt};
 ghost use Rattle.input.specs.machine.Linked.{Linked, At};
 ghost use Rattle.input.specs.machine.Read.{optional};
 ghost use Rattle.input.specs.machine.PhandleRead.{phandleRead};
@@ -18,7 +18,6 @@ ghost use Rattle.items.specs.meaning.Lower.{deleteNode, deleteResolved, 
 ghost use Rattle.items.specs.meaning.Lower.{deletePropertyNamed, lowerDirective};
 ghost use Rattle.resolving.specs.machine.Lowers.{Lowers, LowersAt};
 ghost use Rattle.items.specs.machine.Deleting.{DeletesAt, DeletesBound, DefinesBound};
-ghost use Rattle.items.specs.machine.AtRecord.{partsAt};
 use crate::directive::DELETE_NODE;
 use crate::directive::DELETE_PROPERTY;
 use crate::directive::INCLUDE;

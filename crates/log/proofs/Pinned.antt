@@ -22,8 +22,7 @@ use Rattle.log.specs.meaning.Sound.{Place, definitions, extensions, bind
 use Rattle.log.specs.meaning.Sound.{below, followed, timesReached, sound, lowestFault}
 use Rattle.log.specs.meaning.Written.{hasText, hasSecondText, hasN, hasM, named, Kept, Written}
 use Rattle.log.specs.meaning.Alike.{AlikeWords, AlikeAll, none, more, AlikeValue, AlikeDef, AlikeExt, AlikeLog, Words32}
-use Rattle.log.proofs.Reached.{Reached, reached-leads, reached-inside, text-length, childless}
-use Rattle.log.proofs.Reached.{Head, defs, exts, binds, diags, post}
+use Rattle.log.proofs.Reached.{Reached, reached-leads, reached-inside, text-length, childless, Head, defs, exts, binds, diags, post}
 use Rattle.log.proofs.Chains.{Chain, ends, goes-on, Starts, chain-list, chain-end, along-start, along-chain, head-starts}
 use Rattle.log.proofs.Chains.{child-starts, body-starts}
 use Rattle.log.proofs.Places.{Stands, EndOrStands, stands-reached, stands-kind, next-stands, child-stands, body-stands, head-stands}

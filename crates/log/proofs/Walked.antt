@@ -13,10 +13,8 @@ use lib.Dec.{eqb, ltb}
 use lib.ListN.{length, getD, set, drop, length-append, length-set, drop-of-length-le}
 use lib.Seq.{drop-cons, drop-append-le, getD-set-same, getD-set-other}
 use Rattle.paths_numbers.proofs.Texts.{by-test}
-use Rattle.log.specs.meaning.Record.{kindOf}
-use Rattle.log.specs.meaning.Record.{oneOf, logCount}
-use Rattle.log.specs.meaning.Sound.{kindsIn, Link, linksOf}
-use Rattle.log.specs.meaning.Sound.{headLinks, times, walk, mostLinks, followed}
+use Rattle.log.specs.meaning.Record.{kindOf, oneOf, logCount}
+use Rattle.log.specs.meaning.Sound.{kindsIn, Link, linksOf, headLinks, times, walk, mostLinks, followed}
 use Rattle.log.specs.machine.Walk.{linkOf, stored, firstMark, nextMark, Held, held, follow, followAll, expand, allMarks}
 use Rattle.log.proofs.Walk.{Inside, one, inside-of, inside-heads, length-of, length-heads, leads-below}
 use Rattle.log.proofs.Marks.{marked}

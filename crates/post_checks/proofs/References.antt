@@ -21,7 +21,7 @@ use Rattle.log.specs.meaning.Record.{secondText, logCount, nodeKind, propertyKi
 use Rattle.log.specs.meaning.Record.{cellListKind, bytestringKind, referenceKind}
 use Rattle.log.specs.meaning.ReadBack.{chainOf, nameSpanAt, targetAt, readLabels, cellAt, readCells, valueAt, readValues, defValueAt, defAt}
 use Rattle.log.specs.meaning.ReadBack.{readDefs, bindingAt, readBindings}
-use Rattle.making.specs.machine.PathPlaces.{pathIn}
+use Rattle.making.specs.machine.PathPlaces.{pathIn, placedIn}
 use Rattle.making.specs.machine.Recs.{diagMade, noSpan}
 use Rattle.log.specs.machine.Parts.{meant}
 use Rattle.making.specs.meaning.State.{State, emit}
@@ -39,10 +39,8 @@ use Rattle.resolving.specs.meaning.Resolve.{firstBinding, byLabel, belowLabel, 
 use Rattle.post_checks.specs.meaning.Post.{checkTarget, checkCell, checkCells, checkValue, checkValues, checkDef, checkDefs}
 use Rattle.post_checks.specs.meaning.Post.{checkReferences}
 use Rattle.resolving.specs.machine.Lowers.{Lowers}
-use Rattle.resolving.specs.machine.Leading.{resolution, Leads}
-use Rattle.making.specs.machine.PathPlaces.{placedIn}
+use Rattle.resolving.specs.machine.Leading.{resolution, Leads, targetLabel}
 use Rattle.post_checks.specs.machine.Checks.{Reports, ReportsLive, textPlace, said, targetPlace}
-use Rattle.resolving.specs.machine.Leading.{targetLabel}
 use Rattle.resolving.specs.declared.resolve.Resolved.{Resolved}
 use Rattle.resolving.specs.declared.resolve.Resolved.the-variants as R
 use Rattle.post_checks.proofs.Checks.{all-first, all-at, chain-kept, reports-none, reports-one, reports-as, reports-under}

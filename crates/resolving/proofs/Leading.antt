@@ -26,9 +26,8 @@ use Rattle.input.specs.machine.PhandleRead.{labelAt, pathAt, phandleRead}
 use Rattle.input.specs.declared.phandle.PhandleRead.{PhandleRead}
 use Rattle.input.specs.declared.phandle.PhandleRead.the-variants as P
 use Rattle.resolving.specs.machine.Leading.{hasText, FirstAt, FirstWith, resolution, InChain, boundBy, Leads, ReportsMissing}
-use Rattle.making.specs.machine.PathPlaces.{placedIn}
+use Rattle.making.specs.machine.PathPlaces.{placedIn, pathIn}
 use Rattle.making.specs.declared.ctx.LowerCtx.{LowerCtx}
-use Rattle.making.specs.machine.PathPlaces.{pathIn}
 use Rattle.making.specs.declared.place.PathAt.{PathAt}
 use Rattle.log.specs.declared.parts.Span.{Span as LogSpan}
 use Rattle.making.specs.machine.Recs.{diagMade, noSpan}

@@ -5,17 +5,9 @@ use Rattle.paths_numbers.specs.meaning.Reference.{Target}
 use Rattle.log.specs.declared.parts.TargetKind.{TargetKind}
 use Rattle.log.specs.meaning.Contents.{Span}
 use Rattle.log.specs.machine.Parts.{targetMade}
-use Rattle.input.specs.meaning.Tree.{Trees}
 use Rattle.input.specs.meaning.Name.{nodeNameSpan}
-use Rattle.input.specs.meaning.Input.{childAt, secondAt, spanAt, chainAt}
+use Rattle.input.specs.meaning.Input.{spanAt, partsAt}
 use Rattle.input.specs.machine.PhandleRead.{labelAt, pathAt}
-
--- its parts; the items of a node, or the values of a property
-abbrev pub partsAt : List ℕ → List ℕ → ℕ → Trees
-partsAt words text r = chainAt words text (childAt words r)
-
-abbrev pub contentsAt : List ℕ → List ℕ → ℕ → Trees
-contentsAt words text r = chainAt words text (secondAt words r)
 
 -- of a node, the span of its name
 abbrev pub nodeNameAt : List ℕ → List ℕ → ℕ → Span

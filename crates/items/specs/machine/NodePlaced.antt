@@ -14,10 +14,9 @@ use Rattle.queries.specs.meaning.Kind.{setsOverlay}
 use Rattle.input.specs.meaning.Tree.{Trees}
 use Rattle.resolving.specs.meaning.Resolve.{reaches}
 use Rattle.items.specs.meaning.Lower.{at, aside, discarded, nowhere, Placed, opened}
-use Rattle.input.specs.meaning.Input.{spanAt}
+use Rattle.input.specs.meaning.Input.{spanAt, partsAt}
 use Rattle.input.specs.machine.PhandleRead.{labelAt, pathAt}
 use Rattle.resolving.specs.machine.Leading.{resolution, Leads}
-use Rattle.items.specs.machine.AtRecord.{partsAt}
 use Rattle.items.specs.machine.Opened.{bareNode}
 use Rattle.items.specs.machine.PropertyMade.{isTop}
 use Rattle.resolving.specs.declared.resolve.Resolved.{Resolved}
