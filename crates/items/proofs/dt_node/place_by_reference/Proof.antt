@@ -1,6 +1,9 @@
 -- By what the reference is read as (NodeReferenced).
 use mathlib.Core.Path.{_≡_, refl, sym, ap, _∙_}
+use Rattle.input.specs.declared.phandle.PhandleRead.{PhandleRead}
 use Rattle.input.specs.machine.PhandleRead.{phandleRead}
+use Rattle.log.specs.declared.parts.TargetKind.the-variants as T
+use Rattle.items.specs.machine.AtRecord.{namedAt}
 use Rattle.items.proofs.Reported.{reports-none}
 use Rattle.items.proofs.NodeReferenced.{read-named, read-nowhere}
 use borrow.Author.Needs.{needs}
@@ -32,7 +35,11 @@ place-resolved-requires : tie.Need-place-resolved-requires
 unfolding phandleRead
 place-resolved-requires c κs = let s = c .before .before .before .before .before .before .before .before .before in (
   s .pre .0,
-  (s .pre .1 .0, rw (c .before .before .enum-told2 .given .1) refl),
+  (
+    s .pre .1 .0,
+    ap (λ (k : PhandleRead). phandleRead (s .args .words .now) (s .args .text .now) (s .args .reference) k .result)
+        (c .before .before .enum-told2 .given .1),
+  ),
 )
 
 enum-told-3 : tie.Need-enum-told-3
@@ -42,7 +49,11 @@ place-resolved-requires-2 : tie.Need-place-resolved-requires-2
 unfolding phandleRead
 place-resolved-requires-2 c κs = let s = c .before .before .before .before .before .before .before .before .before in (
   s .pre .0,
-  (s .pre .1 .0, rw (c .before .before .enum-told3 .given .1) refl),
+  (
+    s .pre .1 .0,
+    ap (λ (k : PhandleRead). phandleRead (s .args .words .now) (s .args .text .now) (s .args .reference) k .result)
+        (c .before .before .enum-told3 .given .1),
+  ),
 )
 
 enum-told-4 : tie.Need-enum-told-4
@@ -52,7 +63,11 @@ place-resolved-requires-3 : tie.Need-place-resolved-requires-3
 unfolding phandleRead
 place-resolved-requires-3 c κs = let s = c .before .before .before .before .before .before .before .before .before in (
   s .pre .0,
-  (s .pre .1 .0, rw (c .before .before .enum-told4 .given .1) refl),
+  (
+    s .pre .1 .0,
+    ap (λ (k : PhandleRead). phandleRead (s .args .words .now) (s .args .text .now) (s .args .reference) k .result)
+        (c .before .before .enum-told4 .given .1),
+  ),
 )
 
 same-length : tie.Need-same-length
@@ -97,8 +112,10 @@ returns-3 c =
     let a = c .before .before .before .before .before .before .before .before .before .before .before .before .before .before .args in
     λ parent. read-named _ (phandleRead (a .words .now) (a .text .now) (a .reference)
     (c .before .before .before .before .before .before .before .before .before .lower-phandle .result))
-    (c .before .before .before .before .before .before .before .before .before .lower-phandle .ensures) _
-    (rw (c .before .before .before .before .before .before .before .enum-told2 .given .1) refl)
+    (c .before .before .before .before .before .before .before .before .before .lower-phandle .ensures)
+    (namedAt T.Label (a .words .now) (a .text .now) (a .reference))
+    (ap (λ (k : PhandleRead). phandleRead (a .words .now) (a .text .now) (a .reference) k .result)
+    (c .before .before .before .before .before .before .before .enum-told2 .given .1))
     (c .before .before .before .before .place-resolved .ensures parent)
 
 same-length-5 : tie.Need-same-length-5
@@ -113,8 +130,10 @@ returns-4 c =
     let a = c .before .before .before .before .before .before .before .before .before .before .before .before .before .before .args in
     λ parent. read-named _ (phandleRead (a .words .now) (a .text .now) (a .reference)
     (c .before .before .before .before .before .before .before .before .before .lower-phandle .result))
-    (c .before .before .before .before .before .before .before .before .before .lower-phandle .ensures) _
-    (rw (c .before .before .before .before .before .before .before .enum-told3 .given .1) refl)
+    (c .before .before .before .before .before .before .before .before .before .lower-phandle .ensures)
+    (namedAt T.LabelPath (a .words .now) (a .text .now) (a .reference))
+    (ap (λ (k : PhandleRead). phandleRead (a .words .now) (a .text .now) (a .reference) k .result)
+    (c .before .before .before .before .before .before .before .enum-told3 .given .1))
     (c .before .before .before .before .place-resolved2 .ensures parent)
 
 same-length-7 : tie.Need-same-length-7
@@ -129,8 +148,10 @@ returns-5 c =
     let a = c .before .before .before .before .before .before .before .before .before .before .before .before .before .before .args in
     λ parent. read-named _ (phandleRead (a .words .now) (a .text .now) (a .reference)
     (c .before .before .before .before .before .before .before .before .before .lower-phandle .result))
-    (c .before .before .before .before .before .before .before .before .before .lower-phandle .ensures) _
-    (rw (c .before .before .before .before .before .before .before .enum-told4 .given .1) refl)
+    (c .before .before .before .before .before .before .before .before .before .lower-phandle .ensures)
+    (namedAt T.Path (a .words .now) (a .text .now) (a .reference))
+    (ap (λ (k : PhandleRead). phandleRead (a .words .now) (a .text .now) (a .reference) k .result)
+    (c .before .before .before .before .before .before .before .enum-told4 .given .1))
     (c .before .before .before .before .place-resolved3 .ensures parent)
 
 pub place-by-reference-spec : {M : Type 1} → statement M
