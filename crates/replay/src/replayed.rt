@@ -56,64 +56,106 @@ fn replay_rooms(
     list: &mut [u32],
     t: Tally,
 ) -> Tally {
-    let short = too_small(words, text, records, size, out, bytes, t);
-    replay_exact(sample, words, text, records, size, out, bytes, list, short)
+    let short = too_small(sample, words, text, records, size, out, bytes, list, t);
+    replay_part(
+        sample,
+        words,
+        text,
+        records,
+        size,
+        true,
+        out,
+        bytes,
+        list,
+        short,
+    )
 }
 
-// Lowers an input into buffers that are one record short, and one byte.
+// Replays an input in buffers that are one record short, and one byte.
 fn too_small(
+    sample: &[u8],
     words: &[u32],
     text: &[u8],
     records: usize,
     size: usize,
     out: &mut [u32],
     bytes: &mut [u8],
+    list: &mut [u32],
     t: Tally,
 ) -> Tally {
-    let fewer = record_short(words, text, records, size, out, bytes, t);
-    byte_short(words, text, records, size, out, bytes, fewer)
+    let fewer = record_short(sample, words, text, records, size, out, bytes, list, t);
+    byte_short(sample, words, text, records, size, out, bytes, list, fewer)
 }
 
-// Lowers an input into buffers that are one record short.
+// Replays an input in buffers that are one record short.
 fn record_short(
+    sample: &[u8],
     words: &[u32],
     text: &[u8],
     records: usize,
     size: usize,
     out: &mut [u32],
     bytes: &mut [u8],
+    list: &mut [u32],
     t: Tally,
 ) -> Tally {
     if records == 0 {
         return t;
     }
-    replay_short(words, text, records - 1, size, out, bytes, t)
+    replay_part(
+        sample,
+        words,
+        text,
+        records - 1,
+        size,
+        false,
+        out,
+        bytes,
+        list,
+        t,
+    )
 }
 
-// Lowers an input into buffers that are one byte short.
+// Replays an input in buffers that are one byte short.
 fn byte_short(
+    sample: &[u8],
     words: &[u32],
     text: &[u8],
     records: usize,
     size: usize,
     out: &mut [u32],
     bytes: &mut [u8],
+    list: &mut [u32],
     t: Tally,
 ) -> Tally {
     if size == 0 {
         return t;
     }
-    replay_short(words, text, records, size - 1, out, bytes, t)
+    replay_part(
+        sample,
+        words,
+        text,
+        records,
+        size - 1,
+        false,
+        out,
+        bytes,
+        list,
+        t,
+    )
 }
 
-// Lowers an input into the first records and bytes of buffers, which are too few for it.
-fn replay_short(
+// Replays an input in the first records and bytes of buffers, which are enough for it or not.
+fn replay_part(
+    sample: &[u8],
     words: &[u32],
     text: &[u8],
     records: usize,
     size: usize,
+    enough: bool,
     out: &mut [u32],
     bytes: &mut [u8],
+    list: &mut [u32],
     t: Tally,
 ) -> Tally {
     if out.len() / RECORD_WORDS < records {
@@ -123,7 +165,33 @@ fn replay_short(
         return t.noted(false, b"room for bytes");
     }
     let n = records * RECORD_WORDS;
-    replay_refused(words, text, &mut out[..n], &mut bytes[..size], t)
+    replay_sized(
+        sample,
+        words,
+        text,
+        enough,
+        &mut out[..n],
+        &mut bytes[..size],
+        list,
+        t,
+    )
+}
+
+// Replays an input in buffers that are enough for it or not.
+fn replay_sized(
+    sample: &[u8],
+    words: &[u32],
+    text: &[u8],
+    enough: bool,
+    out: &mut [u32],
+    bytes: &mut [u8],
+    list: &mut [u32],
+    t: Tally,
+) -> Tally {
+    if enough {
+        return replay_whole(sample, words, text, out, bytes, list, t);
+    }
+    replay_refused(words, text, out, bytes, t)
 }
 
 // Lowers an input into buffers that are too small.
@@ -144,36 +212,6 @@ fn refused(answer: Answer, out: &[u32], bytes: &[u8], t: Tally) -> Tally {
     let returned = numbered.noted(answer.returned == 0, b"returned of an input without room");
     let cleared = returned.noted(no_word(out), b"words of an input without room");
     cleared.noted(no_byte(bytes), b"bytes of an input without room")
-}
-
-// Replays an input in the first records and bytes of buffers, which are just enough for it.
-fn replay_exact(
-    sample: &[u8],
-    words: &[u32],
-    text: &[u8],
-    records: usize,
-    size: usize,
-    out: &mut [u32],
-    bytes: &mut [u8],
-    list: &mut [u32],
-    t: Tally,
-) -> Tally {
-    if out.len() / RECORD_WORDS < records {
-        return t.noted(false, b"room for records");
-    }
-    if bytes.len() < size {
-        return t.noted(false, b"room for bytes");
-    }
-    let n = records * RECORD_WORDS;
-    replay_whole(
-        sample,
-        words,
-        text,
-        &mut out[..n],
-        &mut bytes[..size],
-        list,
-        t,
-    )
 }
 
 // Lowers an input and compares the log and the queries.

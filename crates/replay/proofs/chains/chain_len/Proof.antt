@@ -1,7 +1,7 @@
 use Prim.Native.Nat.{_≤_}
 use borrow.Author.Needs.{needs}
-use Rattle.replay.proofs.definitions.chain_len.Statement.{statement}
-use Rattle.replay.proofs.definitions.chain_len.Tie as tie
+use Rattle.replay.proofs.chains.chain_len.Statement.{statement}
+use Rattle.replay.proofs.chains.chain_len.Tie as tie
 
 abbrev Inv-loop : tie.InvT-loop
 Inv-loop out first most r₀ left₀ r left = left ≤ most

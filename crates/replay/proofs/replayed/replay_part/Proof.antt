@@ -1,8 +1,8 @@
 use native.Mathlib.Omega.{arith}
 use lib.ListN.{length-take}
 use borrow.Author.Needs.{needs}
-use Rattle.replay.proofs.replayed.replay_exact.Statement.{statement}
-use Rattle.replay.proofs.replayed.replay_exact.Tie as tie
+use Rattle.replay.proofs.replayed.replay_part.Statement.{statement}
+use Rattle.replay.proofs.replayed.replay_part.Tie as tie
 
 slice-aggregate-noted : tie.Need-slice-aggregate-noted
 slice-aggregate-noted c = search needs
@@ -25,20 +25,20 @@ returns-2 c = search needs
 mul-n : tie.Need-mul-n
 mul-n c = search needs
 
-slice-relend-prefix-replay-whole : tie.Need-slice-relend-prefix-replay-whole
-slice-relend-prefix-replay-whole c = search needs
+slice-relend-prefix-replay-sized : tie.Need-slice-relend-prefix-replay-sized
+slice-relend-prefix-replay-sized c = search needs
 
-slice-aggregate-replay-whole : tie.Need-slice-aggregate-replay-whole
-slice-aggregate-replay-whole c = simp length-take (omega arith)
+slice-aggregate-replay-sized : tie.Need-slice-aggregate-replay-sized
+slice-aggregate-replay-sized c = simp length-take (omega arith)
 
-slice-relend-prefix-replay-whole-2 : tie.Need-slice-relend-prefix-replay-whole-2
-slice-relend-prefix-replay-whole-2 c = search needs
+slice-relend-prefix-replay-sized-2 : tie.Need-slice-relend-prefix-replay-sized-2
+slice-relend-prefix-replay-sized-2 c = search needs
 
-slice-aggregate-replay-whole-2 : tie.Need-slice-aggregate-replay-whole-2
-slice-aggregate-replay-whole-2 c = simp length-take (omega arith)
+slice-aggregate-replay-sized-2 : tie.Need-slice-aggregate-replay-sized-2
+slice-aggregate-replay-sized-2 c = simp length-take (omega arith)
 
-replay-whole-requires : tie.Need-replay-whole-requires
-replay-whole-requires c κs = search needs
+replay-sized-requires : tie.Need-replay-sized-requires
+replay-sized-requires c κs = search needs
 
 same-length : tie.Need-same-length
 same-length c = search needs
@@ -52,8 +52,8 @@ same-length-3 c = search needs
 returns-3 : tie.Need-returns-3
 returns-3 c = search needs
 
-pub replay-exact-spec : {M : Type 1} → statement M
-replay-exact-spec =
+pub replay-part-spec : {M : Type 1} → statement M
+replay-part-spec =
     tie.close
     (tie.spec
     slice-aggregate-noted
@@ -63,11 +63,11 @@ replay-exact-spec =
     noted-requires-2
     returns-2
     mul-n
-    slice-relend-prefix-replay-whole
-    slice-aggregate-replay-whole
-    slice-relend-prefix-replay-whole-2
-    slice-aggregate-replay-whole-2
-    replay-whole-requires
+    slice-relend-prefix-replay-sized
+    slice-aggregate-replay-sized
+    slice-relend-prefix-replay-sized-2
+    slice-aggregate-replay-sized-2
+    replay-sized-requires
     same-length
     same-length-2
     same-length-3
