@@ -8,6 +8,7 @@ ghost use Rattle.listing.specs.meaning.Program.{answerText};
 use crate::lines::put_record;
 use crate::lines::put_refusal;
 use crate::page::put_text;
+use log::answer::SUCCESS;
 use log::layout;
 use log::record::log_count;
 use log::record::next_of;
@@ -26,7 +27,7 @@ pub fn list_answer(
     ensures { λ n. ⌜ pageAt (now (page .exit)) n ≡ filled (now (page .entry))
         (answerText number returned (readLog (now (words .entry)) (now (bytes .entry)))) ⌝ }
 {
-    if number != 0 {
+    if number != SUCCESS {
         return list_refusal(number, returned, page);
     }
     write_listing(words, bytes, page)

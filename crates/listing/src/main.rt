@@ -15,26 +15,31 @@ mod reading;
 
 use listing::list_answer;
 use listing::list_refusal;
+use log::answer::REFUSED_SIZE;
+use log::layout;
 use lowering::lower::lower;
+use reading::RECORD_BYTES;
+use reading::RECORD_WORDS;
+use reading::WORD_BYTES;
 use reading::read_words;
 use reading::word_at;
 
-// The records of an input, and their words.
-const MOST_RECORDS: u32 = 2048;
+// Row 1: the most records of an input, and bytes of its text.
+const MOST_RECORDS: usize = 2048;
 
-const MOST_WORDS: usize = 16384;
+const MOST_TEXT: usize = 65536;
 
-// The longest input that is not refused by its size has 131,076 bytes; one more, so that a longer text is
-// seen to be longer.
-const MOST_INPUT: usize = 131077;
+// The longest input that is not refused by its size, and one byte more, by which a longer one is seen to be
+// longer.
+const MOST_INPUT: usize = WORD_BYTES + MOST_RECORDS * RECORD_BYTES + MOST_TEXT + 1;
 
 // "1,024 records and 65,536 bytes".
-const OUT_WORDS: usize = 16384;
+const OUT_RECORDS: usize = 1024;
 
 const OUT_BYTES: usize = 65536;
 
 // The longest listing: each record but record 0 has at most 50 bytes beside its texts, and the last line 2.
-const MOST_PAGE: usize = 116688;
+const MOST_PAGE: usize = (OUT_RECORDS - 1) * 50 + OUT_BYTES + 2;
 
 fn main() {
     let mut buffer = [0u8; MOST_INPUT];
@@ -62,18 +67,23 @@ fn list_whole(buffer: &[u8], n: usize, page: &mut [u8]) -> usize
 fn list_input(input: &[u8], page: &mut [u8]) -> usize
     ensures { λ n. ⌜ pageAt (now (page .exit)) n ≡ filled (now (page .entry)) (printed (now (input .entry))) ⌝ }
 {
-    if input.len() < 4 {
-        return list_refusal(1, 0, page);
+    if input.len() < WORD_BYTES {
+        return list_refusal(REFUSED_SIZE, 0, page);
     }
-    let count = word_at(input, 0);
-    let from = 4 + (count as usize) * 32;
+    let count = word_at(input, 0) as usize;
+    let from = WORD_BYTES + count * RECORD_BYTES;
     if input.len() < from {
-        return list_refusal(1, 0, page);
+        return list_refusal(REFUSED_SIZE, 0, page);
     }
     if MOST_RECORDS < count {
-        return list_refusal(1, 0, page);
+        return list_refusal(REFUSED_SIZE, 0, page);
     }
-    list_records(&input[4..], (count as usize) * 8, &input[from..], page)
+    list_records(
+        &input[WORD_BYTES..],
+        count * RECORD_WORDS,
+        &input[from..],
+        page,
+    )
 }
 
 // The same for the bytes of `n` words, and a text.
@@ -82,7 +92,7 @@ fn list_records(records: &[u8], n: usize, text: &[u8], page: &mut [u8]) -> usize
     ensures { λ to. ⌜ pageAt (now (page .exit)) to ≡ filled (now (page .entry))
         (listed (wordsOf n (now (records .entry))) (now (text .entry))) ⌝ }
 {
-    let mut words = [0u32; MOST_WORDS];
+    let mut words = [0u32; MOST_RECORDS * RECORD_WORDS];
     read_words(records, n, &mut words);
     list_words(&words[..n], text, page)
 }
@@ -91,7 +101,7 @@ fn list_records(records: &[u8], n: usize, text: &[u8], page: &mut [u8]) -> usize
 fn list_words(words: &[u32], text: &[u8], page: &mut [u8]) -> usize
     ensures { λ n. ⌜ pageAt (now (page .exit)) n ≡ filled (now (page .entry)) (listed (now (words .entry)) (now (text .entry))) ⌝ }
 {
-    let mut out = [0u32; OUT_WORDS];
+    let mut out = [0u32; OUT_RECORDS * layout::RECORD_WORDS];
     let mut bytes = [0u8; OUT_BYTES];
     list_lowered(words, text, &mut out, &mut bytes, page)
 }

@@ -5,6 +5,13 @@ ghost use lib.ListN.{length, drop};
 ghost use Rattle.paths_numbers.specs.meaning.Text.{written};
 ghost use Rattle.listing.specs.meaning.Program.{wordBytes, wordOf, wordsOf};
 
+// The bytes of a word, the words and the bytes of a record.
+pub const WORD_BYTES: usize = 4;
+
+pub const RECORD_WORDS: usize = 8;
+
+pub const RECORD_BYTES: usize = RECORD_WORDS * WORD_BYTES;
+
 // The word at an index, low byte first.
 pub fn word_at(s: &[u8], at: usize) -> u32
     requires { ⌜ at + wordBytes ≤ length (now s) ⌝ }
@@ -21,7 +28,7 @@ pub fn read_words(s: &[u8], n: usize, words: &mut [u32])
 {
     let mut i = 0;
     while i < n {
-        words[i] = word_at(s, i * 4);
+        words[i] = word_at(s, i * WORD_BYTES);
         i += 1;
     }
 }

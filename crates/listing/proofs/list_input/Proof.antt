@@ -20,8 +20,8 @@ returns c = let a = c .before .before .before .before .before .before .before .a
 word-at-requires : tie.Need-word-at-requires
 word-at-requires c κs = search needs
 
-cast-from : tie.Need-cast-from
-cast-from c = search needs
+cast-count : tie.Need-cast-count
+cast-count c = search needs
 
 mul-from : tie.Need-mul-from
 mul-from c = search needs
@@ -61,9 +61,6 @@ part-list-records-start c = search needs
 part-list-records-end : tie.Need-part-list-records-end
 part-list-records-end c = search needs
 
-cast-list-records : tie.Need-cast-list-records
-cast-list-records c = search needs
-
 mul-list-records : tie.Need-mul-list-records
 mul-list-records c = search needs
 
@@ -96,7 +93,7 @@ list-input-spec =
     same-length
     returns
     word-at-requires
-    cast-from
+    cast-count
     mul-from
     add-from
     list-refusal-requires-2
@@ -108,7 +105,6 @@ list-input-spec =
     sub-list-records
     part-list-records-start
     part-list-records-end
-    cast-list-records
     mul-list-records
     sub-list-records-2
     part-list-records-start-2

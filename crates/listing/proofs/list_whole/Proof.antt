@@ -1,7 +1,7 @@
 -- What was read gives what the whole input gives (Sizes: first-read), and no text is longer than the page (Enough: printed-most).
 use mathlib.Core.Path.{sym, _∙_}
 use native.Mathlib.Omega.{arith}
-use lib.ListN.{take}
+use lib.ListN.{take, length-take}
 use lib.Seq.{length-take-le}
 use Rattle.listing.specs.meaning.Program.{printed}
 use Rattle.listing.proofs.Pages.{filled-whole}
@@ -12,7 +12,7 @@ use Rattle.listing.proofs.list_whole.Statement.{statement}
 use Rattle.listing.proofs.list_whole.Tie as tie
 
 slice-aggregate-list-input : tie.Need-slice-aggregate-list-input
-slice-aggregate-list-input c = search needs
+slice-aggregate-list-input c = simp length-take (omega arith)
 
 list-input-requires : tie.Need-list-input-requires
 list-input-requires c κs = search needs
