@@ -13,6 +13,8 @@ mod listing;
 mod page;
 mod reading;
 
+use input::limits::MOST_RECORDS;
+use input::limits::MOST_TEXT;
 use listing::list_answer;
 use listing::list_refusal;
 use log::answer::REFUSED_SIZE;
@@ -23,11 +25,6 @@ use reading::RECORD_WORDS;
 use reading::WORD_BYTES;
 use reading::read_words;
 use reading::word_at;
-
-// Row 1: the most records of an input, and bytes of its text.
-const MOST_RECORDS: usize = 2048;
-
-const MOST_TEXT: usize = 65536;
 
 // The longest input that is not refused by its size, and one byte more, by which a longer one is seen to be
 // longer.
