@@ -79,8 +79,10 @@ fit-requires c κs = search needs
 
 cast-result : tie.Need-cast-result
 cast-result c =
-    let a = c .before .before .before .before .before .before .before .before .before .before .before .before .before .before .before .before .before .before .before .before .before .before .before .before .before .before .before .before .args in
-    let o = c .before .before .before .before .before .before .before .before .before .before .before .before .before .before .before .before .before .before .chain-order in
+    let a = c .before .before .before .before .before .before .before .before .before .before .before .before .before .before .before
+    .before .before .before .before .before .before .before .before .before .before .before .before .before .args in
+    let o = c .before .before .before .before .before .before .before .before .before .before .before .before .before .before .before
+    .before .before .before .chain-order in
     let v = c .before .before .before .before .before .before .before .before .before .before .before .live-of in
     let q = rw (collected-part (a .order .now) (chainOf (a .words .now) (a .first)) _ (o .result) (o .ensures .1) (o .ensures .0)) at
     (v .ensures) in
