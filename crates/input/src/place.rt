@@ -25,6 +25,7 @@ use crate::kinds::REFERENCE;
 use crate::kinds::SLASH;
 use crate::kinds::STRING;
 use crate::kinds::UNIT_ADDRESS;
+use log::lists;
 use paths_numbers::operators::CONDITIONAL;
 
 // Where a record stands, by number.
@@ -247,12 +248,5 @@ fn is_character(w: u32) -> bool
 pub fn one_of(k: u32, list: &[u32]) -> bool
     ensures { λ t. ⌜ t ≡ any (eqb k) (now (list .entry)) ⌝ }
 {
-    let mut i = 0;
-    while i < list.len() {
-        if k == list[i] {
-            return true;
-        }
-        i += 1;
-    }
-    false
+    lists::one_of(k, list)
 }
