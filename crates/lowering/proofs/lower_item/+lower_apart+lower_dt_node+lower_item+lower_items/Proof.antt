@@ -431,7 +431,8 @@ lower-item-returns-5 t
 
 abbrev lower-items-Inv-loop : lower-items-lts.InvT-loop
 lower-items-Inv-loop words text first parent nesting out₀ bytes₀ state₀ r₀ out bytes state r =
-    (length out ≡ length out₀) × (length bytes ≡ length bytes₀) × ItemsTo parent state₀ state out₀ bytes₀ out bytes words text first nesting r
+    (length out ≡ length out₀) × (length bytes ≡ length bytes₀)
+    × ItemsTo parent state₀ state out₀ bytes₀ out bytes words text first nesting r
 
 abbrev lower-items-μ-loop : lower-items-lts.MeasureT-loop
 lower-items-μ-loop words text first parent nesting out₀ bytes₀ state₀ r₀ out bytes state r = rank words r
