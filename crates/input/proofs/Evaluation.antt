@@ -1,6 +1,6 @@
 -- How an expression's outcome comes from its operands': the operands of a record are its chain of children, and an operation asks for as
 -- many as it needs.
-use Prim.Native.Nat.{ℕ, zero, suc, _-_, _<_}
+use Prim.Native.Nat.{ℕ, zero, suc, _<_}
 use mathlib.Core.Path.{_≡_, refl, sym, ap, _∙_}
 use mathlib.Core.Bool.{true, false, cond}
 use mathlib.Core.List.{List, [], _∷_}
@@ -11,8 +11,12 @@ use lib.Dec.{eqb}
 use lib.IntN.{ℤ}
 use types.Run.{OneOf}
 use denote.Enum.Declared.{tagOf}
-use Rattle.paths_numbers.specs.meaning.Expression.{andOp, orOp, conditionalOp, evalPrefix, evalInfix, evalRelation, evalCode, isTrue}
+use Rattle.paths_numbers.specs.meaning.Expression.{andOp, orOp, conditionalOp, evalPrefix, evalInfix, evalRelation, evalCode, evalTold, isTrue}
 use Rattle.paths_numbers.specs.meaning.Expression.{ofTruth}
+use Rattle.paths_numbers.specs.meaning.Reading as R
+use Rattle.paths_numbers.specs.meaning.Number.{intCode}
+use Rattle.paths_numbers.specs.declared.expr_eval.IntErrorKind.{IntErrorKind}
+use Rattle.paths_numbers.specs.declared.expr_eval.IntErrorKind.the-variants as Kind
 use Rattle.paths_numbers.specs.declared.operators.Evaluated.{Evaluated}
 use Rattle.paths_numbers.specs.declared.operators.Evaluated.the-variants as Eval
 use Rattle.paths_numbers.proofs.operators.Evaluated as Result
@@ -21,7 +25,8 @@ use Rattle.log.specs.meaning.Contents.{Span}
 use Rattle.input.specs.meaning.Tree.{macroKind, numberKind, characterKind, prefixKind, parenthesisKind, infixKind}
 use Rattle.input.specs.meaning.Expr.{Outcome, value, missing, failsWith, withValue, evaluated, firstOperand, applied, chosen}
 use Rattle.input.specs.meaning.Expr.{prefixOf, infixOf, combined, eval, evals}
-use Rattle.input.specs.meaning.Input.{recordCount, kindAt, nextAt, childAt, numberAt, spanAt, textAt, chainAt, recordAt}
+use Rattle.input.specs.meaning.Input.{recordCount, kindAt, nextAt, childAt, numberAt, spanAt, textAt, chainAt}
+use Rattle.input.specs.machine.At.{recordAt}
 use Rattle.input.specs.machine.Linked.{Linked, At, ChainIn}
 use Rattle.input.specs.machine.Read.{afterAt}
 use Rattle.input.specs.machine.Evaluation.{outcomeOf, decides}
@@ -42,7 +47,7 @@ failure-passes words text (E.Failed code r) f h = refl
 
 -- a result that there is not has a code, where the operator is not missing
 pub result-coded : (span : Span) (v : Evaluated) → OneOf (1 ∷ 2 ∷ 3 ∷ []) (tagOf Result.the-type v)
-    → failsWith (evalCode v) span ≡ evaluated span v
+    → failsWith (evalCode v) span ≡ evaluated span (evalTold v)
 result-coded span (Eval.Value z) h = ⊎-elim (λ e. absurd (omega arith))
     (λ k. ⊎-elim (λ e. absurd (omega arith)) (λ e. absurd (omega arith)) k) h
 result-coded span Eval.Outside h = refl
@@ -50,6 +55,13 @@ result-coded span Eval.ZeroDivisor h = refl
 result-coded span Eval.ShiftAmount h = refl
 result-coded span Eval.Missing h = ⊎-elim (λ e. absurd (omega arith))
     (λ k. ⊎-elim (λ e. absurd (omega arith)) (λ e. absurd (omega arith)) k) h
+
+-- a text that is no number has a code
+pub literal-coded : (span : Span) (e : IntErrorKind) → failsWith (intCode e) span ≡ evaluated span (R.fails (intCode e))
+literal-coded span Kind.Empty = refl
+literal-coded span Kind.InvalidDigit = refl
+literal-coded span Kind.PosOverflow = refl
+literal-coded span Kind.NegOverflow = refl
 
 -- an expression record, by its kind
 module _ (words text : List ℕ) (r : ℕ) where

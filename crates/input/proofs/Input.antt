@@ -5,7 +5,8 @@ use mathlib.Core.Path.{_≡_, refl, sym, _∙_}
 use mathlib.Core.List.{List, [], _∷_, _++_}
 use native.Mathlib.Omega.{arith}
 use Rattle.input.specs.meaning.Tree.{empty, more}
-use Rattle.input.specs.meaning.Input.{recordCount, kindAt, nextAt, childAt, secondAt, treesAt, chainAt, recordAt}
+use Rattle.input.specs.meaning.Input.{recordCount, kindAt, nextAt, childAt, secondAt, treesAt, chainAt}
+use Rattle.input.specs.machine.At.{recordAt}
 use Rattle.input.specs.meaning.Place.{InputPlace, childPlace, secondPlace}
 use Rattle.input.specs.machine.Linked.{Link, Linked, At}
 use Rattle.input.specs.meaning.Rows.{visits, visitsFrom}

@@ -13,8 +13,9 @@ use Rattle.log.specs.meaning.Contents.{Span}
 use Rattle.input.specs.meaning.Tree.{firstOf, nameKind, unitAddressKind, referenceKind, macroKind, slashKind}
 use Rattle.input.specs.meaning.Report.{Got, found, failed, undefinedMacro}
 use Rattle.input.specs.meaning.Name.{nameOrMacro, withAddress, fullName, spanTo, slashSpan, ownSpan, nodeNameSpan, propertyNameSpan}
-use Rattle.input.specs.meaning.Input.{childAt, textAt, spanEndAt, spanAt, chainAt, recordAt}
-use Rattle.input.specs.meaning.GoodName.{goodName, goodNamesIn}
+use Rattle.input.specs.meaning.Input.{childAt, textAt, spanEndAt, spanAt, chainAt}
+use Rattle.input.specs.machine.At.{recordAt}
+use Rattle.input.specs.meaning.GoodName.{goodNamesIn}
 use Rattle.input.specs.machine.Read.{optional, FirstOf}
 use Rattle.input.specs.machine.NameRead.{nameRead, nameText, isThere, fullRead, FullNameRead}
 use Rattle.input.specs.declared.name.NameOrMacro.{NameOrMacro}

@@ -7,10 +7,11 @@ use native.Mathlib.Omega.{arith}
 use borrow.Author.Tests.{ne-eqb}
 use lib.ListN.{length}
 use Rattle.paths_numbers.specs.meaning.Text.{isEmpty}
-use Rattle.paths_numbers.specs.meaning.Reference.{Target, label, labelPath, path, unreadable, target, kindOf, labelOf, pathOf}
+use Rattle.paths_numbers.specs.meaning.Reference.{Target, label, labelPath, path, unreadable, target, numberOf, labelOf, pathOf}
 use Rattle.input.specs.meaning.Tree.{macroKind}
 use Rattle.input.specs.meaning.Phandle.{readable, plainTarget, lowerPhandle}
-use Rattle.input.specs.meaning.Input.{childAt, numberAt, textAt, recordAt}
+use Rattle.input.specs.meaning.Input.{childAt, numberAt, textAt}
+use Rattle.input.specs.machine.At.{recordAt}
 use Rattle.input.specs.machine.Read.{FirstOf}
 use Rattle.input.specs.machine.PhandleRead.{labelAt, pathAt, targetOf, phandleRead, readAs}
 use Rattle.input.specs.declared.phandle.PhandleRead.the-variants.{Macro, Label, Unreadable}
@@ -28,7 +29,7 @@ filled-length [] n = absurd (n refl)
 filled-length (b ∷ s) n = refl
 
 -- a raw reference by its kind, its label and its path
-raw-target : (words text : List ℕ) (t : Target) → targetOf words text (labelOf t) (pathOf t) (readAs (kindOf t)) ≡ readable t
+raw-target : (words text : List ℕ) (t : Target) → targetOf words text (labelOf t) (pathOf t) (readAs (numberOf t)) ≡ readable t
 raw-target words text (label l) = refl
 raw-target words text (labelPath l p) = refl
 raw-target words text (path p) = refl
@@ -36,7 +37,7 @@ raw-target words text unreadable = refl
 
 module _ (words text : List ℕ) (r : ℕ) where
   -- a reference without a macro
-  pub raw-is : numberAt words r ≡ 1 → phandleRead words text r (readAs (kindOf (target (textAt words text r)))) ≡ plainTarget
+  pub raw-is : numberAt words r ≡ 1 → phandleRead words text r (readAs (numberOf (target (textAt words text r)))) ≡ plainTarget
       (recordAt words text r)
   unfolding phandleRead labelAt pathAt recordAt
   raw-is e = rw e (raw-target words text (target (textAt words text r)))

@@ -9,8 +9,9 @@ use borrow.Author.Tests.{eq-eqb, ne-eqb, eqb-true, eqb-false}
 use lib.Dec.{eqb}
 use Rattle.paths_numbers.proofs.Texts.{by-test}
 use Rattle.input.specs.meaning.Tree.{Tree, Trees, tree, empty, more, kindOf, firstOf, has}
-use Rattle.input.specs.meaning.Input.{recordCount, kindAt, nextAt, childAt, secondAt, chainAt, recordAt}
-use Rattle.input.specs.meaning.Place.{depthOf, depthsOf}
+use Rattle.input.specs.meaning.Input.{recordCount, kindAt, nextAt, childAt, secondAt, chainAt}
+use Rattle.input.specs.machine.At.{recordAt}
+use Rattle.input.specs.machine.Fits.{depthOf, depthsOf}
 use Rattle.input.specs.machine.Linked.{Link, Linked, At, RecordIn, ChainIn}
 use Rattle.input.specs.machine.Read.{afterAt, optional, FirstOf}
 use Rattle.input.proofs.Input.{chain-none, chain-more}

@@ -15,7 +15,8 @@ use Rattle.paths_numbers.specs.meaning.Lists.{any}
 use Rattle.input.specs.meaning.Tree.{nameKind}
 use Rattle.input.specs.meaning.Input.{recordWords, recordCount, kindAt, nextAt, childAt, textStartAt, textLengthAt, spanAt, textAt}
 use Rattle.input.specs.meaning.Input.{secondAt, numberAt, treesAt, chainAt, description}
-use Rattle.input.specs.meaning.Place.{InputPlace, items, fitsAlone, fitsPlaces, depthsOf}
+use Rattle.input.specs.meaning.Place.{InputPlace, items, fitsAlone}
+use Rattle.input.specs.machine.Fits.{fitsPlaces, depthsOf}
 use Rattle.input.specs.machine.Linked.{Link, Links, Linked, ChainIn}
 use Rattle.input.specs.meaning.Rows.{Verdict, accepted, refused, mostRecords, mostText, mostLinks, wrongSize, linksOf, linkedBelow}
 use Rattle.input.specs.meaning.Rows.{badLink, badLinks, rowTwo, badText, rowThree, Visit, visits, visitsFrom, reached, lowestOf}

@@ -1,7 +1,7 @@
 -- Values and cells by the kinds of their records.
 use Prim.Native.Nat.{ℕ, _+_, _*_, _/_, _%_, _^_, _<_}
 use native.Mathlib.Nat.{div-add-mod'}
-use mathlib.Core.Path.{_≡_, refl, sym, _∙_}
+use mathlib.Core.Path.{_≡_, refl, sym, ap, _∙_}
 use mathlib.Core.Bool.{cond}
 use mathlib.Core.List.{List, [], _∷_}
 use mathlib.Core.Logic.{⊎-elim}
@@ -9,8 +9,10 @@ use native.Mathlib.Omega.{arith}
 use borrow.Author.Tests.{ne-eqb}
 use denote.Enum.Declared.{tagOf}
 use types.Run.{OneOf}
-use Rattle.paths_numbers.specs.meaning.Bytestring.{isOdd, bytesOf, countOf}
-use Rattle.paths_numbers.specs.meaning.Cell.{sizeCode, cellCode}
+use Rattle.paths_numbers.specs.meaning.Code.{oddDigits}
+use Rattle.paths_numbers.specs.meaning.Reading as R
+use Rattle.paths_numbers.specs.meaning.Bytestring.{isOdd, bytesOf, countOf, countTold}
+use Rattle.paths_numbers.specs.meaning.Cell.{sizeCode, sizeTold, cellCode, cellTold}
 use Rattle.paths_numbers.specs.declared.dt_property.BitsSize.{BitsSize}
 use Rattle.paths_numbers.specs.declared.dt_property.SizeRead.{SizeRead}
 use Rattle.paths_numbers.specs.declared.dt_property.SizeRead.the-variants as S
@@ -28,9 +30,10 @@ use Rattle.input.specs.meaning.Tree.{Trees, tree, numberKind, characterK
 use Rattle.input.specs.meaning.Tree.{preprocessorKind, stringKind, cellListKind, bytestringKind}
 use Rattle.input.specs.meaning.Report.{one, nothing, andThen, report}
 use Rattle.input.specs.meaning.Phandle.{lowerPhandle}
-use Rattle.input.specs.meaning.Property.{fittedCell, referenceCell, lowerCell, lowerCells, sizedList, countedBytes, referenceValue}
+use Rattle.input.specs.meaning.Property.{numberCell, referenceCell, lowerCell, lowerCells, sizedList, countedBytes, referenceValue}
 use Rattle.input.specs.meaning.Property.{lowerValue, lowerValues}
-use Rattle.input.specs.meaning.Input.{recordCount, kindAt, nextAt, childAt, secondAt, textAt, numberAt, spanAt, chainAt, recordAt}
+use Rattle.input.specs.meaning.Input.{recordCount, kindAt, nextAt, childAt, secondAt, textAt, numberAt, spanAt, chainAt}
+use Rattle.input.specs.machine.At.{recordAt}
 use Rattle.input.specs.machine.Linked.{Linked}
 use Rattle.input.specs.machine.ValueRead.{plainMade}
 use Rattle.input.specs.declared.value_read.PlainValue.{PlainValue}
@@ -100,24 +103,25 @@ module _ (words text : List ℕ) (r : ℕ) where
 
 -- a cell without a number has a code, and so has a width that is none
 pub cell-coded : (span : Span) (cell : Cell) → OneOf (1 ∷ 2 ∷ []) (tagOf Fitted.the-type cell)
-    → nothing (report (cellCode cell) [] span ∷ []) ≡ fittedCell span cell
+    → nothing (report (cellCode cell) [] span ∷ []) ≡ numberCell span (cellTold cell)
 cell-coded span (C.Number n) h = absurd (⊎-elim (λ e. omega arith) (λ e. omega arith) h)
 cell-coded span C.CharTooLarge h = refl
 cell-coded span C.ExprOutside h = refl
 
 pub size-coded : (span : Span) (cells : Trees) (size : SizeRead) → OneOf (1 ∷ 2 ∷ []) (tagOf Size.the-type size)
-    → nothing (report (sizeCode size) [] span ∷ []) ≡ sizedList span cells size
+    → nothing (report (sizeCode size) [] span ∷ []) ≡ sizedList span cells (sizeTold size)
 size-coded span cells (S.Size s) h = absurd (⊎-elim (λ e. omega arith) (λ e. omega arith) h)
 size-coded span cells S.Unsupported h = refl
 size-coded span cells (S.Failed e) h = refl
 
 -- a bytestring that was counted has an even count of digits
-pub counted-some : (span : Span) (t : List ℕ) (n : ByteCount) (m : ℕ) → n ≡ B.Bytes m → n ≡ countOf t
-    → cond (isOdd t) (nothing []) (one (bytestring (bytesOf t))) ≡ countedBytes span t n
+pub counted-some : (span : Span) (t : List ℕ) (n : ByteCount) (m : ℕ) → n ≡ B.Bytes m → countTold n ≡ countOf t
+    → cond (isOdd t) (nothing []) (one (bytestring (bytesOf t))) ≡ countedBytes span t (countTold n)
 unfolding countOf
 counted-some span t n m e h =
     by-test (isOdd t)
-    (λ q. let k : n ≡ B.MissingDigit = h ∙ rw q refl in let z : _≡_ {A = ℕ} 0 1 = cc in absurd (omega arith))
+    (λ q. let k : R.value m ≡ R.fails oddDigits = sym (ap countTold e) ∙ h ∙ rw q refl in
+    let z : _≡_ {A = ℕ} 0 1 = cc in absurd (omega arith))
     (λ q. rw (q, e) refl)
 
 -- what a reference names, by its texts

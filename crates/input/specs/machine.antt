@@ -1,4 +1,6 @@
 -- Steps of the code, which contracts inside the library cite.
+pub mod At
+pub mod Fits
 pub mod Linked
 pub mod Read
 pub mod Evaluation

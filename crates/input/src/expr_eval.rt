@@ -3,10 +3,12 @@
 ghost use mathlib.Core.Path.{_≡_};
 ghost use mathlib.Core.List.{List};
 ghost use Prim.Native.Nat.{ℕ};
-ghost use Rattle.paths_numbers.specs.meaning.Expression.{conditionalOp, evalPrefix, evalInfix};
+ghost use Rattle.paths_numbers.specs.meaning.Expression.{conditionalOp, evalPrefix, evalInfix, evalTold};
+ghost use Rattle.paths_numbers.specs.meaning.Number.{i64Told};
 ghost use Rattle.log.specs.meaning.Contents.{Span};
-ghost use Rattle.input.specs.meaning.Expr.{withValue, evaluated, literal, firstOperand, applied, prefixOf, infixOf, eval, evals};
-ghost use Rattle.input.specs.meaning.Input.{childAt, numberAt, spanAt, chainAt, partsAt, recordAt};
+ghost use Rattle.input.specs.meaning.Expr.{withValue, evaluated, firstOperand, applied, prefixOf, infixOf, eval, evals};
+ghost use Rattle.input.specs.meaning.Input.{childAt, numberAt, spanAt, chainAt, partsAt};
+ghost use Rattle.input.specs.machine.At.{recordAt};
 ghost use Rattle.input.specs.machine.Linked.{Linked, RecordIn, ChainIn};
 ghost use Rattle.input.specs.machine.Evaluation.{outcomeOf, decides};
 use crate::kinds::CHARACTER;
@@ -205,7 +207,7 @@ fn infix_of(op: u32, r: u32, a: i64, y: Evaluation) -> Evaluation
 
 // An operator's result, at record r.
 fn evaluation_of(r: u32, v: Evaluated) -> Evaluation
-    ensures { λ e. ⌜ ((words text : List ℕ) → outcomeOf words text e ≡ evaluated (spanAt words r) v) ⌝ }
+    ensures { λ e. ⌜ ((words text : List ℕ) → outcomeOf words text e ≡ evaluated (spanAt words r) (evalTold v)) ⌝ }
 {
     match v {
         Evaluated::Value(z) => Evaluation::Value(z),
@@ -216,7 +218,7 @@ fn evaluation_of(r: u32, v: Evaluated) -> Evaluation
 
 // A number's text read, at record r.
 fn literal_of(r: u32, p: ParsedI64) -> Evaluation
-    ensures { λ e. ⌜ ((words text : List ℕ) → outcomeOf words text e ≡ literal (spanAt words r) p) ⌝ }
+    ensures { λ e. ⌜ ((words text : List ℕ) → outcomeOf words text e ≡ evaluated (spanAt words r) (i64Told p)) ⌝ }
 {
     match p {
         ParsedI64::Value(z) => Evaluation::Value(z),

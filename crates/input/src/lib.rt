@@ -2,7 +2,7 @@
 // read from them.
 pub mod expr_eval;
 pub mod kinds;
-mod layout;
+pub mod layout;
 pub mod limits;
 pub mod name;
 pub mod phandle;

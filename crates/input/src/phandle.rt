@@ -1,8 +1,10 @@
 // References read: what lower_phandle of lowering/mod.rs makes of a reference record.
 ghost use mathlib.Core.Path.{_≡_};
 ghost use Prim.Native.Nat.{_<_};
+ghost use Rattle.paths_numbers.specs.meaning.Reference.{targetNumber};
 ghost use Rattle.input.specs.meaning.Phandle.{plainTarget, lowerPhandle};
-ghost use Rattle.input.specs.meaning.Input.{recordCount, recordAt};
+ghost use Rattle.input.specs.meaning.Input.{recordCount};
+ghost use Rattle.input.specs.machine.At.{recordAt};
 ghost use Rattle.input.specs.machine.Linked.{Linked};
 ghost use Rattle.input.specs.machine.PhandleRead.{labelAt, pathAt, phandleRead, readAs};
 use crate::kinds::MACRO;
@@ -77,7 +79,7 @@ pub fn phandle_path_at<'a, 'b>(words: &'b [u32], text: &'a [u8], r: u32) -> &'a 
 
 // What a raw reference names.
 fn read_as(t: MirPhandleTarget) -> PhandleRead
-    ensures { λ k. ⌜ k ≡ readAs t ⌝ }
+    ensures { λ k. ⌜ k ≡ readAs (targetNumber t) ⌝ }
 {
     match t {
         MirPhandleTarget::Label => PhandleRead::Label,

@@ -3,11 +3,14 @@
 ghost use mathlib.Core.Path.{_≡_};
 ghost use mathlib.Core.List.{List};
 ghost use Prim.Native.Nat.{ℕ, _<_};
-ghost use Rattle.paths_numbers.specs.meaning.Bytestring.{countOf};
+ghost use Rattle.paths_numbers.specs.meaning.Bytestring.{countOf, countTold};
+ghost use Rattle.paths_numbers.specs.meaning.Number.{intTold};
+ghost use Rattle.paths_numbers.specs.meaning.Cell.{sizeTold, cellTold};
 ghost use Rattle.input.specs.meaning.Expr.{firstOperand, evals};
-ghost use Rattle.input.specs.meaning.Property.{numberCell, fittedCell, outcomeCell, referenceCell, lowerCell, sizedList};
+ghost use Rattle.input.specs.meaning.Property.{numberCell, outcomeCell, referenceCell, lowerCell, sizedList};
 ghost use Rattle.input.specs.meaning.Property.{countedBytes, referenceValue, lowerValue};
-ghost use Rattle.input.specs.meaning.Input.{recordCount, spanAt, textAt, partsAt, recordAt};
+ghost use Rattle.input.specs.meaning.Input.{recordCount, spanAt, textAt, partsAt};
+ghost use Rattle.input.specs.machine.At.{recordAt};
 ghost use Rattle.input.specs.machine.Linked.{Linked, RecordIn};
 ghost use Rattle.input.specs.machine.Evaluation.{outcomeOf};
 ghost use Rattle.input.specs.machine.PhandleRead.{phandleRead};
@@ -98,7 +101,7 @@ pub fn read_cell(words: &[u32], text: &[u8], r: u32, size: BitsSize, nesting: u3
 
 // A number's text read, at record r.
 fn number_cell(r: u32, p: ParsedInt) -> CellRead
-    ensures { λ v. ⌜ ((words text : List ℕ) → cellMade words text r v ≡ numberCell (spanAt words r) p) ⌝ }
+    ensures { λ v. ⌜ ((words text : List ℕ) → cellMade words text r v ≡ numberCell (spanAt words r) (intTold p)) ⌝ }
 {
     match p {
         ParsedInt::Value(n) => CellRead::Number(n),
@@ -108,7 +111,7 @@ fn number_cell(r: u32, p: ParsedInt) -> CellRead
 
 // A number that fits its width or does not, at record r.
 fn fitted_cell(r: u32, cell: Cell) -> CellRead
-    ensures { λ v. ⌜ ((words text : List ℕ) → cellMade words text r v ≡ fittedCell (spanAt words r) cell) ⌝ }
+    ensures { λ v. ⌜ ((words text : List ℕ) → cellMade words text r v ≡ numberCell (spanAt words r) (cellTold cell)) ⌝ }
 {
     match cell {
         Cell::Number(n) => CellRead::Number(n),
@@ -194,7 +197,7 @@ pub fn read_value(words: &[u32], text: &[u8], r: u32) -> ValueRead
 
 // A cell list of a width that was read, at record r.
 fn sized_list(r: u32, size: SizeRead) -> ValueRead
-    ensures { λ v. ⌜ ((words text : List ℕ) → valueMade words text r v ≡ sizedList (spanAt words r) (partsAt words text r) size) ⌝ }
+    ensures { λ v. ⌜ ((words text : List ℕ) → valueMade words text r v ≡ sizedList (spanAt words r) (partsAt words text r) (sizeTold size)) ⌝ }
 {
     match size {
         SizeRead::Size(s) => ValueRead::CellList(s),
@@ -204,8 +207,8 @@ fn sized_list(r: u32, size: SizeRead) -> ValueRead
 
 // A bytestring whose bytes were counted, at record r.
 fn counted_bytes(r: u32, n: ByteCount) -> ValueRead
-    ensures { λ v. ⌜ ((words text : List ℕ) → n ≡ countOf (textAt words text r)
-        → valueMade words text r v ≡ countedBytes (spanAt words r) (textAt words text r) n) ⌝ }
+    ensures { λ v. ⌜ ((words text : List ℕ) → countTold n ≡ countOf (textAt words text r)
+        → valueMade words text r v ≡ countedBytes (spanAt words r) (textAt words text r) (countTold n)) ⌝ }
 {
     match n {
         ByteCount::Bytes(_) => ValueRead::Plain(PlainValue::Bytestring),

@@ -1,12 +1,8 @@
 -- Deletions of nodes: by name, by a live node's path, by a label's first binding.
-use Prim.Native.Nat.{ℕ, suc, _+_, _-_, _≤_, _<_}
-use mathlib.Core.Path.{_≡_, refl, sym, ap, subst, _∙_}
+use Prim.Native.Nat.{ℕ}
+use mathlib.Core.Path.{_≡_, refl, ap, subst, _∙_}
 use mathlib.Core.Bool.{Bool, true, false, cond}
-use mathlib.Core.List.{List, [], _∷_, _++_, map, append-assoc, append-nil, map-append}
-use mathlib.Core.Option.{some, none}
-use native.Mathlib.Omega.{arith}
-use lib.ListN.{length, length-append}
-use lib.Seq.{append-snoc}
+use mathlib.Core.List.{List, [], _∷_, _++_, map}
 use Rattle.paths_numbers.specs.meaning.Text.{same}
 use Rattle.paths_numbers.specs.meaning.Path.{joined}
 use Rattle.paths_numbers.proofs.Texts.{by-test, not-both, both}
@@ -16,12 +12,11 @@ use Rattle.log.specs.declared.parts.Span.{Span as LogSpan}
 use Rattle.making.specs.declared.recs.DefKind.the-variants as D
 use Rattle.making.specs.machine.Recs.{bareDef}
 use Rattle.log.specs.machine.Parts.{meant}
-use Rattle.log.specs.meaning.Contents.{Span, Def, deletedNode, Binding}
-use Rattle.log.specs.meaning.Record.{firstText, secondText}
+use Rattle.log.specs.meaning.Contents.{Span, Def, deletedNode}
 use Rattle.log.specs.meaning.ReadBack.{chainOf, defAt, readDefs}
 use Rattle.making.specs.machine.PathPlaces.{pathIn, placedIn}
 use Rattle.making.specs.meaning.State.{State, define}
-use Rattle.making.specs.machine.Represents.{Context, withPlace, Represents, Steps}
+use Rattle.making.specs.machine.Represents.{withPlace, Represents, Steps}
 use Rattle.making.proofs.InHand.{represents-defs, place-reads, def-path}
 use Rattle.queries.specs.meaning.Kind.{isNode}
 use Rattle.paths_numbers.specs.meaning.Lists.{any}
@@ -29,7 +24,7 @@ use Rattle.queries.specs.meaning.Live.{isLive, live, nodeAt, containsNode}
 use Rattle.items.specs.meaning.Unbind.{unbind}
 use Rattle.items.specs.meaning.Lower.{bare, deleteNode}
 use Rattle.resolving.specs.machine.Lowers.{Lowers, LowersAt}
-use Rattle.resolving.specs.machine.Leading.{hasText, FirstAt, FirstWith}
+use Rattle.resolving.specs.machine.Leading.{hasText, FirstWith}
 use Rattle.items.specs.machine.Unbinding.{at-named, at-given, UnbindsAll}
 use Rattle.items.specs.machine.Deleting.{DeletesAt}
 use Rattle.resolving.specs.declared.resolve.Found.{Found}

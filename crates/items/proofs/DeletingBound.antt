@@ -1,29 +1,28 @@
 -- A deletion by a label's first binding: that binding is taken out last, since its path is read until then.
-use Prim.Native.Nat.{ℕ, suc, _+_, _-_, _≤_, _<_}
+use Prim.Native.Nat.{ℕ, _+_, _-_}
 use mathlib.Core.Path.{_≡_, refl, sym, ap, subst, _∙_}
-use mathlib.Core.Bool.{Bool, true, false, cond}
-use mathlib.Core.List.{List, [], _∷_, _++_, map, append-assoc, append-nil, map-append}
+use mathlib.Core.Bool.{Bool, true, false}
+use mathlib.Core.List.{List, [], _∷_, _++_, map, append-nil, map-append}
 use mathlib.Core.Option.{some, none}
 use native.Mathlib.Omega.{arith}
 use borrow.Author.Tests.{eq-eqb}
-use lib.Dec.{eqb}
 use lib.ListN.{length, length-append, length-map}
 use lib.Seq.{append-snoc}
 use Rattle.paths_numbers.specs.meaning.Text.{same}
 use Rattle.paths_numbers.specs.meaning.Path.{joined}
-use Rattle.paths_numbers.proofs.Texts.{by-test, not-both, same-refl, same-true}
+use Rattle.paths_numbers.proofs.Texts.{by-test, not-both, same-refl}
 use Rattle.making.specs.declared.ctx.LowerCtx.{LowerCtx}
 use Rattle.log.specs.declared.parts.Span.{Span as LogSpan}
 use Rattle.making.specs.declared.recs.DefKind.the-variants as D
 use Rattle.making.specs.machine.Recs.{bareDef}
 use Rattle.log.specs.machine.Parts.{meant}
-use Rattle.log.specs.meaning.Contents.{Span, Def, deletedNode, Binding}
+use Rattle.log.specs.meaning.Contents.{Def, deletedNode, Binding}
 use Rattle.log.specs.meaning.Record.{oneOf, nextOf, firstText, secondText, logCount}
-use Rattle.log.specs.meaning.ReadBack.{chainFrom, chainOf, bindingAt, readBindings}
+use Rattle.log.specs.meaning.ReadBack.{chainFrom, bindingAt, readBindings}
 use Rattle.making.specs.machine.PathPlaces.{pathIn, placedIn}
 use Rattle.making.specs.meaning.State.{State, define}
 use Rattle.making.specs.machine.Adding.{removeAt, unbindAt}
-use Rattle.making.specs.machine.Represents.{Context, Represents, Steps, Unlinks, lastNumber}
+use Rattle.making.specs.machine.Represents.{Context, Represents, Steps, Unlinks}
 use Rattle.making.proofs.InHand.{represents-defs, represents-bindings, binding-path}
 use Rattle.paths_numbers.specs.meaning.Lists.{any}
 use Rattle.queries.specs.meaning.Live.{live}

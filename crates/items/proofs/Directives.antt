@@ -1,46 +1,45 @@
 -- Directives: what names report, deletions by reference, and a directive by its W.
-use Prim.Native.Nat.{ℕ, _+_, _≤_}
-use mathlib.Core.Path.{_≡_, refl, sym, ap, subst, _∙_}
-use mathlib.Core.Bool.{Bool, true, false, cond}
-use mathlib.Core.List.{List, [], _∷_, _++_, append-nil, append-assoc}
+use Prim.Native.Nat.{ℕ, _≤_}
+use mathlib.Core.Path.{_≡_, refl, sym, ap, _∙_}
+use mathlib.Core.Bool.{true, false}
+use mathlib.Core.List.{List, [], _∷_}
 use mathlib.Core.Option.{Option, some, none}
 use native.Mathlib.Omega.{arith}
-use borrow.Author.Tests.{eq-eqb, ne-eqb}
-use lib.ListN.{length, length-append}
-use Rattle.paths_numbers.specs.meaning.Path.{join, joined}
+use borrow.Author.Tests.{ne-eqb}
+use Rattle.paths_numbers.specs.meaning.Path.{joined}
 use Rattle.paths_numbers.specs.meaning.Reference.{Target, label, labelPath, path}
-use Rattle.paths_numbers.proofs.Texts.{by-test, not-both}
+use Rattle.paths_numbers.proofs.Texts.{not-both}
 use Rattle.making.specs.declared.ctx.LowerCtx.{LowerCtx}
 use Rattle.making.specs.declared.place.PathAt.{PathAt}
 use Rattle.log.specs.declared.parts.Span.{Span as LogSpan}
 use Rattle.making.specs.declared.recs.DefKind.the-variants as D
-use Rattle.making.specs.machine.Recs.{bareDef, diagMade, noSpan}
+use Rattle.making.specs.machine.Recs.{bareDef}
 use Rattle.log.specs.machine.Parts.{meant}
 use Rattle.log.specs.meaning.Contents.{Span, Diag, DefValue, deletedProperty, version, plugin}
 use Rattle.log.specs.meaning.Record.{secondText}
 use Rattle.log.specs.meaning.ReadBack.{readBindings, readDefs}
 use Rattle.making.specs.machine.PathPlaces.{pathIn}
-use Rattle.making.specs.meaning.State.{State, define, emit, diagsBytes}
+use Rattle.making.specs.meaning.State.{State, define, emit}
 use Rattle.making.specs.machine.Represents.{Context, Represents, Steps}
 use Rattle.making.proofs.InHand.{represents-defs, represents-bindings}
 use Rattle.queries.specs.meaning.Live.{containsNode}
-use Rattle.input.specs.meaning.Tree.{Tree, textOf, spanOf, nameKind, referenceKind, firstOf}
-use Rattle.input.specs.meaning.Report.{Got, report, undefinedMacro}
+use Rattle.input.specs.meaning.Tree.{Tree, spanOf, nameKind, referenceKind, firstOf}
+use Rattle.input.specs.meaning.Report.{report, undefinedMacro}
 use Rattle.input.specs.meaning.Name.{fullName}
 use Rattle.input.specs.meaning.Phandle.{lowerPhandle}
 use Rattle.resolving.specs.meaning.Resolve.{Resolution, reaches, missing, firstBinding, resolve, unresolved}
-use Rattle.input.specs.meaning.Input.{textAt, spanAt, childAt, numberAt, chainAt, recordAt}
+use Rattle.input.specs.meaning.Input.{textAt, spanAt, childAt, numberAt, chainAt}
+use Rattle.input.specs.machine.At.{recordAt}
 use Rattle.items.specs.meaning.Lower.{bare, deleteNode, deleteResolved, deleteTarget, deleteReferenced, deleteNamed, lowerDeleteNode}
 use Rattle.items.specs.meaning.Lower.{deletePropertyNamed, lowerDirective, versionDirective, pluginDirective, includeDirective}
 use Rattle.items.specs.meaning.Lower.{deleteNodeDirective, deletePropertyDirective}
 use Rattle.resolving.specs.machine.Lowers.{Lowers, LowersAt}
 use Rattle.input.specs.machine.Read.{optional, FirstOf}
-use Rattle.input.specs.machine.NameRead.{nameRead, nameText, isThere, fullRead, FullNameRead}
+use Rattle.input.specs.machine.NameRead.{nameText, isThere, fullRead, FullNameRead}
 use Rattle.input.specs.machine.PhandleRead.{labelAt, pathAt, phandleRead}
 use Rattle.input.specs.meaning.GoodName.{goodNamesIn}
 use Rattle.resolving.specs.machine.Leading.{resolution, boundBy, Leads, ReportsMissing}
 use Rattle.items.specs.machine.Deleting.{DeletesAt, DeletesBound}
-use Rattle.input.specs.declared.name.NameOrMacro.{NameOrMacro}
 use Rattle.input.specs.declared.name.NameOrMacro.the-variants as N
 use Rattle.input.specs.declared.name.FullName.{FullName}
 use Rattle.input.specs.declared.phandle.PhandleRead.{PhandleRead}
@@ -49,8 +48,8 @@ use Rattle.resolving.specs.declared.resolve.Resolved.{Resolved}
 use Rattle.resolving.specs.declared.resolve.Resolved.the-variants as R
 use Rattle.input.proofs.Read.{optional-none, optional-some, first-missing, first-there}
 use Rattle.input.proofs.NameRead.{full-joined}
-use Rattle.resolving.proofs.Lowers.{Grows, define-grows, emit-grows, steps-lower, lowers-then}
-use Rattle.resolving.proofs.Under.{steps-under, lowers-under, idle, idle-under, under-then, emit-none}
+use Rattle.resolving.proofs.Lowers.{Grows, define-grows, emit-grows, steps-lower}
+use Rattle.resolving.proofs.Under.{steps-under, lowers-under, idle, idle-under, emit-none}
 use Rattle.resolving.proofs.Leading.{joined-plain}
 use Rattle.items.proofs.Deleting.{delete-grows}
 

@@ -1,16 +1,14 @@
 -- A node's labels, one after the other, after its definition.
-use Prim.Native.Nat.{ℕ, _+_, _≤_}
+use Prim.Native.Nat.{ℕ, _+_}
 use mathlib.Core.Path.{_≡_, refl, sym, ap, _∙_}
-use mathlib.Core.Bool.{Bool, true, false}
+use mathlib.Core.Bool.{true}
 use mathlib.Core.List.{List, [], _∷_, _++_, append-assoc, append-nil}
 use native.Mathlib.Omega.{arith}
-use lib.ListN.{length, length-append}
-use Rattle.paths_numbers.proofs.Texts.{not-both}
-use Rattle.log.specs.meaning.Contents.{Span, DefValue, node, property, deletedNode, deletedProperty, version, plugin, Def, Ext, Binding}
+use lib.ListN.{length-append}
+use Rattle.log.specs.meaning.Contents.{DefValue, node, property, deletedNode, deletedProperty, version, plugin, Def, Ext, Binding}
 use Rattle.log.specs.meaning.Contents.{Diag}
-use Rattle.making.specs.meaning.State.{State, textsBytes, bindingsBytes, diagsBytes, define, bind, emit}
+use Rattle.making.specs.meaning.State.{State, textsBytes, bindingsBytes, diagsBytes, bind, emit}
 use Rattle.making.specs.machine.Adding.{onLast, changed, withLabel, lastIs, isNode, inNode, addPart, addLabel}
-use Rattle.input.specs.meaning.Tree.{Trees}
 use Rattle.input.specs.meaning.Report.{Made, nothing, andThen}
 use Rattle.items.specs.meaning.Lower.{labelTexts}
 use Rattle.items.specs.machine.Labelled.{withLabels, labelledBy}

@@ -1,11 +1,10 @@
 -- What one label does, and a chain of parts with labels among them.
-use Prim.Native.Nat.{ℕ, _+_, _≤_, _<_}
+use Prim.Native.Nat.{ℕ, _<_}
 use mathlib.Core.Path.{_≡_, refl, sym, ap, subst, _∙_}
-use mathlib.Core.Bool.{Bool, true, false, cond}
-use mathlib.Core.List.{List, [], _∷_, _++_, append-assoc, append-nil}
+use mathlib.Core.List.{List, [], _∷_, append-assoc, append-nil}
 use native.Mathlib.Omega.{arith}
 use borrow.Author.Tests.{eq-eqb, ne-eqb}
-use Rattle.paths_numbers.proofs.Texts.{by-test, not-both}
+use Rattle.paths_numbers.proofs.Texts.{by-test}
 use Rattle.making.specs.declared.ctx.LowerCtx.{LowerCtx}
 use Rattle.making.specs.declared.place.PathAt.{PathAt}
 use Rattle.log.specs.declared.parts.Span.{Span}
@@ -14,19 +13,19 @@ use Rattle.making.specs.machine.PathPlaces.{pathIn}
 use Rattle.making.specs.meaning.State.{State, bind, emit}
 use Rattle.making.specs.machine.Adding.{addPart, addLabel, inNode}
 use Rattle.making.specs.machine.Recs.{bindingMade}
-use Rattle.log.specs.machine.Parts.{meant}
 use Rattle.making.specs.machine.Represents.{Context, withPlace, Represents, Steps, StepsIn}
 use Rattle.input.specs.meaning.Tree.{labelKind}
 use Rattle.input.specs.meaning.Report.{Got, Made, nothing, andThen}
 use Rattle.input.specs.meaning.Name.{nameOrMacro, labelled, labelsOf}
-use Rattle.input.specs.meaning.Input.{recordCount, kindAt, nextAt, childAt, chainAt, recordAt}
+use Rattle.input.specs.meaning.Input.{recordCount, kindAt, nextAt, childAt, chainAt}
+use Rattle.input.specs.machine.At.{recordAt}
 use Rattle.input.specs.machine.Linked.{Linked, At}
 use Rattle.input.specs.machine.NameRead.{nameRead}
 use Rattle.input.specs.declared.name.NameOrMacro.{NameOrMacro}
 use Rattle.resolving.specs.machine.Lowers.{Lowers}
 use Rattle.items.specs.machine.Labelled.{labelledBy, LabelsAt}
 use Rattle.input.proofs.Input.{chain-none, chain-more}
-use Rattle.resolving.proofs.Lowers.{Grows, bind-grows, part-grows, stays-over}
+use Rattle.resolving.proofs.Lowers.{bind-grows, stays-over}
 use Rattle.items.proofs.Labelled.{labelled-none, labelled-then, labelled-one, labelled-report, labelled-node}
 use Rattle.making.proofs.InHand.{place-reads}
 

@@ -1,9 +1,8 @@
 -- A node by where it goes: its body lowered there, or in a log of its own, or not at all.
 use Prim.Native.Nat.{ℕ}
-use mathlib.Core.Path.{_≡_, refl, sym, ap, subst, _∙_}
-use mathlib.Core.Bool.{Bool, true, false, cond}
+use mathlib.Core.Path.{_≡_, refl, sym, ap, _∙_}
+use mathlib.Core.Bool.{Bool, true, false}
 use mathlib.Core.List.{List, []}
-use Rattle.paths_numbers.specs.meaning.Text.{isEmpty}
 use Rattle.paths_numbers.specs.meaning.Path.{root}
 use Rattle.paths_numbers.specs.meaning.Reference.{Target}
 use Rattle.paths_numbers.proofs.Texts.{not-both}
@@ -12,13 +11,13 @@ use Rattle.making.specs.declared.place.PathAt.{PathAt}
 use Rattle.log.specs.declared.parts.TargetKind.{TargetKind}
 use Rattle.log.specs.meaning.Contents.{Span, Def}
 use Rattle.log.specs.machine.Parts.{targetMade}
-use Rattle.making.specs.meaning.State.{State, emit, apart, dropped}
+use Rattle.making.specs.meaning.State.{State, emit, apart}
 use Rattle.making.specs.machine.Represents.{Context, withPlace, inBody, Represents, Enters, LeavesDropped, LeavesKept}
 use Rattle.making.proofs.InHand.{forget-place, root-place}
 use Rattle.queries.specs.meaning.Kind.{setsOverlay}
 use Rattle.paths_numbers.specs.meaning.Lists.{any}
 use Rattle.input.specs.meaning.Tree.{Trees}
-use Rattle.items.specs.meaning.Lower.{at, aside, discarded, nowhere, Placed, placeOf, settled, lowerPlaced, lowerNode}
+use Rattle.items.specs.meaning.Lower.{at, placeOf, lowerNode}
 use Rattle.input.specs.meaning.Input.{spanAt}
 use Rattle.input.specs.machine.PhandleRead.{labelAt, pathAt}
 use Rattle.resolving.specs.machine.Lowers.{LowersAt}

@@ -11,7 +11,6 @@ use lib.ListN.{length}
 use Rattle.paths_numbers.specs.meaning.Text.{same, isEmpty}
 use Rattle.paths_numbers.specs.meaning.Path.{root, join}
 use Rattle.paths_numbers.proofs.Texts.{by-test, not-both, same-refl}
-use Rattle.paths_numbers.proofs.Good.{plain-not-root}
 use Rattle.making.specs.declared.ctx.LowerCtx.{LowerCtx}
 use Rattle.making.specs.declared.place.PathAt.{PathAt}
 use Rattle.log.specs.meaning.Contents.{Span, Diag}
@@ -19,11 +18,10 @@ use Rattle.making.specs.meaning.State.{State, emit}
 use Rattle.making.specs.machine.Represents.{Context, withPlace, Represents}
 use Rattle.making.proofs.InHand.{place-length}
 use Rattle.input.specs.meaning.Tree.{Tree, Trees, firstOf, has, referenceKind, slashKind}
-use Rattle.input.specs.meaning.Report.{Got, report}
+use Rattle.input.specs.meaning.Report.{report}
 use Rattle.input.specs.meaning.Name.{fullName, nodeNameSpan}
 use Rattle.input.specs.meaning.Phandle.{lowerPhandle}
-use Rattle.items.specs.meaning.Lower.{Place, at, aside, discarded, nowhere, Placed, byTarget, placedAs, byName, placeOf, opened}
-use Rattle.input.specs.meaning.GoodName.{goodNamesIn}
+use Rattle.items.specs.meaning.Lower.{at, nowhere, Placed, byTarget, placedAs, byName, placeOf, opened}
 use Rattle.resolving.specs.machine.Lowers.{Lowers}
 use Rattle.input.specs.machine.NameRead.{isThere}
 use Rattle.items.specs.machine.Opened.{OpensAt}
@@ -33,7 +31,6 @@ use Rattle.items.specs.declared.open_node.Opened.{Opened}
 use Rattle.items.specs.declared.dt_node.NodePlace.{NodePlace}
 use Rattle.items.specs.declared.dt_node.NodePlace.the-variants as N
 use Rattle.items.specs.declared.dt_node.PlacedNode.{PlacedNode}
-use Rattle.input.proofs.GoodNames.{never, full-plain}
 use Rattle.items.proofs.Reported.{emit-none, emit-then}
 
 -- the same place, with what was reported before

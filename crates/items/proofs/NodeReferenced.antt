@@ -1,9 +1,9 @@
 -- Where a node goes by its reference: to the path that it leads to, or aside.
 use Prim.Native.Nat.{ℕ}
 use mathlib.Core.Path.{_≡_, refl, sym, ap, subst, _∙_}
-use mathlib.Core.Bool.{Bool, true, false, cond}
-use mathlib.Core.List.{List, [], _∷_}
-use mathlib.Core.Option.{Option, some, none}
+use mathlib.Core.Bool.{Bool, true, false}
+use mathlib.Core.List.{List, []}
+use mathlib.Core.Option.{some, none}
 use native.Mathlib.Omega.{arith}
 use Rattle.paths_numbers.specs.meaning.Path.{joined}
 use Rattle.paths_numbers.specs.meaning.Reference.{Target}
@@ -23,17 +23,18 @@ use Rattle.making.specs.meaning.State.{State, define, emit}
 use Rattle.making.specs.machine.Represents.{Context, withPlace, Represents, Steps}
 use Rattle.making.proofs.InHand.{represents-defs, represents-bindings, binding-path}
 use Rattle.queries.specs.meaning.Kind.{setsOverlay}
-use Rattle.input.specs.meaning.Tree.{Tree, Trees, spanOf, has, omitKind}
+use Rattle.input.specs.meaning.Tree.{Tree, Trees, has, omitKind}
 use Rattle.input.specs.meaning.Report.{Got}
 use Rattle.input.specs.meaning.Name.{nodeNameSpan}
 use Rattle.input.specs.meaning.Phandle.{lowerPhandle}
 use Rattle.resolving.specs.meaning.Resolve.{Resolution, reaches, missing, resolve}
-use Rattle.items.specs.meaning.Lower.{Place, at, aside, nowhere, Placed, byResolution, byTarget, opened}
-use Rattle.input.specs.meaning.Input.{spanAt, recordAt}
+use Rattle.items.specs.meaning.Lower.{at, Placed, byResolution, byTarget, opened}
+use Rattle.input.specs.meaning.Input.{spanAt}
+use Rattle.input.specs.machine.At.{recordAt}
 use Rattle.resolving.specs.machine.Lowers.{Lowers}
-use Rattle.input.specs.machine.PhandleRead.{labelAt, pathAt, phandleRead}
+use Rattle.input.specs.machine.PhandleRead.{labelAt, pathAt}
 use Rattle.resolving.specs.machine.Leading.{resolution, Leads, ReportsMissing}
-use Rattle.items.specs.machine.Opened.{bareNode, Opens}
+use Rattle.items.specs.machine.Opened.{Opens}
 use Rattle.items.specs.machine.NodePlaced.{PlacesIn, DefinesLeading, leadsOn}
 use Rattle.resolving.specs.declared.resolve.Resolved.{Resolved}
 use Rattle.resolving.specs.declared.resolve.Resolved.the-variants as R

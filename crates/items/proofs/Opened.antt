@@ -1,6 +1,6 @@
 -- A node's definition with its labels, from the definition made first and the labels added.
-use Prim.Native.Nat.{ℕ, _+_}
-use mathlib.Core.Path.{_≡_, refl, sym, ap, subst, _∙_}
+use Prim.Native.Nat.{ℕ}
+use mathlib.Core.Path.{_≡_, refl, sym, ap, subst}
 use mathlib.Core.Bool.{Bool, true, false}
 use mathlib.Core.List.{List, [], _∷_, _++_}
 use native.Mathlib.Omega.{arith}
@@ -20,14 +20,13 @@ use Rattle.log.specs.machine.Parts.{meant}
 use Rattle.making.specs.machine.Represents.{Context, withPlace, Represents, Steps, Newest}
 use Rattle.making.proofs.InHand.{place-reads}
 use Rattle.input.specs.meaning.Tree.{Trees, has, omitKind}
-use Rattle.input.specs.meaning.Report.{Made}
 use Rattle.input.specs.meaning.Name.{nodeNameSpan, labelsOf}
-use Rattle.items.specs.meaning.Lower.{labelTexts, nodeDef, opened}
+use Rattle.items.specs.meaning.Lower.{labelTexts, opened}
 use Rattle.items.specs.machine.Labelled.{withLabels, labelledBy, LabelsAt}
 use Rattle.items.specs.machine.Opened.{bareNode, Opens, OpensAt}
 use Rattle.items.specs.declared.open_node.Opened.{Opened}
 use Rattle.items.proofs.Labelled.{same-state}
-use Rattle.resolving.proofs.Lowers.{Grows, define-grows, stays-over}
+use Rattle.resolving.proofs.Lowers.{define-grows, stays-over}
 use Rattle.items.proofs.Short.{short-anywhere}
 
 -- the last of a list that ends so

@@ -1,7 +1,7 @@
 -- The removal of bindings along their chain: each turn, and its start and end.
 use Prim.Native.Nat.{ℕ, zero, suc, _+_, _-_, _≤_, _<_}
 use mathlib.Core.Path.{_≡_, refl, sym, ap, subst, _∙_}
-use mathlib.Core.Bool.{Bool, true, false, cond}
+use mathlib.Core.Bool.{Bool, true, false}
 use mathlib.Core.List.{List, [], _∷_, _++_, map, append-assoc, append-nil, map-append}
 use native.Mathlib.Omega.{arith}
 use borrow.Author.Tests.{eqb-true}
@@ -10,7 +10,7 @@ use lib.ListN.{length, take, length-append, length-map}
 use lib.Seq.{append-snoc, take-all}
 use Rattle.paths_numbers.specs.meaning.Text.{same}
 use Rattle.paths_numbers.specs.meaning.Path.{joined, root}
-use Rattle.paths_numbers.proofs.Texts.{by-test, not-both, both}
+use Rattle.paths_numbers.proofs.Texts.{by-test, not-both}
 use Rattle.making.specs.declared.ctx.LowerCtx.{LowerCtx}
 use Rattle.log.specs.meaning.Contents.{Def, Binding}
 use Rattle.log.specs.meaning.Record.{oneOf, nextOf, firstText, secondText, leads, logCount}
@@ -19,7 +19,7 @@ use Rattle.making.specs.declared.place.PathAt.{PathAt}
 use Rattle.making.specs.machine.PathPlaces.{pathOf, stands, settled, pathIn}
 use Rattle.making.specs.meaning.State.{State}
 use Rattle.making.specs.machine.Adding.{removeAt, unbindAt}
-use Rattle.making.specs.machine.Represents.{Context, withPlace, Represents, lastNumber, Unlinks}
+use Rattle.making.specs.machine.Represents.{Context, Represents, lastNumber, Unlinks}
 use Rattle.making.proofs.InHand.{represents-defs, represents-bindings, place-reads}
 use Rattle.paths_numbers.specs.meaning.Lists.{any}
 use Rattle.queries.specs.meaning.Live.{live}
@@ -28,7 +28,7 @@ use Rattle.queries.specs.machine.Pass.{goesOn}
 use Rattle.queries.proofs.Chain.{goes, stops, goes-left}
 use Rattle.items.specs.meaning.Unbind.{bindsLabelOf, without, unbind}
 use Rattle.items.specs.machine.Unbinding.{baseOf, goesWith, passesAt, withBinds, Passes, takes, leaves, Stays, passed, ahead, BaseAt}
-use Rattle.items.specs.machine.Unbinding.{at-named, at-given, at-bound, at-below, Walk, Unbinds}
+use Rattle.items.specs.machine.Unbinding.{at-named, at-given, at-bound, at-below, Walk}
 use Rattle.items.specs.declared.unbind.Base.{Base}
 use Rattle.items.specs.declared.unbind.Base.the-variants.{Named, Given, Bound, BoundPath}
 use Rattle.resolving.proofs.Leading.{last-snoc, any-append}

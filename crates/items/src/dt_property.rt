@@ -5,13 +5,14 @@ ghost use mathlib.Core.Path.{_≡_};
 ghost use mathlib.Core.Bool.{true, cond};
 ghost use mathlib.Core.List.{[]};
 ghost use Rattle.paths_numbers.specs.meaning.Cell.{bitsOf};
-ghost use Rattle.paths_numbers.specs.declared.dt_property.SizeRead.the-variants.{Size};
+ghost use Rattle.paths_numbers.specs.meaning.Reading as R;
 ghost use Rattle.log.specs.meaning.Contents.{number, reference, cellList};
 ghost use Rattle.making.specs.meaning.State.{define};
 ghost use Rattle.input.specs.meaning.Report.{one};
 ghost use Rattle.input.specs.meaning.Property.{lowerCell, lowerCells, sizedList, lowerValue, lowerValues};
 ghost use Rattle.items.specs.meaning.Lower.{lowerProperty};
-ghost use Rattle.input.specs.meaning.Input.{childAt, spanAt, chainAt, recordAt, partsAt, contentsAt};
+ghost use Rattle.input.specs.meaning.Input.{childAt, spanAt, chainAt, partsAt};
+ghost use Rattle.input.specs.machine.At.{recordAt, contentsAt};
 ghost use Rattle.input.specs.meaning.GoodName.{goodNamesIn};
 ghost use Rattle.input.specs.machine.Linked.{Linked, At, RecordIn, ChainIn};
 ghost use Rattle.input.specs.machine.ValueRead.{plainMade};
@@ -235,7 +236,7 @@ fn lower_cell_list(
     requires { ⌜ Linked (now words) ⌝ }
     requires { ⌜ RecordIn (now words) (now text) r nesting ⌝ }
     ensures { λ d. ⌜ FillsProperty keep ctx d (now (out .entry)) (now (bytes .entry)) (now (out .exit)) (now (bytes .exit))
-        (sizedList (spanAt (now (words .entry)) r) (partsAt (now (words .entry)) (now (text .entry)) r) (Size size)) ⌝ }
+        (sizedList (spanAt (now (words .entry)) r) (partsAt (now (words .entry)) (now (text .entry)) r) (R.value size)) ⌝ }
 {
     let made = push_cell_list(size, keep, out, bytes, ctx);
     lower_cells(

@@ -9,7 +9,8 @@ use Rattle.making.specs.meaning.State.{State}
 use Rattle.log.specs.meaning.Answer.{Answered}
 use Rattle.lowering.specs.meaning.Lowered.{fitsIn, meaning, Lowered, turnedDown, short, done}
 use Rattle.input.proofs.Refusals.{refusal-number}
-use Rattle.listing.specs.meaning.Program.{outLength, bytesLength, answerText, listed}
+use Rattle.listing.specs.meaning.Program.{outLength, bytesLength, listed}
+use Rattle.listing.specs.machine.Page.{answerText}
 
 -- whether a log fits goes by the lengths of its buffers
 fits-by-lengths : (s : State) (o p b d : List ℕ) → length o ≡ length p → length b ≡ length d → fitsIn s o b ≡ fitsIn s p d

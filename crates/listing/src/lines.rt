@@ -2,8 +2,7 @@
 ghost use Prim.Native.Nat.{ℕ};
 ghost use mathlib.Core.Path.{_≡_};
 ghost use mathlib.Core.List.{List, flatMap};
-ghost use Rattle.log.specs.machine.Parts.{meant};
-ghost use Rattle.log.specs.meaning.ReadBack.{spanAt, nameSpanAt, readLabels, defValueAt, defAt, bindingAt, diagAt};
+ghost use Rattle.log.specs.meaning.ReadBack.{readLabels, defValueAt, defAt, bindingAt, diagAt};
 ghost use Rattle.listing.specs.meaning.Listing.{letter, pathField, definitionLine, labelLine, definitionLines, bindingLine};
 ghost use Rattle.listing.specs.meaning.Listing.{diagnosticLine, refusalLine};
 ghost use Rattle.listing.specs.machine.Page.{Puts};

@@ -4,7 +4,7 @@ ghost use Rattle.log.specs.meaning.ReadBack.{readLog};
 ghost use Rattle.listing.specs.meaning.Listing.{listing, refusalLine};
 ghost use Rattle.listing.specs.machine.Page.{pageAt, Puts, filled};
 ghost use Rattle.listing.specs.machine.Chains.{chainLines};
-ghost use Rattle.listing.specs.meaning.Program.{answerText};
+ghost use Rattle.listing.specs.machine.Page.{answerText};
 use crate::lines::put_record;
 use crate::lines::put_refusal;
 use crate::page::put_text;

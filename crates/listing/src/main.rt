@@ -13,6 +13,7 @@ mod listing;
 mod page;
 mod reading;
 
+use input::layout::RECORD_WORDS;
 use input::limits::MOST_RECORDS;
 use input::limits::MOST_TEXT;
 use listing::list_answer;
@@ -21,7 +22,6 @@ use log::answer::REFUSED_SIZE;
 use log::layout;
 use lowering::lower::lower;
 use reading::RECORD_BYTES;
-use reading::RECORD_WORDS;
 use reading::WORD_BYTES;
 use reading::read_words;
 use reading::word_at;

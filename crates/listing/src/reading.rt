@@ -4,11 +4,10 @@ ghost use mathlib.Core.Path.{_≡_};
 ghost use lib.ListN.{length, drop};
 ghost use Rattle.paths_numbers.specs.meaning.Text.{written};
 ghost use Rattle.listing.specs.meaning.Program.{wordBytes, wordOf, wordsOf};
+use input::layout::RECORD_WORDS;
 
-// The bytes of a word, the words and the bytes of a record.
+// The bytes of a word and of a record.
 pub const WORD_BYTES: usize = 4;
-
-pub const RECORD_WORDS: usize = 8;
 
 pub const RECORD_BYTES: usize = RECORD_WORDS * WORD_BYTES;
 

@@ -1,5 +1,4 @@
 -- What row 8 says first, and what is answered after it.
-use Prim.Native.Nat.{ℕ}
 use mathlib.Core.Path.{_≡_, refl, ap}
 use native.Mathlib.Omega.{arith}
 use Rattle.log.specs.meaning.Sound.{Soundness, sound, broken}

@@ -28,9 +28,9 @@ pub const NAME_START: u32 = 11;
 pub const NAME_END: u32 = 12;
 
 // The links by which a record is put into a chain, as places in its words.
-pub const NEXT_AT: usize = 1;
+pub const NEXT_AT: usize = NEXT as usize;
 
-pub const CHILD_AT: usize = 6;
+pub const CHILD_AT: usize = CHILD as usize;
 
 // The words of record 0.
 pub const RECORDS_USED: u32 = 0;

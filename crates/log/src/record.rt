@@ -1,7 +1,6 @@
 // Output records read. Every function answers for any words and bytes: what lies outside reads as 0,
 // and a text ends where the bytes do.
 ghost use mathlib.Core.Path.{_≡_};
-ghost use lib.ListN.{take, drop};
 ghost use Rattle.log.specs.meaning.Record.{outField, kindOf, nextOf, childOf, logCount, leads, textIn, firstText, secondText};
 use crate::layout;
 use crate::limits::MOST_RECORDS;

@@ -1,26 +1,24 @@
 -- Lowering never makes less: the counts of records and bytes made do not fall, whatever is lowered.
-use Prim.Native.Nat.{ℕ, _+_, _≤_}
+use Prim.Native.Nat.{ℕ, _≤_}
 use mathlib.Core.Bool.{Bool, true, false, cond}
-use mathlib.Core.List.{List, [], _∷_, _++_}
+use mathlib.Core.List.{List}
 use mathlib.Core.Option.{Option, some, none}
 use native.Mathlib.Omega.{arith}
 use lib.Dec.{eqb}
 use Rattle.paths_numbers.specs.meaning.Text.{isEmpty}
 use Rattle.paths_numbers.specs.meaning.Path.{root, join}
 use Rattle.paths_numbers.specs.meaning.Reference.{Target}
-use Rattle.log.specs.meaning.Contents.{Span, deletedProperty, version, plugin, Ext, Diag}
-use Rattle.making.specs.meaning.State.{State, define, bind, emit, apart, dropped, extended}
+use Rattle.log.specs.meaning.Contents.{Span, Ext, Diag}
+use Rattle.making.specs.meaning.State.{State, define, emit, apart, dropped, extended}
 use Rattle.queries.specs.meaning.Kind.{setsOverlay}
 use Rattle.input.specs.meaning.Tree.{Tree, Trees, tree, empty, more, firstOf, nodeKind, propertyKind, directiveKind, preprocessorKind}
 use Rattle.input.specs.meaning.Tree.{nameKind, referenceKind}
-use Rattle.input.specs.meaning.Report.{Got, report}
 use Rattle.input.specs.meaning.Name.{fullName, labelsOf}
 use Rattle.input.specs.meaning.Phandle.{lowerPhandle}
-use Rattle.resolving.specs.meaning.Resolve.{Resolution, reaches, missing, resolve, unresolved}
-use Rattle.input.specs.meaning.Property.{lowerValues}
+use Rattle.resolving.specs.meaning.Resolve.{Resolution, reaches, missing, resolve}
 use Rattle.items.specs.meaning.Unbind.{unbind}
-use Rattle.items.specs.meaning.Lower.{Place, at, aside, discarded, nowhere, placeOf, nodeDef, opened, settled, lowerPlaced, lowerNode}
-use Rattle.items.specs.meaning.Lower.{namedProperty, lowerProperty, bare, deleteNode, deleteResolved, deleteTarget, deleteReferenced}
+use Rattle.items.specs.meaning.Lower.{Place, at, aside, discarded, nowhere, placeOf, nodeDef, opened, lowerPlaced, lowerNode}
+use Rattle.items.specs.meaning.Lower.{namedProperty, lowerProperty, deleteNode, deleteResolved, deleteTarget, deleteReferenced}
 use Rattle.items.specs.meaning.Lower.{deleteNamed, lowerDeleteNode, deletePropertyNamed, lowerDirective, lowerAs, lowerItem, lowerItems}
 use Rattle.resolving.proofs.Lowers.{Grows, define-grows, bind-grows, emit-grows}
 

@@ -5,18 +5,16 @@ use mathlib.Core.Bool.{Bool, true, cond}
 use mathlib.Core.List.{List, [], _∷_}
 use lib.Dec.{eqb}
 use lib.IntN.{ℤ}
-use Rattle.paths_numbers.specs.meaning.Number.{signedNumber, intCode}
+use Rattle.paths_numbers.specs.meaning.Reading.{Reading, noCode}
+use Rattle.paths_numbers.specs.meaning.Reading as R
+use Rattle.paths_numbers.specs.meaning.Number.{signedNumber}
 use Rattle.paths_numbers.specs.meaning.Expression.{evalPrefix, evalInfix, isTrue, ofTruth}
-use Rattle.paths_numbers.specs.declared.expr_eval.ParsedI64.{ParsedI64}
-use Rattle.paths_numbers.specs.declared.expr_eval.ParsedI64.the-variants as I
-use Rattle.paths_numbers.specs.declared.operators.Evaluated.{Evaluated}
-use Rattle.paths_numbers.specs.declared.operators.Evaluated.the-variants.{Value, Outside, ZeroDivisor, ShiftAmount, Missing}
 use Rattle.paths_numbers.proofs.Texts.{cond-in}
 use Rattle.log.specs.meaning.Contents.{Span}
 use Rattle.log.specs.machine.Good.{all, inOrder, goodDiag}
 use Rattle.input.specs.meaning.Tree.{Tree, Trees, tree, empty, more, macroKind, numberKind, characterKind, prefixKind, parenthesisKind}
 use Rattle.input.specs.meaning.Tree.{infixKind}
-use Rattle.input.specs.meaning.Expr.{Outcome, value, fails, evaluated, literal, withValue, firstOperand, applied, infixOf, prefixOf}
+use Rattle.input.specs.meaning.Expr.{Outcome, value, fails, evaluated, withValue, firstOperand, applied, infixOf, prefixOf}
 use Rattle.input.specs.meaning.Expr.{combined, eval, evals}
 use Rattle.lowering.proofs.GoodLists.{all-first, all-rest}
 use Rattle.lowering.proofs.GoodReports.{no-reports, good-report}
@@ -33,16 +31,9 @@ GoodOutcome o = goodOutcome o ≡ true
 missing-good : GoodOutcome (fails [])
 missing-good = no-reports
 
-evaluated-good : (span : Span) → inOrder span ≡ true → (e : Evaluated) → GoodOutcome (evaluated span e)
-evaluated-good span g (Value z) = refl
-evaluated-good span g Outside = good-report 24 [] span g
-evaluated-good span g ZeroDivisor = good-report 25 [] span g
-evaluated-good span g ShiftAmount = good-report 26 [] span g
-evaluated-good span g Missing = missing-good
-
-literal-good : (span : Span) → inOrder span ≡ true → (p : ParsedI64) → GoodOutcome (literal span p)
-literal-good span g (I.Value z) = refl
-literal-good span g (I.Failed e) = good-report (intCode e) [] span g
+evaluated-good : (span : Span) → inOrder span ≡ true → (e : Reading ℤ) → GoodOutcome (evaluated span e)
+evaluated-good span g (R.value z) = refl
+evaluated-good span g (R.fails code) = cond-in GoodOutcome (eqb code noCode) missing-good (good-report code [] span g)
 
 with-good : (x : Outcome) (f : ℤ → Outcome) → GoodOutcome x → ((z : ℤ) → GoodOutcome (f z)) → GoodOutcome (withValue x f)
 with-good (value z) f g h = h z
@@ -93,7 +84,7 @@ combined-good : (k : ℕ) (text : List ℕ) (w : ℕ) (span : Span) (l : List Ou
     → GoodOutcome (combined k text w span l)
 combined-good k text w span l g h =
     cond-in GoodOutcome (eqb k macroKind) (good-report 10 text span g)
-    (cond-in GoodOutcome (eqb k numberKind) (literal-good span g (signedNumber text))
+    (cond-in GoodOutcome (eqb k numberKind) (evaluated-good span g (signedNumber text))
     (cond-in GoodOutcome (eqb k characterKind) refl
     (cond-in GoodOutcome (eqb k prefixKind) (prefix-good w span g l h)
     (cond-in GoodOutcome (eqb k parenthesisKind) (first-good l h)

@@ -6,18 +6,12 @@ use mathlib.Core.List.{List, []}
 use mathlib.Core.Option.{Option, some, none}
 use lib.Dec.{eqb}
 use Rattle.paths_numbers.specs.meaning.Reference.{Target}
-use Rattle.paths_numbers.specs.meaning.Number.{unsignedNumber, intCode}
-use Rattle.paths_numbers.specs.meaning.Cell.{bitsOf, largest, sizeOf, sizeCode, exprCell, charCell, cellCode}
-use Rattle.paths_numbers.specs.meaning.Bytestring.{countOf, countCode}
-use Rattle.paths_numbers.specs.declared.expr_eval.ParsedInt.{ParsedInt}
-use Rattle.paths_numbers.specs.declared.expr_eval.ParsedInt.the-variants as U
+use Rattle.paths_numbers.specs.meaning.Reading.{Reading}
+use Rattle.paths_numbers.specs.meaning.Reading as R
+use Rattle.paths_numbers.specs.meaning.Number.{unsignedNumber}
+use Rattle.paths_numbers.specs.meaning.Cell.{bitsOf, largest, sizeOf, exprCell, charCell}
+use Rattle.paths_numbers.specs.meaning.Bytestring.{countOf}
 use Rattle.paths_numbers.specs.declared.dt_property.BitsSize.{BitsSize}
-use Rattle.paths_numbers.specs.declared.dt_property.SizeRead.{SizeRead}
-use Rattle.paths_numbers.specs.declared.dt_property.SizeRead.the-variants.{Size, Unsupported, Failed}
-use Rattle.paths_numbers.specs.declared.dt_property.Cell.the-variants as C
-use Rattle.paths_numbers.specs.declared.dt_property.Cell.{Cell as Fitted}
-use Rattle.paths_numbers.specs.declared.dt_property.ByteCount.{ByteCount}
-use Rattle.paths_numbers.specs.declared.dt_property.ByteCount.the-variants as B
 use Rattle.paths_numbers.proofs.Texts.{cond-in}
 use Rattle.log.specs.meaning.Contents.{Span}
 use Rattle.log.specs.machine.Good.{inOrder, goodDiag}
@@ -27,7 +21,7 @@ use Rattle.input.specs.meaning.Tree.{expressionKind}
 use Rattle.input.specs.meaning.Report.{Got, Made}
 use Rattle.input.specs.meaning.Phandle.{lowerPhandle}
 use Rattle.input.specs.meaning.Expr.{Outcome, value, fails, evals, firstOperand}
-use Rattle.input.specs.meaning.Property.{numberCell, fittedCell, outcomeCell, referenceCell, lowerCell, lowerCells, sizedList, countedBytes}
+use Rattle.input.specs.meaning.Property.{numberCell, outcomeCell, referenceCell, lowerCell, lowerCells, sizedList, countedBytes}
 use Rattle.input.specs.meaning.Property.{referenceValue, lowerValue, lowerValues}
 use Rattle.lowering.proofs.GoodLists.{all-append}
 use Rattle.lowering.proofs.GoodReports.{GoodDiags, no-reports, good-report, phandle-reports}
@@ -39,17 +33,12 @@ abbrev GoodMade : {A : Type 0} → Made A → Type 0
 GoodMade m = GoodDiags (m .reports)
 
 -- cells
-number-good : (span : Span) → inOrder span ≡ true → (p : ParsedInt) → GoodMade (numberCell span p)
-number-good span g (U.Value n) = no-reports
-number-good span g (U.Failed e) = good-report (intCode e) [] span g
-
-fitted-good : (span : Span) → inOrder span ≡ true → (c : Fitted) → GoodMade (fittedCell span c)
-fitted-good span g (C.Number n) = no-reports
-fitted-good span g C.CharTooLarge = good-report (cellCode C.CharTooLarge) [] span g
-fitted-good span g C.ExprOutside = good-report (cellCode C.ExprOutside) [] span g
+number-good : (span : Span) → inOrder span ≡ true → (p : Reading ℕ) → GoodMade (numberCell span p)
+number-good span g (R.value n) = no-reports
+number-good span g (R.fails code) = good-report code [] span g
 
 outcome-good : (size : BitsSize) (span : Span) → inOrder span ≡ true → (o : Outcome) → GoodOutcome o → GoodMade (outcomeCell size span o)
-outcome-good size span g (value z) h = fitted-good span g (exprCell (bitsOf size) z)
+outcome-good size span g (value z) h = number-good span g (exprCell (bitsOf size) z)
 outcome-good size span g (fails ds) h = h
 
 referred-good : (size : BitsSize) (span : Span) → inOrder span ≡ true → (g : Got Target) → GoodDiags (g .reports)
@@ -65,7 +54,7 @@ unfolding lowerCell
 cell-good size t g =
     let e = own-span t g in
     cond-in GoodMade (eqb (kindOf t) numberKind) (number-good (spanOf t) e (unsignedNumber (largest size) (textOf t)))
-    (cond-in GoodMade (eqb (kindOf t) characterKind) (fitted-good (spanOf t) e (charCell (bitsOf size) (wOf t)))
+    (cond-in GoodMade (eqb (kindOf t) characterKind) (number-good (spanOf t) e (charCell (bitsOf size) (wOf t)))
     (cond-in GoodMade (eqb (kindOf t) expressionKind)
     (outcome-good size (spanOf t) e (firstOperand (evals (childrenOf t)))
     (first-good (evals (childrenOf t)) (evals-good (childrenOf t) (child-spans t g))))
@@ -83,14 +72,14 @@ cells-good size (more t ts) g =
     all-append goodDiag (lowerCell size t .reports) (lowerCells size ts .reports) (cell-good size t (h .0)) (cells-good size ts (h .1))
 
 -- values
-sized-good : (span : Span) (cells : Trees) → inOrder span ≡ true → spansIn cells ≡ true → (r : SizeRead) → GoodMade (sizedList span cells r)
-sized-good span cells e g (Size s) = cells-good s cells g
-sized-good span cells e g Unsupported = good-report (sizeCode Unsupported) [] span e
-sized-good span cells e g (Failed c) = good-report (intCode c) [] span e
+sized-good : (span : Span) (cells : Trees) → inOrder span ≡ true → spansIn cells ≡ true → (r : Reading BitsSize)
+    → GoodMade (sizedList span cells r)
+sized-good span cells e g (R.value s) = cells-good s cells g
+sized-good span cells e g (R.fails code) = good-report code [] span e
 
-counted-good : (span : Span) (text : List ℕ) → inOrder span ≡ true → (n : ByteCount) → GoodMade (countedBytes span text n)
-counted-good span text e (B.Bytes n) = no-reports
-counted-good span text e B.MissingDigit = good-report (countCode B.MissingDigit) [] span e
+counted-good : (span : Span) (text : List ℕ) → inOrder span ≡ true → (n : Reading ℕ) → GoodMade (countedBytes span text n)
+counted-good span text e (R.value n) = no-reports
+counted-good span text e (R.fails code) = good-report code [] span e
 
 target-good : (g : Got Target) → GoodDiags (g .reports) → GoodMade (referenceValue g)
 target-good g h = go (g .result)

@@ -1,24 +1,25 @@
 -- Items of a chain lowered one after the other, and one item by its kind.
-use Prim.Native.Nat.{ℕ, _≤_, _<_}
+use Prim.Native.Nat.{ℕ}
 use mathlib.Core.Path.{_≡_, refl, sym, ap, subst, _∙_}
-use mathlib.Core.Bool.{Bool, true, false, cond}
+use mathlib.Core.Bool.{true}
 use mathlib.Core.List.{List, [], _∷_}
 use borrow.Author.Tests.{eq-eqb, ne-eqb}
 use Rattle.paths_numbers.proofs.Texts.{both}
 use Rattle.making.specs.declared.ctx.LowerCtx.{LowerCtx}
 use Rattle.making.specs.declared.place.PathAt.{PathAt}
 use Rattle.making.specs.meaning.State.{State, emit}
-use Rattle.making.specs.machine.Represents.{Context, withPlace, Represents}
-use Rattle.input.specs.meaning.Tree.{Tree, Trees, tree, empty, more, nodeKind, propertyKind, directiveKind, preprocessorKind}
+use Rattle.making.specs.machine.Represents.{withPlace, Represents}
+use Rattle.input.specs.meaning.Tree.{Trees, more, nodeKind, propertyKind, directiveKind, preprocessorKind}
 use Rattle.input.specs.meaning.Report.{report}
 use Rattle.items.specs.meaning.Lower.{lowerNode, lowerProperty, lowerDirective, lowerItem, lowerItems}
-use Rattle.input.specs.meaning.Input.{recordCount, kindAt, nextAt, childAt, secondAt, numberAt, spanAt, chainAt, recordAt}
+use Rattle.input.specs.meaning.Input.{kindAt, nextAt, childAt, secondAt, numberAt, spanAt, chainAt}
+use Rattle.input.specs.machine.At.{recordAt}
 use Rattle.input.specs.meaning.GoodName.{goodNames, goodNamesIn}
-use Rattle.input.specs.machine.Linked.{Linked, RecordIn, ChainIn}
+use Rattle.input.specs.machine.Linked.{Linked, ChainIn}
 use Rattle.resolving.specs.machine.Lowers.{Lowers, LowersAt}
 use Rattle.input.proofs.GoodNames.{good-parts, good-second}
 use Rattle.input.proofs.Input.{chain-none, chain-more}
-use Rattle.input.proofs.Read.{chain-first, chain-next}
+use Rattle.input.proofs.Read.{chain-next}
 
 -- the items before record r are lowered: with the rest's it is what the whole chain does
 pub record ItemsTo (parent : PathAt) (c d : LowerCtx) (words bytes w b input text : List ℕ) (first nesting r : ℕ) : Type 0 where

@@ -1,26 +1,21 @@
 -- 01's worked listing meets the contract of lowering: the predicate is not empty. Its input, the log that is written for it, and number 0.
-use Prim.Native.Nat.{ℕ}
-use mathlib.Core.Bool.{true, false}
-use mathlib.Core.Path.{_≡_, refl, sym, ap, _∙_}
-use mathlib.Core.List.{List, [], _∷_}
+use mathlib.Core.Bool.{true}
+use mathlib.Core.Path.{_≡_, refl, sym}
 use Rattle.paths_numbers.specs.meaning.Text.{same, isEmpty, begins, startsWith}
 use Rattle.paths_numbers.specs.meaning.Path.{join, atOrUnder, strip}
-use Rattle.log.specs.meaning.ReadBack.{Log, readLog}
-use Rattle.log.specs.meaning.Written.{Written}
+use Rattle.log.specs.meaning.ReadBack.{readLog}
 use Rattle.log.specs.examples.RecordExample.{listing, listingBytes, listing-reads}
 use Rattle.log.proofs.WrittenExample.{listing-written}
 use Rattle.queries.specs.meaning.Kind.{setsOverlay}
 use Rattle.paths_numbers.specs.meaning.Lists.{any}
 use Rattle.queries.specs.meaning.Live.{live, isLive, gone}
-use Rattle.log.specs.meaning.Answer.{Answered}
-use Rattle.input.specs.meaning.Tree.{Trees, firstOf, has}
+use Rattle.input.specs.meaning.Tree.{firstOf, has}
 use Rattle.input.specs.meaning.Name.{nameOrMacro, fullName, nodeNameSpan, labelsOf}
-use Rattle.making.specs.meaning.State.{State, define, bind, emit, bindingsBytes, diagsBytes, textsBytes}
+use Rattle.making.specs.meaning.State.{define, bind, emit, bindingsBytes, diagsBytes, textsBytes}
 use Rattle.items.specs.meaning.Lower.{lowered, lowerItem, lowerItems, lowerNode, lowerDirective, placeOf, opened, labelTexts}
 use Rattle.post_checks.specs.meaning.Post.{postChecks, checkDirectives, directivesFrom, checkReferences, checkDefs, duplicateLabels}
 use Rattle.post_checks.specs.meaning.Post.{duplicatesOf}
-use Rattle.input.specs.meaning.Input.{description}
-use Rattle.lowering.specs.meaning.Lowered.{logOf, recordsMade, bytesMade, fitsIn, meaning, Lowered, done}
+use Rattle.lowering.specs.meaning.Lowered.{logOf, recordsMade, bytesMade, fitsIn, Lowered, done}
 use Rattle.lowering.specs.examples.Example.{items}
 use Rattle.lowering.specs.examples.InputExample.{listingWords, listingText, listing-accepted, listing-read}
 

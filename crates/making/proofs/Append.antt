@@ -1,16 +1,16 @@
 -- A record made at the end of the log: the words of the others stay, but for the one link that leads to it.
-use Prim.Native.Nat.{ℕ, zero, suc, _+_, _*_, _-_, _≤_, _<_}
+use Prim.Native.Nat.{ℕ, suc, _+_, _*_, _-_, _≤_, _<_}
 use mathlib.Core.Path.{_≡_, refl, sym, ap, _∙_}
-use mathlib.Core.Bool.{Bool, true, false, cond}
+use mathlib.Core.Bool.{true, false, cond}
 use mathlib.Core.List.{List, [], _∷_, _++_, append-assoc, append-nil}
 use native.Mathlib.Nat.{zero-add, suc-add}
 use native.Mathlib.Omega.{arith}
 use borrow.Author.Tests.{eq-eqb, ne-eqb, eqb-true, eqb-false}
 use lib.Dec.{eqb}
-use lib.ListN.{length, set, replicate, length-append}
+use lib.ListN.{length, set}
 use lib.Seq.{set-append-left}
-use Rattle.paths_numbers.proofs.Texts.{by-test, not-both, both}
-use Rattle.making.specs.machine.Events.{Event, childrenOf, inChain, first, last, startOf, alive16, words16, bytesIn, wordsFrom, texts}
+use Rattle.paths_numbers.proofs.Texts.{by-test, both}
+use Rattle.making.specs.machine.Events.{Event, childrenOf, inChain, first, last, words16, bytesIn, wordsFrom}
 use Rattle.making.specs.machine.Events.{endOf}
 
 -- the first of a chain is there or is the new one

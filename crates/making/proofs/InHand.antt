@@ -19,8 +19,8 @@ use Rattle.making.specs.machine.Events.{Event, defsOf, bindings, first, 
 use Rattle.making.specs.machine.Events.{bindingOf}
 use Rattle.making.specs.machine.Buffers.{Layout}
 use Rattle.making.specs.machine.PathPlaces.{placeLen, pathOf, stands, settled, pathIn}
-use Rattle.making.specs.machine.Represents.{Place, Context, logOf, Open, Stands, at-root, at-top, at-definition, AllStand}
-use Rattle.making.specs.machine.Represents.{more-places, Common, Represents, going, over, withPlace, Newest}
+use Rattle.making.specs.machine.Represents.{Place, Context, logOf, Open, Stands, at-root, at-top, at-definition}
+use Rattle.making.specs.machine.Represents.{more-places, Represents, going, over, withPlace, Newest}
 use Rattle.making.proofs.ReadEvents.{numbersOf}
 use Rattle.making.proofs.ReadLog.{chain-of, defs-read, bindings-read}
 use Rattle.making.proofs.Removing.{starts, end-above}

@@ -1,36 +1,35 @@
 -- A diagnostic made keeps the other records (Kept): what its words and bytes leave, and which records the chains of a log in the making
 -- have.
-use Prim.Native.Nat.{ℕ, zero, suc, _+_, _*_, _-_, _≤_, _<_}
+use Prim.Native.Nat.{ℕ, _+_, _*_, _-_, _≤_, _<_}
 use mathlib.Core.Path.{_≡_, refl, sym, ap, subst, _∙_}
-use mathlib.Core.Bool.{Bool, true, false, cond}
+use mathlib.Core.Bool.{Bool, true, false}
 use mathlib.Core.List.{List, [], _∷_, _++_}
 use native.Mathlib.Omega.{arith}
-use borrow.Author.Tests.{eq-eqb, ne-eqb, eqb-true, eqb-false}
+use borrow.Author.Tests.{eqb-true, eqb-false}
 use lib.Dec.{eqb}
-use lib.ListN.{length, getD, take, drop, set, replicate, length-append}
+use lib.ListN.{length, getD, replicate, length-append}
 use lib.Seq.{getD-set-other}
-use Rattle.paths_numbers.specs.meaning.Text.{written, isEmpty}
+use Rattle.paths_numbers.specs.meaning.Text.{written}
 use Rattle.paths_numbers.proofs.Texts.{by-test, not-both, both}
 use Rattle.paths_numbers.proofs.Written.{written-length}
 use Rattle.making.specs.declared.ctx.LowerCtx.{LowerCtx}
 use Rattle.making.specs.declared.ctx.Chain.{Chain}
 use Rattle.making.specs.declared.ctx.Rec.{Rec}
-use Rattle.making.specs.declared.place.PathAt.{PathAt}
 use Rattle.making.specs.meaning.State.{State}
 use Rattle.log.specs.meaning.Record.{outField, kindOf, childOf, textStart, textLength, secondStart, secondLength, textIn, firstText}
-use Rattle.log.specs.meaning.Record.{secondText, logCount, diagnosticKind, bindingKind, oneOf, defKinds, hasChildren, mostBytes}
+use Rattle.log.specs.meaning.Record.{secondText, logCount, diagnosticKind}
 use Rattle.log.specs.meaning.ReadBack.{chainOf}
-use Rattle.making.specs.machine.Events.{Event, defsOf, extsOf, bindings, diagnostics, postDiagnostics, childrenOf, inChain, first}
-use Rattle.making.specs.machine.Events.{last, startOf, words16, bytesIn, endOf, Numbered, members, allWords, allBytes}
+use Rattle.making.specs.machine.Events.{Event, defsOf, bindings, diagnostics, postDiagnostics, childrenOf, inChain, first}
+use Rattle.making.specs.machine.Events.{last, startOf, words16, bytesIn, members}
 use Rattle.making.specs.machine.Buffers.{Layout}
 use Rattle.making.specs.machine.PathPlaces.{pathOf, pathIn}
-use Rattle.making.specs.machine.Made.{sixteen, setLink, endLink, grown, withDiag, ranShort, oneMore, makes, counted, madeWords}
-use Rattle.making.specs.machine.Made.{madeBytes, Told, Room}
+use Rattle.making.specs.machine.Made.{sixteen, setLink, endLink, withDiag, ranShort, oneMore, makes, counted, madeWords}
+use Rattle.making.specs.machine.Made.{madeBytes, Told}
 use Rattle.making.specs.machine.Holding.{diagsOf, Runs}
 use Rattle.making.specs.machine.Represents.{Context, logOf, Each, Sort, is-def, is-ext, is-binding, is-diag, is-part, Represents}
 use Rattle.making.specs.machine.Represents.{going, over}
 use Rattle.making.specs.machine.Kept.{Still, All, all-none, all-more, Kept, Keeps}
-use Rattle.making.proofs.PathPlaces.{written-below, path-written, path-bytes}
+use Rattle.making.proofs.PathPlaces.{written-below, path-written}
 use Rattle.making.proofs.ReadEvents.{Splits, splits-here, splits-later, splits-from, field-at, numbersOf, chain-end}
 use Rattle.making.proofs.ReadLog.{first-behind}
 use Rattle.making.proofs.Layouts.{length-link, count-words, same-count}

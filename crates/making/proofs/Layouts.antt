@@ -1,13 +1,12 @@
 -- A record more: the layout is kept.
-use Prim.Native.Nat.{ℕ, zero, suc, _+_, _*_, _-_, _/_, _≤_, _<_}
+use Prim.Native.Nat.{ℕ, suc, _+_, _*_, _-_, _≤_, _<_}
 use mathlib.Core.Path.{_≡_, refl, sym, ap, _∙_}
-use mathlib.Core.Bool.{Bool, true, false, cond}
 use mathlib.Core.List.{List, [], _∷_, _++_, append-assoc, append-nil}
 use native.Mathlib.Nat.{le-div-iff-mul-le}
 use native.Mathlib.Omega.{arith}
-use borrow.Author.Tests.{eq-eqb, ne-eqb, leb-true, leb-false}
+use borrow.Author.Tests.{ne-eqb, leb-true, leb-false}
 use lib.Dec.{eqb, leb}
-use lib.ListN.{length, set, replicate, length-append, length-set, length-replicate}
+use lib.ListN.{length, replicate, length-append, length-set}
 use Rattle.paths_numbers.specs.meaning.Text.{isEmpty, written}
 use Rattle.paths_numbers.proofs.Texts.{by-test}
 use Rattle.paths_numbers.proofs.Written.{written-length}

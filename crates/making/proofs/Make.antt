@@ -1,17 +1,17 @@
 -- A record made: sixteen words written behind the others and one link set give the words of one record more.
 use Prim.Native.Nat.{ℕ, zero, suc, _+_, _*_, _-_, _≤_, _<_}
 use mathlib.Core.Path.{_≡_, refl, sym, ap, _∙_}
-use mathlib.Core.Bool.{Bool, true, false, cond}
-use mathlib.Core.List.{List, [], _∷_, _++_, append-assoc, append-nil}
+use mathlib.Core.Bool.{true, false}
+use mathlib.Core.List.{List, [], _∷_, _++_, append-assoc}
 use native.Mathlib.Omega.{arith}
-use borrow.Author.Tests.{eq-eqb, ne-eqb}
+use borrow.Author.Tests.{ne-eqb}
 use lib.Dec.{eqb}
-use lib.ListN.{length, set, take, drop, replicate, length-append, length-replicate, replicate-append-replicate}
-use lib.Seq.{set-append-left, take-append-seam, drop-append-add, drop-length}
+use lib.ListN.{length, set, drop, replicate, length-append}
+use lib.Seq.{set-append-left, take-append-seam, drop-append-add}
 use Rattle.paths_numbers.specs.meaning.Text.{written}
-use Rattle.making.specs.machine.Events.{Event, childrenOf, last, words16, bytesIn, wordsFrom, texts, endOf, allWords, allBytes}
+use Rattle.making.specs.machine.Events.{Event, last, words16, bytesIn, wordsFrom, endOf, allWords}
 use Rattle.making.specs.machine.Made.{setLink}
-use Rattle.making.proofs.Append.{length-words, Safe, Owner, linked, linked-none, linked-some, last-to, words-append}
+use Rattle.making.proofs.Append.{length-words, Safe, Owner, linked-none, linked-some, last-to, words-append}
 use Rattle.making.proofs.Append.{words-first-child, set-append-add}
 
 -- so many zeros

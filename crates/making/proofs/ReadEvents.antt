@@ -1,20 +1,20 @@
 -- The words and bytes of the records made read back as these records: each word, each text, and each chain.
 use Prim.Native.Nat.{ℕ, zero, suc, _+_, _*_, _-_, _≤_, _<_}
 use mathlib.Core.Path.{_≡_, refl, sym, ap, _∙_}
-use mathlib.Core.Bool.{Bool, true, false, cond}
-use mathlib.Core.List.{List, [], _∷_, _++_, map, append-assoc, append-nil}
+use mathlib.Core.Bool.{true, cond}
+use mathlib.Core.List.{List, [], _∷_, _++_, append-assoc}
 use native.Mathlib.Omega.{arith}
-use borrow.Author.Tests.{eq-eqb, ne-eqb, eqb-true, eqb-false, lt-ltb}
-use lib.Dec.{eqb, ltb}
-use lib.ListN.{length, getD, take, drop, replicate, length-append, List·getD-append, length-replicate}
+use borrow.Author.Tests.{ne-eqb, eqb-true, lt-ltb}
+use lib.Dec.{eqb}
+use lib.ListN.{length, getD, drop, replicate, length-append, List·getD-append, length-replicate}
 use lib.Seq.{getD-append-add, take-append-seam, drop-append-seam, drop-append-add, drop-drop}
 use Rattle.paths_numbers.specs.meaning.Text.{isEmpty}
-use Rattle.paths_numbers.proofs.Texts.{by-test, not-both, both}
-use Rattle.log.specs.meaning.Record.{outField, nextOf, childOf, logCount, leads, textIn}
+use Rattle.paths_numbers.proofs.Texts.{by-test, both}
+use Rattle.log.specs.meaning.Record.{outField, nextOf, logCount, leads, textIn}
 use Rattle.log.specs.meaning.ReadBack.{chainFrom}
-use Rattle.making.specs.machine.Events.{Event, childrenOf, inChain, first, startOf, words16, bytesIn, wordsFrom, texts, Numbered}
+use Rattle.making.specs.machine.Events.{Event, inChain, first, startOf, words16, bytesIn, wordsFrom, texts, Numbered}
 use Rattle.making.specs.machine.Events.{members, allWords, allBytes}
-use Rattle.making.proofs.Append.{length-words, first-there}
+use Rattle.making.proofs.Append.{length-words}
 
 -- record r of a list numbered from k on, whose texts start at `at`: it is e, its texts start at b, and es comes after it
 pub data Splits : ℕ → ℕ → List Event → ℕ → ℕ → Event → List Event → Type 0 where

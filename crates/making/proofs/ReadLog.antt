@@ -1,19 +1,17 @@
 -- The log in the making reads back as what its records say: definitions, extensions, bindings and diagnostics.
-use Prim.Native.Nat.{ℕ, zero, suc, _+_, _*_, _-_, _^_, _≤_, _<_}
+use Prim.Native.Nat.{ℕ, _+_, _≤_, _<_}
 use mathlib.Core.Path.{_≡_, refl, sym, ap, _∙_}
-use mathlib.Core.Bool.{Bool, true, false, not, cond}
-use mathlib.Core.List.{List, [], _∷_, _++_, map}
+use mathlib.Core.Bool.{true}
+use mathlib.Core.List.{List, [], _∷_, map}
 use native.Mathlib.Omega.{arith}
 use borrow.Author.Tests.{eqb-true}
-use lib.Dec.{eqb}
 use lib.ListN.{length}
-use Rattle.paths_numbers.proofs.Texts.{by-test, not-both, both}
-use Rattle.log.specs.meaning.Contents.{Cell, Value, Def, Ext, Binding, Diag}
+use Rattle.paths_numbers.proofs.Texts.{by-test, both}
 use Rattle.log.specs.meaning.Record.{kindOf, childOf, nOf, mOf, spanStart, spanEnd, nameStart, nameEnd, textStart, textLength, secondStart}
-use Rattle.log.specs.meaning.Record.{secondLength, firstText, secondText, logCount, leads}
+use Rattle.log.specs.meaning.Record.{secondLength, firstText, secondText, logCount}
 use Rattle.log.specs.meaning.ReadBack.{chainOf, spanAt, nameSpanAt, targetAt, readLabels, cellAt, readCells, valueAt, readValues}
 use Rattle.log.specs.meaning.ReadBack.{defValueAt, defAt, readDefs, bindingAt, readBindings, diagAt, readDiags, extTarget, extAt, readExts}
-use Rattle.making.specs.machine.Events.{Event, Ordered, ordered-none, ordered-next, childrenOf, defsOf, inChain, first, words16}
+use Rattle.making.specs.machine.Events.{Event, Ordered, ordered-next, childrenOf, defsOf, inChain, first, words16}
 use Rattle.making.specs.machine.Events.{bytesIn, Numbered, members, allWords, allBytes, startOf, spanOf, nameSpanOf, targetOf, below}
 use Rattle.making.specs.machine.Events.{labelOf, cellOf, valueOf, defValueOf, defOf, defsIn, bindingOf, diagOf, targetBelow, extOf}
 use Rattle.making.proofs.ReadEvents.{Splits, splits-here, splits-later, splits-from, field-at, numbersOf, leads-there, chain-members}

@@ -1,9 +1,7 @@
 // The labels and values of the newest definition, and the cells of its last value.
 ghost use mathlib.Core.Path.{_≡_};
 ghost use Prim.Native.Nat.{_+_, _*_, _^_};
-ghost use mathlib.Core.Bool.{true, false};
 ghost use mathlib.Core.List.{[]};
-ghost use Rattle.paths_numbers.specs.meaning.Bytestring.{bytesOf, isOdd};
 ghost use Rattle.log.specs.meaning.Contents.{number, reference, string, cellList, bytestring, phandle};
 ghost use Rattle.making.specs.machine.Adding.{inNode, inProperty, inCellList, addLabel, addValue, addCell};
 ghost use Rattle.making.specs.machine.Made.{childLink, withPart, withLastCell};

@@ -1,6 +1,5 @@
 // What the records that lowering makes say beside their texts.
 ghost use mathlib.Core.Path.{_≡_};
-ghost use mathlib.Core.List.{[]};
 ghost use Rattle.making.specs.machine.Recs.{kindNumber, omitNumber, spannedRec, partRec, targetN, labelIn, pathWithin};
 use crate::ctx::Rec;
 use log::kinds::DELETED_NODE;

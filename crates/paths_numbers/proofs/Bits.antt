@@ -11,7 +11,8 @@ use mir.Val.{SFits, toZ, ofZ}
 use mir.ValLaws.{toZ-pos, toZ-neg, sfits-le}
 use Rattle.paths_numbers.proofs.Integers.{Z, read, up, below, not-below, number, negative, natural}
 use Rattle.paths_numbers.specs.meaning.Expression.{turned, shiftBy}
-use Rattle.paths_numbers.specs.declared.operators.Evaluated.the-variants.{Value, ShiftAmount}
+use Rattle.paths_numbers.specs.meaning.Code.{shiftAmount}
+use Rattle.paths_numbers.specs.meaning.Reading.{value, fails}
 
 -- the machine turns each bit
 pub read-turned : {z : ℤ} → SFits w64 z → toZ w64 (18446744073709551615 - ofZ w64 z) ≡ turned z
@@ -25,18 +26,18 @@ read-turned {z = negsuc n} f =
 -- an amount, by the machine's tests
 module _ {b : ℤ} (fb : SFits w64 b) where
   -- a negative one
-  pub shift-low : (f : ℕ → ℤ) → ltZ (Z b) (pos 0) ≡ true → ShiftAmount ≡ shiftBy f b
+  pub shift-low : (f : ℕ → ℤ) → ltZ (Z b) (pos 0) ≡ true → fails shiftAmount ≡ shiftBy f b
   shift-low f t = go b (negative fb t)
     where
-      go : (b : ℤ) → up b < 2 ^ 64 → ShiftAmount ≡ shiftBy f b
+      go : (b : ℤ) → up b < 2 ^ 64 → fails shiftAmount ≡ shiftBy f b
       go (pos n) h = absurd (omega arith)
       go (negsuc n) h = refl
 
   -- one above 63
-  pub shift-high : (f : ℕ → ℤ) → ltZ (pos 63) (Z b) ≡ true → ShiftAmount ≡ shiftBy f b
+  pub shift-high : (f : ℕ → ℤ) → ltZ (pos 63) (Z b) ≡ true → fails shiftAmount ≡ shiftBy f b
   shift-high f t = go b (below (number 63 (omega arith)) fb t)
     where
-      go : (b : ℤ) → 2 ^ 64 + 63 < up b → ShiftAmount ≡ shiftBy f b
+      go : (b : ℤ) → 2 ^ 64 + 63 < up b → fails shiftAmount ≡ shiftBy f b
       go (pos n) h = simp (le-ltb n 64 (omega arith))
       go (negsuc n) h = absurd (omega arith)
 
@@ -55,7 +56,7 @@ module _ {b : ℤ} (fb : SFits w64 b) where
     shift-fits = amount .1
 
     -- the shift gives its value
-    pub shift-is : (f : ℕ → ℤ) → Value (f (ofZ w64 b)) ≡ shiftBy f b
+    pub shift-is : (f : ℕ → ℤ) → value (f (ofZ w64 b)) ≡ shiftBy f b
     shift-is f = sym (ap (shiftBy f) (amount .0) ∙ simp (lt-ltb (ofZ w64 b) 64 (amount .1)))
 
 -- the machine's shift to the right

@@ -3,6 +3,7 @@ use Prim.Native.Nat.{ℕ, _+_, _*_, _/_, _%_, _≤_, _<_}
 use mathlib.Core.Path.{_≡_, refl, sym, _∙_}
 use mathlib.Core.Bool.{Bool, true, false, cond}
 use mathlib.Core.List.{List, [], _∷_}
+use mathlib.Core.Option.{some, none}
 use native.Mathlib.Numerals.{add-one}
 use native.Mathlib.Omega.{arith}
 use borrow.Author.Tests.{lt-ltb, le-ltb, le-leb, lt-leb, eq-eqb, ne-eqb}
@@ -11,8 +12,8 @@ use lib.ListN.{length, getD, drop, set, drop-of-length-le, length-set}
 use lib.Seq.{drop-cons}
 use Rattle.paths_numbers.specs.meaning.Byte.{digitOf, closingBracket}
 use Rattle.paths_numbers.specs.meaning.Bytestring.{nibbles, pairs, bytesOf, isOdd, countOf, bytesAnswer, bytesOut}
-use Rattle.paths_numbers.specs.declared.dt_property.ByteCount.the-variants as C
-use Rattle.paths_numbers.specs.declared.dt_property.BytesWritten.the-variants as W
+use Rattle.paths_numbers.specs.meaning.Code.{oddDigits}
+use Rattle.paths_numbers.specs.meaning.Reading.{value, fails}
 use Rattle.paths_numbers.specs.meaning.Text.{written}
 use Rattle.paths_numbers.proofs.Written.{written-cons, written-nil}
 
@@ -45,30 +46,30 @@ length-pairs (h ∷ l ∷ s) = omega (arith, length-pairs s)
 
 -- the count of a text whose digits are counted
 module _ (s : List ℕ) (n : ℕ) (e : n ≡ length (nibbles s)) where
-  pub count-odd : n % 2 ≡ 1 → C.MissingDigit ≡ countOf s
+  pub count-odd : n % 2 ≡ 1 → fails oddDigits ≡ countOf s
   unfolding countOf
   count-odd h = simp (eq-eqb (length (nibbles s) % 2) 1 (rw e at h))
 
-  pub count-even : (n % 2 ≡ 1 → ⊥) → C.Bytes (n / 2) ≡ countOf s
+  pub count-even : (n % 2 ≡ 1 → ⊥) → value (n / 2) ≡ countOf s
   unfolding countOf
   count-even h = rw e (simp (ne-eqb (length (nibbles s) % 2) 1 (rw e at h), length-pairs))
 
 -- what a count tells of the text
-pub count-missing : (s : List ℕ) → countOf s ≡ C.MissingDigit → isOdd s ≡ true
+pub count-missing : (s : List ℕ) → countOf s ≡ fails oddDigits → isOdd s ≡ true
 unfolding countOf
 count-missing s e = go (isOdd s) refl
   where
     go : (t : Bool) → isOdd s ≡ t → isOdd s ≡ true
     go true o = o
-    go false o = let f : C.Bytes (length (bytesOf s)) ≡ C.MissingDigit = rw o at e in let z : _≡_ {A = ℕ} 0 1 = cc in absurd (omega arith)
+    go false o = let f : value (length (bytesOf s)) ≡ fails oddDigits = rw o at e in let z : _≡_ {A = ℕ} 0 1 = cc in absurd (omega arith)
 
-pub count-bytes : (s : List ℕ) (n : ℕ) → countOf s ≡ C.Bytes n → (isOdd s ≡ false) × (length (bytesOf s) ≡ n)
+pub count-bytes : (s : List ℕ) (n : ℕ) → countOf s ≡ value n → (isOdd s ≡ false) × (length (bytesOf s) ≡ n)
 unfolding countOf
 count-bytes s n e = go (isOdd s) refl
   where
     go : (t : Bool) → isOdd s ≡ t → (isOdd s ≡ false) × (length (bytesOf s) ≡ n)
-    go true o = let f : C.MissingDigit ≡ C.Bytes n = rw o at e in let z : _≡_ {A = ℕ} 0 1 = cc in absurd (omega arith)
-    go false o = let f : C.Bytes (length (bytesOf s)) ≡ C.Bytes n = rw o at e in (o, cc)
+    go true o = let f : fails oddDigits ≡ value n = rw o at e in let z : _≡_ {A = ℕ} 0 1 = cc in absurd (omega arith)
+    go false o = let f : value (length (bytesOf s)) ≡ value n = rw o at e in (o, cc)
 
 -- the digits from byte i on, behind a first one that waits for its second; 16 where none waits
 unfoldable pub digitsLeft : List ℕ → ℕ → ℕ → List ℕ
@@ -126,16 +127,16 @@ pub write-end : {w l out : List ℕ} {to : ℕ} → ToWrite w l out to → pairs
 write-end {w} {l} {out} {to} t e = sym (t .whole ∙ rw e (written-nil out to))
 
 -- the answer and the buffer where a digit is missing, where the bytes fit, and where they do not
-pub lowered-missing : (s out : List ℕ) (at : ℕ) → countOf s ≡ C.MissingDigit
-    → (W.MissingDigit ≡ bytesAnswer s (length out) at) × (out ≡ bytesOut s out at)
+pub lowered-missing : (s out : List ℕ) (at : ℕ) → countOf s ≡ fails oddDigits
+    → (some (fails oddDigits) ≡ bytesAnswer s (length out) at) × (out ≡ bytesOut s out at)
 unfolding bytesAnswer bytesOut
 lowered-missing s out at e = let o = count-missing s e in (simp o, simp o)
 
-module _ (s out : List ℕ) (at n : ℕ) (e : countOf s ≡ C.Bytes n) where
-  pub lowered-room : at + n ≤ length out → (W.Bytes n ≡ bytesAnswer s (length out) at) × (written out at (bytesOf s) ≡ bytesOut s out at)
+module _ (s out : List ℕ) (at n : ℕ) (e : countOf s ≡ value n) where
+  pub lowered-room : at + n ≤ length out → (some (value n) ≡ bytesAnswer s (length out) at) × (written out at (bytesOf s) ≡ bytesOut s out at)
   unfolding bytesAnswer bytesOut
   lowered-room h = let o = count-bytes s n e in (simp (o .0, o .1, le-leb _ _ h), simp (o .0, o .1, le-leb _ _ h))
 
-  pub lowered-none : length out < at + n → (W.NoRoom ≡ bytesAnswer s (length out) at) × (out ≡ bytesOut s out at)
+  pub lowered-none : length out < at + n → (none ≡ bytesAnswer s (length out) at) × (out ≡ bytesOut s out at)
   unfolding bytesAnswer bytesOut
   lowered-none h = let o = count-bytes s n e in (simp (o .0, o .1, lt-leb _ _ h), simp (o .0, o .1, lt-leb _ _ h))

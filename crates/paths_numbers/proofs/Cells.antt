@@ -11,12 +11,10 @@ use lib.Pow.{pow-pos, pow-mono}
 use Rattle.paths_numbers.specs.meaning.Cell.{bitsOf, largest, sized, sizeOf, exprCell, charCell}
 use Rattle.paths_numbers.specs.meaning.Number.{unsignedNumber}
 use Rattle.paths_numbers.specs.meaning.Text.{isEmpty}
-use Rattle.paths_numbers.specs.declared.expr_eval.ParsedInt.{ParsedInt}
-use Rattle.paths_numbers.specs.declared.expr_eval.ParsedInt.the-variants.{Value}
+use Rattle.paths_numbers.specs.meaning.Code.{widthUnsupported, characterTooLarge, cellOutside}
+use Rattle.paths_numbers.specs.meaning.Reading.{Reading, value, fails}
 use Rattle.paths_numbers.specs.declared.dt_property.BitsSize.{BitsSize}
 use Rattle.paths_numbers.specs.declared.dt_property.BitsSize.the-variants.{Bits8, Bits16, Bits32, Bits64}
-use Rattle.paths_numbers.specs.declared.dt_property.SizeRead.the-variants.{Unsupported}
-use Rattle.paths_numbers.specs.declared.dt_property.Cell.the-variants.{Number, CharTooLarge, ExprOutside}
 
 -- no width has less than a byte's bits
 wide : (s : BitsSize) → 8 ≤ bitsOf s
@@ -34,13 +32,13 @@ pub some-room : (s : BitsSize) → 15 ≤ largest s
 some-room s = omega (arith, pow-mono (wide s))
 
 -- what a width's text names, where there is one
-pub width-read : (s : List ℕ) (p : ParsedInt) → (length s ≡ 0 → ⊥) → p ≡ unsignedNumber (largest Bits32) s → sized p ≡ sizeOf s
+pub width-read : (s : List ℕ) (p : Reading ℕ) → (length s ≡ 0 → ⊥) → p ≡ unsignedNumber (largest Bits32) s → sized p ≡ sizeOf s
 unfolding sizeOf isEmpty
 width-read [] p h e = absurd (h refl)
 width-read (b ∷ s) p h e = ap sized e
 
 -- a number that is none of the widths
-pub width-none : (n : ℕ) → (n ≡ 8 → ⊥) → (n ≡ 16 → ⊥) → (n ≡ 32 → ⊥) → (n ≡ 64 → ⊥) → Unsupported ≡ sized (Value n)
+pub width-none : (n : ℕ) → (n ≡ 8 → ⊥) → (n ≡ 16 → ⊥) → (n ≡ 32 → ⊥) → (n ≡ 64 → ⊥) → fails widthUnsupported ≡ sized (value n)
 width-none n a b c d = simp (ne-eqb _ _ a, ne-eqb _ _ b, ne-eqb _ _ c, ne-eqb _ _ d)
 
 -- a width's numbers are twice those of one bit less
@@ -56,33 +54,33 @@ module _ (bits most n : ℕ) (some : 1 ≤ bits) (e : most ≡ 2 ^ bits - 1) whe
   inside h = omega (arith, pow-pos bits)
 
   -- a character that fits, and one that is too large
-  pub char-in : n ≤ most → Number n ≡ charCell bits n
+  pub char-in : n ≤ most → value n ≡ charCell bits n
   unfolding charCell
   char-in h = simp (lt-ltb _ _ (inside h))
 
-  pub char-out : most < n → CharTooLarge ≡ charCell bits n
+  pub char-out : most < n → fails characterTooLarge ≡ charCell bits n
   unfolding charCell
   char-out h = simp (le-ltb n (2 ^ bits) (omega arith))
 
   -- a number from 0 on: kept up to most, and refused above
-  pub positive-in : n ≤ most → Number n ≡ exprCell bits (pos n)
+  pub positive-in : n ≤ most → value n ≡ exprCell bits (pos n)
   unfolding exprCell
   positive-in h = simp (lt-ltb _ _ (inside h), mod-eq-of-lt (inside h))
 
-  pub positive-out : most < n → ExprOutside ≡ exprCell bits (pos n)
+  pub positive-out : most < n → fails cellOutside ≡ exprCell bits (pos n)
   unfolding exprCell
   positive-out h =
       simp (le-ltb n (2 ^ bits) (omega arith), le-ltb n (2 ^ (bits - 1)) (omega (arith, half bits some)))
 
   -- -(n + 1): kept where n is in the lower half, and refused above
-  pub negative-in : n ≤ most / 2 → Number (most - n) ≡ exprCell bits (negsuc n)
+  pub negative-in : n ≤ most / 2 → value (most - n) ≡ exprCell bits (negsuc n)
   unfolding exprCell
   negative-in h =
       let p = half bits some in
       let q = pow-pos (bits - 1) in
       simp (lt-ltb n (2 ^ (bits - 1)) (omega arith), mod-eq-of-lt (inside (omega arith)), e)
 
-  pub negative-out : most / 2 < n → ExprOutside ≡ exprCell bits (negsuc n)
+  pub negative-out : most / 2 < n → fails cellOutside ≡ exprCell bits (negsuc n)
   unfolding exprCell
   negative-out h =
       let p = half bits some in

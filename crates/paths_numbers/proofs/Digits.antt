@@ -12,22 +12,21 @@ use lib.ListN.{length, getD, drop, drop-of-length-le}
 use lib.Seq.{drop-cons}
 use Rattle.paths_numbers.proofs.Texts.{cond-in}
 use Rattle.paths_numbers.specs.meaning.Byte.{digitOf}
-use Rattle.paths_numbers.specs.meaning.Number.{digits, behindSign, Within}
-use Rattle.paths_numbers.specs.declared.expr_eval.IntErrorKind.{IntErrorKind}
-use Rattle.paths_numbers.specs.declared.expr_eval.IntErrorKind.the-variants.{InvalidDigit}
-use Rattle.paths_numbers.specs.declared.expr_eval.ParsedInt.{ParsedInt}
-use Rattle.paths_numbers.specs.declared.expr_eval.ParsedInt.the-variants.{Value, Failed}
+use Rattle.paths_numbers.specs.meaning.Code.{notADigit}
+use Rattle.paths_numbers.specs.meaning.Reading.{Reading, value, fails}
+use Rattle.paths_numbers.specs.meaning.Number.{digits, behindSign}
+use Rattle.paths_numbers.specs.machine.Limits.{Within}
 
 -- w is what the whole text gives, and the invariant says that the rest gives it too
-module _ (base most : ℕ) (over : IntErrorKind) (acc : ℕ) (s : List ℕ) (i : ℕ) (w : ParsedInt)
+module _ (base most over acc : ℕ) (s : List ℕ) (i : ℕ) (w : Reading ℕ)
     (inv : w ≡ digits base most over acc (drop i s)) where
   -- the next byte is no digit of the base
-  pub bad : i < length s → base ≤ digitOf (getD s i 0) → Failed InvalidDigit ≡ w
+  pub bad : i < length s → base ≤ digitOf (getD s i 0) → fails notADigit ≡ w
   unfolding digits
   bad h k = sym (inv ∙ rw (drop-cons s i 0 h) (simp (le-ltb _ _ k)))
 
   -- the next digit makes the number too large
-  pub large : i < length s → digitOf (getD s i 0) < base → most < acc * base + digitOf (getD s i 0) → Failed over ≡ w
+  pub large : i < length s → digitOf (getD s i 0) < base → most < acc * base + digitOf (getD s i 0) → fails over ≡ w
   unfolding digits
   large h k l = sym (inv ∙ rw (drop-cons s i 0 h) (simp (lt-ltb _ _ k, lt-leb _ _ l)))
 
@@ -38,7 +37,7 @@ module _ (base most : ℕ) (over : IntErrorKind) (acc : ℕ) (s : List ℕ) (i :
   good h d e k l = inv ∙ rw (e, drop-cons s i 0 h, add-one) (simp (lt-ltb _ _ (rw e at k), le-leb _ _ (rw e at l)))
 
   -- no digit is left
-  pub done : length s ≤ i → Value acc ≡ w
+  pub done : length s ≤ i → value acc ≡ w
   unfolding digits
   done h = sym (inv ∙ rw (drop-of-length-le s h))
 
@@ -59,9 +58,9 @@ module _ (most d base acc : ℕ) (b : 2 ≤ base) where
       omega arith
 
 -- a reading is at most the largest value, and so at most any k above it
-module _ (base most : ℕ) (over : IntErrorKind) (k : ℕ) (room : most ≤ k) where
+module _ (base most over k : ℕ) (room : most ≤ k) where
   -- the next digit is taken only where the number x stays within
-  step-within : (x : ℕ) (p : ParsedInt) (t : Bool) → leb x most ≡ t → (x ≤ k → Within k p) → Within k (cond t p (Failed over))
+  step-within : (x : ℕ) (p : Reading ℕ) (t : Bool) → leb x most ≡ t → (x ≤ k → Within k p) → Within k (cond t p (fails over))
   step-within x p true e next = next (omega (arith, leb-true x most e))
   step-within x p false e next = tt
 
@@ -81,5 +80,5 @@ module _ (base most : ℕ) (over : IntErrorKind) (k : ℕ) (room : most ≤ k) w
   sign-within (b ∷ s) = digits-within 0 (b ∷ s) (omega arith)
 
 -- a reading that is a number is within the limit it was read at
-pub value-within : (m n : ℕ) (p : ParsedInt) → Within m p → p ≡ Value n → n ≤ m
+pub value-within : (m n : ℕ) (p : Reading ℕ) → Within m p → p ≡ value n → n ≤ m
 value-within m n p h e = rw e at h

@@ -11,7 +11,8 @@ use mir.Syntax.{w64}
 use mir.Val.{SFits, toZ, ofZ}
 use mir.ValLaws.{toZ-ofZ}
 use Rattle.paths_numbers.specs.meaning.Expression.{within}
-use Rattle.paths_numbers.specs.declared.operators.Evaluated.the-variants.{Value, Outside}
+use Rattle.paths_numbers.specs.meaning.Code.{outside64Bits}
+use Rattle.paths_numbers.specs.meaning.Reading.{value, fails}
 
 -- what the machine reads of a number's bits
 abbrev pub Z : ℤ → ℤ
@@ -104,11 +105,11 @@ pub natural : {a : ℤ} → SFits w64 a → ltZ (Z a) (pos 0) ≡ false → 2 ^ 
 natural f t = not-below f (number 0 (omega arith)) t
 
 -- a result within 64 bits is the value that the machine reads of it
-pub kept : {z : ℤ} → SFits w64 z → Value (Z z) ≡ within z
+pub kept : {z : ℤ} → SFits w64 z → value (Z z) ≡ within z
 kept {z} f = rw (read f) (simp (lt-ltb (mag z) (2 ^ 63) (f .sfits)))
 
 -- a result outside has no value
-pub refused : (z : ℤ) → (SFits w64 z → ⊥) → Outside ≡ within z
+pub refused : (z : ℤ) → (SFits w64 z → ⊥) → fails outside64Bits ≡ within z
 refused z h =
     let n : mag z < 2 ^ 63 → ⊥ = λ k. h (record { sfits = k }) in
     simp (le-ltb (mag z) (2 ^ 63) (omega arith))

@@ -10,7 +10,8 @@ use lib.ListN.{length, getD, length-append, List·getD-append, List·getD-eq-def
 use lib.Seq.{getD-append-add, getD-at}
 use Rattle.paths_numbers.specs.meaning.Byte.{slash, atSign}
 use Rattle.paths_numbers.specs.meaning.Text.{same, isEmpty}
-use Rattle.paths_numbers.specs.meaning.Path.{root, stem, join, joined, withUnit}
+use Rattle.paths_numbers.specs.meaning.Path.{root, join, joined, withUnit}
+use Rattle.paths_numbers.specs.machine.Limits.{stem}
 use Rattle.paths_numbers.proofs.Texts.{by-test, same-lengths, is-empty, not-empty}
 
 -- the bytes of two texts with one byte between them: those behind it

@@ -1,8 +1,8 @@
 -- Laws of `any`.
-use mathlib.Core.Path.{_≡_, refl, sym, ap, _∙_}
+use mathlib.Core.Path.{_≡_, refl, sym, _∙_}
 use mathlib.Core.Bool.{Bool, true, false, cond}
 use mathlib.Core.List.{List, [], _∷_, _++_}
-use Rattle.paths_numbers.proofs.Texts.{by-test, not-both, is-false}
+use Rattle.paths_numbers.proofs.Texts.{by-test}
 use Rattle.paths_numbers.specs.meaning.Lists.{any}
 
 -- over two lists

@@ -10,8 +10,10 @@ use lib.Signed.{mag, ltZ, nonNeg, natAbs-le}
 use mir.Syntax.{w64}
 use mir.Val.{SFits, Fits}
 use Rattle.paths_numbers.proofs.Integers.{Z, read, up, number, kept, refused}
-use Rattle.paths_numbers.specs.meaning.Expression.{turned, within, mostOf}
-use Rattle.paths_numbers.specs.declared.operators.Evaluated.the-variants.{Value, Outside}
+use Rattle.paths_numbers.specs.meaning.Expression.{turned, within}
+use Rattle.paths_numbers.specs.machine.Limits.{mostOf}
+use Rattle.paths_numbers.specs.meaning.Code.{outside64Bits}
+use Rattle.paths_numbers.specs.meaning.Reading.{value, fails}
 
 -- a size fits
 pub size-fits : {z : ℤ} → SFits w64 z → Fits w64 (natAbs z)
@@ -80,7 +82,7 @@ module _ {a b : ℤ} (fa : SFits w64 a) (fb : SFits w64 b) where
   most-is = rw (read fa, read fb) (most-signs a b)
 
   -- a product with 0, by the size of a factor
-  pub product-zero : {x : ℕ} → x ≡ natAbs (Z a) → x ≡ 0 → Value (pos 0) ≡ within (a *ℤ b)
+  pub product-zero : {x : ℕ} → x ≡ natAbs (Z a) → x ≡ 0 → value (pos 0) ≡ within (a *ℤ b)
   product-zero e z = rw (size-zero a (sym (rw (read fa) at e) ∙ z), zero-*ℤ) (kept (number 0 (omega arith)))
 
   -- a product of other factors, by both sizes and the largest size
@@ -90,7 +92,7 @@ module _ {a b : ℤ} (fa : SFits w64 a) (fb : SFits w64 b) where
     sized = (rw (mul-comm y x, rw (read fa) at ex, rw (read fb) at ey), sym (rw (read fa, read fb) at em))
 
     -- a product of a larger size is outside 64 bits
-    pub product-is-out : m / x < y → Outside ≡ within (a *ℤ b)
+    pub product-is-out : m / x < y → fails outside64Bits ≡ within (a *ℤ b)
     product-is-out h =
         let p : m < y * x = div-lt-iff-lt-mul {k = x} (omega arith) .0 h in
         refused (a *ℤ b) (λ f. omega (arith, product-out a b f, sized))

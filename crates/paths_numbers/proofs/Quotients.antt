@@ -15,7 +15,7 @@ use Rattle.paths_numbers.proofs.Integers.{Z, read}
 use Rattle.paths_numbers.proofs.Products.{neg-in}
 use Rattle.paths_numbers.proofs.Relations.{read-true}
 use Rattle.paths_numbers.specs.meaning.Expression.{isTrue, isWithin}
-use Rattle.paths_numbers.specs.declared.operators.Evaluated.{Evaluated}
+use Rattle.paths_numbers.specs.meaning.Reading.{Reading}
 
 -- the bits of -1
 minus-one : {b : ℤ} → SFits w64 b → ofZ w64 b ≡ 18446744073709551615 → b ≡ negsuc 0
@@ -49,7 +49,7 @@ module _ {a b : ℤ} (fa : SFits w64 a) (fb : SFits w64 b) where
   by-other n = sym (lt-ltb (mag (quotZ a b)) (2 ^ 63) (other a b (fa .sfits) n))
 
   -- what a division by 0 gives
-  pub by-zero : (x z : Evaluated) → ofZ w64 b ≡ 0 → z ≡ cond (isTrue b) x z
+  pub by-zero : (x z : Reading ℤ) → ofZ w64 b ≡ 0 → z ≡ cond (isTrue b) x z
   by-zero x z e = rw (← read-true fb, eq-eqb _ _ e)
 
   -- a divisor that is not 0, by whether the machine finds the quotient within 64 bits
@@ -59,11 +59,11 @@ module _ {a b : ℤ} (fa : SFits w64 a) (fb : SFits w64 b) where
     quotient-fits p = (omega arith, record { sfits = ltb-true _ _ (sym e ∙ p) })
 
     -- what a division gives whose quotient is within 64 bits
-    pub divided-in : (x y z : Evaluated) → t ≡ true → x ≡ cond (isTrue b) (cond (isWithin (quotZ a b)) x y) z
+    pub divided-in : (x y z : Reading ℤ) → t ≡ true → x ≡ cond (isTrue b) (cond (isWithin (quotZ a b)) x y) z
     divided-in x y z p = rw (← read-true fb, ne-eqb _ _ n, ← rw (read fa, read fb) at e, p)
 
     -- and one whose quotient is not
-    pub divided-out : (x y z : Evaluated) → t ≡ false → y ≡ cond (isTrue b) (cond (isWithin (quotZ a b)) x y) z
+    pub divided-out : (x y z : Reading ℤ) → t ≡ false → y ≡ cond (isTrue b) (cond (isWithin (quotZ a b)) x y) z
     divided-out x y z p = rw (← read-true fb, ne-eqb _ _ n, ← rw (read fa, read fb) at e, p)
 
     -- the machine's quotient

@@ -10,7 +10,8 @@ use mir.Val.{SFits}
 use Rattle.paths_numbers.proofs.Integers.{Z, read, least, greatest, up, up-range, up-fits, up-size, up-add, up-neg, below, not-below}
 use Rattle.paths_numbers.proofs.Integers.{negative, natural, refused}
 use Rattle.paths_numbers.specs.meaning.Expression.{within}
-use Rattle.paths_numbers.specs.declared.operators.Evaluated.the-variants.{Outside}
+use Rattle.paths_numbers.specs.meaning.Code.{outside64Bits}
+use Rattle.paths_numbers.specs.meaning.Reading.{fails}
 
 -- e is d's opposite, and sums with either are omega's
 pub record Opposite (d e : ℤ) : Type 0 where
@@ -68,7 +69,7 @@ module _ {d e : ℤ} (m : Down d e) where
 
   module _ {a : ℤ} (f : SFits w64 a) where
     -- a number below it moves out of 64 bits
-    pub down-out : ltZ (Z a) (Z (least +ℤ e)) ≡ true → Outside ≡ within (a +ℤ d)
+    pub down-out : ltZ (Z a) (Z (least +ℤ e)) ≡ true → fails outside64Bits ≡ within (a +ℤ d)
     down-out t = refused (a +ℤ d) (λ k. omega (arith, below f down-limit t, low, up-sum f (m .0), up-range k))
 
     -- another stays within
@@ -89,7 +90,7 @@ module _ {d e : ℤ} (m : Up d e) where
 
   module _ {a : ℤ} (f : SFits w64 a) where
     -- a number above it moves out of 64 bits
-    pub up-out : ltZ (Z (greatest +ℤ e)) (Z a) ≡ true → Outside ≡ within (a +ℤ d)
+    pub up-out : ltZ (Z (greatest +ℤ e)) (Z a) ≡ true → fails outside64Bits ≡ within (a +ℤ d)
     up-out t = refused (a +ℤ d) (λ k. omega (arith, below up-limit f t, high, up-sum f (m .0), up-range k))
 
     -- another stays within

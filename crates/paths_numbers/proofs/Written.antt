@@ -2,6 +2,7 @@
 use Prim.Native.Nat.{ℕ, suc, _+_, _≤_, _<_}
 use mathlib.Core.Path.{_≡_, refl, sym, ap, _∙_}
 use mathlib.Core.List.{List, [], _∷_, _++_, append-nil}
+use mathlib.Core.Option.{some, none}
 use native.Mathlib.Nat.{add-zero}
 use native.Mathlib.Numerals.{add-one}
 use native.Mathlib.Omega.{arith}
@@ -10,7 +11,6 @@ use lib.ListN.{length, getD, take, drop, set, take-append-drop, length-append, l
 use lib.Seq.{take-suc-set, drop-set-lt, drop-cons, append-snoc, length-take-le}
 use Rattle.paths_numbers.specs.meaning.Text.{written}
 use Rattle.paths_numbers.specs.meaning.Path.{builtAnswer, builtOut}
-use Rattle.paths_numbers.specs.declared.dt_node.Built.the-variants.{Bytes, NoRoom}
 
 -- nothing written is nothing changed
 pub written-nil : (d : List ℕ) (at : ℕ) → written d at [] ≡ d
@@ -46,12 +46,12 @@ written-length d at s h =
 
 module _ (p out : List ℕ) (at : ℕ) where
   -- what is answered and held where a path does not fit
-  pub no-room : length out < at + length p → (NoRoom ≡ builtAnswer p (length out) at) × (out ≡ builtOut p out at)
+  pub no-room : length out < at + length p → (none ≡ builtAnswer p (length out) at) × (out ≡ builtOut p out at)
   unfolding builtAnswer builtOut
   no-room h = (simp (lt-leb _ _ h), simp (lt-leb _ _ h))
 
   -- and where it does
   pub room : (n : ℕ) (o : List ℕ) → n ≡ length p → o ≡ written out at p → at + length p ≤ length out
-      → (Bytes n ≡ builtAnswer p (length out) at) × (o ≡ builtOut p out at)
+      → (some n ≡ builtAnswer p (length out) at) × (o ≡ builtOut p out at)
   unfolding builtAnswer builtOut
   room n o e w h = (rw e (simp (le-leb _ _ h)), rw w (simp (le-leb _ _ h)))

@@ -4,6 +4,7 @@ pub mod Byte
 pub mod Text
 pub mod Lists
 pub mod Path
+pub mod Reading
 pub mod Number
 pub mod Expression
 pub mod Cell

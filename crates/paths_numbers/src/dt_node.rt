@@ -3,8 +3,9 @@
 ghost use mathlib.Core.Path.{_≡_};
 ghost use Prim.Native.Nat.{_+_, _≤_};
 ghost use lib.ListN.{length, getD};
-ghost use Rattle.paths_numbers.specs.meaning.Path.{root, stem, withUnit, joined, joinedLen, atMost, largestUsize, builtAnswer};
-ghost use Rattle.paths_numbers.specs.meaning.Path.{builtOut, atOrUnder};
+ghost use Rattle.paths_numbers.specs.meaning.Path.{root, withUnit, joined, joinedLen, atMost, largestUsize, builtAnswer};
+ghost use Rattle.paths_numbers.specs.meaning.Path.{builtOut, builtTold, atOrUnder};
+ghost use Rattle.paths_numbers.specs.machine.Limits.{stem};
 ghost use Rattle.paths_numbers.specs.meaning.Text.{same, begins, written};
 use crate::mir::is_root;
 
@@ -107,7 +108,7 @@ fn name_byte(name: &[u8], unit: &[u8], i: usize) -> u8
 
 // Writes the path of a parent and a name into `out` from `at` on.
 pub fn build_path(parent: &[u8], name: &[u8], unit: &[u8], out: &mut [u8], at: usize) -> Built
-    ensures { λ r. ⌜ r ≡ builtAnswer (joined (now (parent .entry)) (now (name .entry)) (now (unit .entry))) (length (now (out .entry)))
+    ensures { λ r. ⌜ builtTold r ≡ builtAnswer (joined (now (parent .entry)) (now (name .entry)) (now (unit .entry))) (length (now (out .entry)))
         at ⌝ }
     ensures { λ _. ⌜ now (out .exit) ≡ builtOut (joined (now (parent .entry)) (now (name .entry)) (now (unit .entry))) (now (out .entry))
         at ⌝ }

@@ -2,8 +2,8 @@
 ghost use mathlib.Core.Path.{_≡_};
 ghost use Prim.Native.Nat.{_+_, _≤_, _<_};
 ghost use lib.ListN.{length};
-ghost use Rattle.paths_numbers.specs.meaning.Bytestring.{nibbles, bytesOf, countOf, countCode, bytesAnswer, bytesOut};
-ghost use Rattle.paths_numbers.specs.meaning.Cell.{bitsOf, largest, sizeOf, sizeCode, exprCell, charCell, cellCode};
+ghost use Rattle.paths_numbers.specs.meaning.Bytestring.{nibbles, bytesOf, countOf, countCode, countTold, writtenTold, bytesAnswer, bytesOut};
+ghost use Rattle.paths_numbers.specs.meaning.Cell.{bitsOf, largest, sizeOf, sizeCode, sizeTold, exprCell, charCell, cellCode, cellTold};
 ghost use Rattle.paths_numbers.specs.meaning.Text.{written};
 use crate::codes;
 use crate::expr_eval::IntErrorKind;
@@ -64,7 +64,7 @@ impl BitsSize {
 
     // A width's text, which is empty where there is none.
     pub fn from_token(text: &[u8]) -> SizeRead
-        ensures { λ r. ⌜ r ≡ sizeOf (now (text .entry)) ⌝ }
+        ensures { λ r. ⌜ sizeTold r ≡ sizeOf (now (text .entry)) ⌝ }
     {
         if text.len() == 0 {
             return SizeRead::Size(BitsSize::Bits32);
@@ -95,7 +95,7 @@ pub fn size_code(read: SizeRead) -> u32
 
 // What an expression's result is as a cell of a width.
 pub fn expr_cell(num: i64, size: BitsSize) -> Cell
-    ensures { λ r. ⌜ r ≡ exprCell (bitsOf size) num ⌝ }
+    ensures { λ r. ⌜ cellTold r ≡ exprCell (bitsOf size) num ⌝ }
 {
     let most = size.most();
     if 0 <= num {
@@ -114,7 +114,7 @@ pub fn expr_cell(num: i64, size: BitsSize) -> Cell
 
 // What a character is as a cell of a width.
 pub fn char_cell(ch: u32, size: BitsSize) -> Cell
-    ensures { λ r. ⌜ r ≡ charCell (bitsOf size) ch ⌝ }
+    ensures { λ r. ⌜ cellTold r ≡ charCell (bitsOf size) ch ⌝ }
 {
     let most = size.most();
     let n = ch as u64;
@@ -150,7 +150,7 @@ pub enum BytesWritten {
 
 // How many bytes the text of a bytestring stands for.
 pub fn bytestring_len(text: &[u8]) -> ByteCount
-    ensures { λ r. ⌜ r ≡ countOf (now (text .entry)) ⌝ }
+    ensures { λ r. ⌜ countTold r ≡ countOf (now (text .entry)) ⌝ }
 {
     let n = bytestring_len_digits(text);
     if n % 2 == 1 {
@@ -171,7 +171,7 @@ pub fn count_code(count: ByteCount) -> u32
 
 // Writes the bytes that the text of a bytestring stands for into `out` from `at` on.
 pub fn lower_bytestring(text: &[u8], out: &mut [u8], at: usize) -> BytesWritten
-    ensures { λ r. ⌜ r ≡ bytesAnswer (now (text .entry)) (length (now (out .entry))) at ⌝ }
+    ensures { λ r. ⌜ writtenTold r ≡ bytesAnswer (now (text .entry)) (length (now (out .entry))) at ⌝ }
     ensures { λ _. ⌜ now (out .exit) ≡ bytesOut (now (text .entry)) (now (out .entry)) at ⌝ }
 {
     match bytestring_len(text) {

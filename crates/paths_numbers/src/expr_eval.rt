@@ -2,8 +2,10 @@
 ghost use mathlib.Core.Path.{_≡_};
 ghost use Prim.Native.Nat.{_+_, _<_, _≤_};
 ghost use Rattle.paths_numbers.specs.meaning.Byte.{digitOf};
-ghost use Rattle.paths_numbers.specs.meaning.Number.{isSuffix, trimmed, baseOf, digits, behindSign, unsigned, unsignedNumber};
-ghost use Rattle.paths_numbers.specs.meaning.Number.{positive, negative, signed, signedNumber, Within, intCode};
+ghost use Rattle.paths_numbers.specs.meaning.Number.{isSuffix, trimmed, baseOf, digits, behindSign, unsigned};
+ghost use Rattle.paths_numbers.specs.meaning.Number.{unsignedNumber};
+ghost use Rattle.paths_numbers.specs.meaning.Number.{positive, negative, signed, signedNumber, intCode, intTold, i64Told};
+ghost use Rattle.paths_numbers.specs.machine.Limits.{Within};
 ghost use Rattle.paths_numbers.specs.meaning.Cell.{largest};
 use crate::codes;
 use crate::dt_property::BitsSize;
@@ -53,7 +55,7 @@ pub fn int_code(kind: IntErrorKind) -> u32
 
 // An unsigned number's text, read at a width.
 pub fn parse_int_tok(text: &[u8], size: BitsSize) -> ParsedInt
-    ensures { λ r. ⌜ r ≡ unsignedNumber (largest size) (now (text .entry)) ⌝ }
+    ensures { λ r. ⌜ intTold r ≡ unsignedNumber (largest size) (now (text .entry)) ⌝ }
 {
     let most = size.most();
     let s = trim_suffixes(text);
@@ -66,7 +68,7 @@ pub fn parse_int_tok(text: &[u8], size: BitsSize) -> ParsedInt
 
 // A number's text, read as a signed 64-bit number.
 pub fn parse_int_tok_i64(text: &[u8]) -> ParsedI64
-    ensures { λ r. ⌜ r ≡ signedNumber (now (text .entry)) ⌝ }
+    ensures { λ r. ⌜ i64Told r ≡ signedNumber (now (text .entry)) ⌝ }
 {
     let s = trim_suffixes(text);
     let base = base_of(s);
@@ -121,7 +123,7 @@ fn base_of(s: &[u8]) -> u64
 // An unsigned number behind its prefix.
 fn read_unsigned(s: &[u8], base: u64, most: u64) -> ParsedInt
     requires { ⌜ (2 ≤ base) × (base ≤ 16) × (15 ≤ most) ⌝ }
-    ensures { λ r. ⌜ r ≡ unsigned base most (now (s .entry)) ⌝ }
+    ensures { λ r. ⌜ intTold r ≡ unsigned base most (now (s .entry)) ⌝ }
 {
     if s.len() == 0 {
         return ParsedInt::Failed(IntErrorKind::Empty);
@@ -135,7 +137,7 @@ fn read_unsigned(s: &[u8], base: u64, most: u64) -> ParsedInt
 // A signed number behind its prefix.
 fn read_signed(s: &[u8], base: u64) -> ParsedI64
     requires { ⌜ (2 ≤ base) × (base ≤ 16) ⌝ }
-    ensures { λ r. ⌜ r ≡ signed base (now (s .entry)) ⌝ }
+    ensures { λ r. ⌜ i64Told r ≡ signed base (now (s .entry)) ⌝ }
 {
     if s.len() == 0 {
         return ParsedI64::Failed(IntErrorKind::Empty);
@@ -153,7 +155,7 @@ fn read_signed(s: &[u8], base: u64) -> ParsedI64
 // Digits behind a sign: a lone sign is no digit.
 fn read_behind_sign(s: &[u8], base: u64, most: u64, over: IntErrorKind) -> ParsedInt
     requires { ⌜ (2 ≤ base) × (base ≤ 16) × (15 ≤ most) ⌝ }
-    ensures { λ r. ⌜ r ≡ behindSign base most over (now (s .entry)) ⌝ }
+    ensures { λ r. ⌜ intTold r ≡ behindSign base most (intCode over) (now (s .entry)) ⌝ }
 {
     if s.len() == 0 {
         return ParsedInt::Failed(IntErrorKind::InvalidDigit);
@@ -164,7 +166,7 @@ fn read_behind_sign(s: &[u8], base: u64, most: u64, over: IntErrorKind) -> Parse
 // Digits in a base, up to a largest value.
 fn read_digits(s: &[u8], base: u64, most: u64, over: IntErrorKind) -> ParsedInt
     requires { ⌜ (2 ≤ base) × (base ≤ 16) × (15 ≤ most) ⌝ }
-    ensures { λ r. ⌜ r ≡ digits base most over 0 (now (s .entry)) ⌝ }
+    ensures { λ r. ⌜ intTold r ≡ digits base most (intCode over) 0 (now (s .entry)) ⌝ }
 {
     let mut acc: u64 = 0;
     let mut i = 0;
@@ -209,8 +211,8 @@ pub(crate) fn digit(b: u8) -> u64
 
 // A reading as a positive number.
 fn to_positive(p: ParsedInt) -> ParsedI64
-    requires { ⌜ Within 9223372036854775807 p ⌝ }
-    ensures { λ r. ⌜ r ≡ positive p ⌝ }
+    requires { ⌜ Within 9223372036854775807 (intTold p) ⌝ }
+    ensures { λ r. ⌜ i64Told r ≡ positive (intTold p) ⌝ }
 {
     match p {
         ParsedInt::Value(n) => ParsedI64::Value(n as i64),
@@ -220,8 +222,8 @@ fn to_positive(p: ParsedInt) -> ParsedI64
 
 // A reading as a negative number.
 fn to_negative(p: ParsedInt) -> ParsedI64
-    requires { ⌜ Within 9223372036854775808 p ⌝ }
-    ensures { λ r. ⌜ r ≡ negative p ⌝ }
+    requires { ⌜ Within 9223372036854775808 (intTold p) ⌝ }
+    ensures { λ r. ⌜ i64Told r ≡ negative (intTold p) ⌝ }
 {
     match p {
         ParsedInt::Value(n) => {

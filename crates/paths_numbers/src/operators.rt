@@ -2,8 +2,10 @@
 ghost use mathlib.Core.Path.{_≡_};
 ghost use lib.IntN.{_+ℤ_, _-ℤ_, _*ℤ_, natAbs};
 ghost use lib.Signed.{quotZ};
-ghost use Rattle.paths_numbers.specs.meaning.Expression.{isTrue, evalPrefix, evalInfix, isWithin, within, mostOf, quotient};
+ghost use Rattle.paths_numbers.specs.meaning.Expression.{isTrue, evalPrefix, evalInfix, isWithin, within, quotient};
 ghost use Rattle.paths_numbers.specs.meaning.Expression.{remainder, shiftLeft, shiftRight, evalRelation, evalConditional, evalCode};
+ghost use Rattle.paths_numbers.specs.meaning.Expression.{evalTold};
+ghost use Rattle.paths_numbers.specs.machine.Limits.{mostOf};
 use crate::codes;
 use crate::expr_eval::MOST_DOWN;
 use crate::expr_eval::MOST_UP;
@@ -59,7 +61,7 @@ pub fn is_true(a: i64) -> bool
 
 // The prefix operator of this number on a value.
 pub fn eval_prefix(op: u32, a: i64) -> Evaluated
-    ensures { λ r. ⌜ r ≡ evalPrefix op a ⌝ }
+    ensures { λ r. ⌜ evalTold r ≡ evalPrefix op a ⌝ }
 {
     match op {
         1 => Evaluated::Value(a),
@@ -72,7 +74,7 @@ pub fn eval_prefix(op: u32, a: i64) -> Evaluated
 
 // The infix operator of this number on two values.
 pub fn eval_infix(op: u32, a: i64, b: i64) -> Evaluated
-    ensures { λ r. ⌜ r ≡ evalInfix op a b ⌝ }
+    ensures { λ r. ⌜ evalTold r ≡ evalInfix op a b ⌝ }
 {
     match op {
         1 => add(a, b),
@@ -91,7 +93,7 @@ pub fn eval_infix(op: u32, a: i64, b: i64) -> Evaluated
 
 // The infix operators whose result is a truth.
 fn eval_relation(op: u32, a: i64, b: i64) -> Evaluated
-    ensures { λ r. ⌜ r ≡ evalRelation op a b ⌝ }
+    ensures { λ r. ⌜ evalTold r ≡ evalRelation op a b ⌝ }
 {
     match op {
         AND => Evaluated::Value((is_true(a) & is_true(b)) as i64),
@@ -118,7 +120,7 @@ pub fn eval_conditional(a: i64, b: i64, c: i64) -> i64
 
 // The sum of two values.
 fn add(a: i64, b: i64) -> Evaluated
-    ensures { λ r. ⌜ r ≡ within (a +ℤ b) ⌝ }
+    ensures { λ r. ⌜ evalTold r ≡ within (a +ℤ b) ⌝ }
 {
     if b < 0 {
         if a < LEAST - b {
@@ -134,7 +136,7 @@ fn add(a: i64, b: i64) -> Evaluated
 
 // The difference of two values.
 fn sub(a: i64, b: i64) -> Evaluated
-    ensures { λ r. ⌜ r ≡ within (a -ℤ b) ⌝ }
+    ensures { λ r. ⌜ evalTold r ≡ within (a -ℤ b) ⌝ }
 {
     if b < 0 {
         if GREATEST + b < a {
@@ -150,7 +152,7 @@ fn sub(a: i64, b: i64) -> Evaluated
 
 // The product of two values.
 fn mul(a: i64, b: i64) -> Evaluated
-    ensures { λ r. ⌜ r ≡ within (a *ℤ b) ⌝ }
+    ensures { λ r. ⌜ evalTold r ≡ within (a *ℤ b) ⌝ }
 {
     let x = size(a);
     if x == 0 {
@@ -184,7 +186,7 @@ fn most(a: i64, b: i64) -> u64
 
 // The quotient of two values, rounded toward 0.
 fn div(a: i64, b: i64) -> Evaluated
-    ensures { λ r. ⌜ r ≡ quotient a b ⌝ }
+    ensures { λ r. ⌜ evalTold r ≡ quotient a b ⌝ }
 {
     if b == 0 {
         return Evaluated::ZeroDivisor;
@@ -197,7 +199,7 @@ fn div(a: i64, b: i64) -> Evaluated
 
 // The remainder of that division, with the dividend's sign.
 fn rem(a: i64, b: i64) -> Evaluated
-    ensures { λ r. ⌜ r ≡ remainder a b ⌝ }
+    ensures { λ r. ⌜ evalTold r ≡ remainder a b ⌝ }
 {
     if b == 0 {
         return Evaluated::ZeroDivisor;
@@ -220,7 +222,7 @@ fn div_is_within(a: i64, b: i64) -> bool
 
 // A value shifted left: what passes bit 63 is dropped.
 fn shl(a: i64, b: i64) -> Evaluated
-    ensures { λ r. ⌜ r ≡ shiftLeft a b ⌝ }
+    ensures { λ r. ⌜ evalTold r ≡ shiftLeft a b ⌝ }
 {
     if b < 0 {
         return Evaluated::ShiftAmount;
@@ -233,7 +235,7 @@ fn shl(a: i64, b: i64) -> Evaluated
 
 // A value shifted right: the sign is kept.
 fn shr(a: i64, b: i64) -> Evaluated
-    ensures { λ r. ⌜ r ≡ shiftRight a b ⌝ }
+    ensures { λ r. ⌜ evalTold r ≡ shiftRight a b ⌝ }
 {
     if b < 0 {
         return Evaluated::ShiftAmount;

@@ -1,6 +1,6 @@
 // What lower_phandle of lowering/mod.rs makes of a raw reference text, `&{..}`.
 ghost use mathlib.Core.Path.{_≡_};
-ghost use Rattle.paths_numbers.specs.meaning.Reference.{isBraced, innerText, beforeSlash, target, kindOf, labelOf, pathOf};
+ghost use Rattle.paths_numbers.specs.meaning.Reference.{isBraced, innerText, beforeSlash, target, numberOf, labelOf, pathOf};
 ghost use Rattle.paths_numbers.specs.meaning.Reference.{targetNumber};
 ghost use lib.ListN.{length};
 
@@ -26,7 +26,7 @@ pub fn target_number(target: MirPhandleTarget) -> u32
 
 // What a raw reference names.
 pub fn lower_phandle(raw: &[u8]) -> MirPhandleTarget
-    ensures { λ r. ⌜ r ≡ kindOf (target (now (raw .entry))) ⌝ }
+    ensures { λ r. ⌜ targetNumber r ≡ numberOf (target (now (raw .entry))) ⌝ }
 {
     if !is_braced(raw) {
         return MirPhandleTarget::Unreadable;

@@ -2,14 +2,14 @@
 // them.
 ghost use mathlib.Core.Path.{_≡_};
 ghost use lib.ListN.{length};
-ghost use Rattle.paths_numbers.specs.meaning.Bytestring.{countOf, bytesAnswer, bytesOut};
-ghost use Rattle.paths_numbers.specs.meaning.Cell.{sizeOf};
-ghost use Rattle.paths_numbers.specs.meaning.Expression.{evalPrefix, evalInfix, evalConditional};
-ghost use Rattle.paths_numbers.specs.meaning.Number.{signedNumber};
-ghost use Rattle.paths_numbers.specs.meaning.Path.{atOrUnder, stripped, goodPath, joined, joinedLen, builtAnswer, builtOut};
+ghost use Rattle.paths_numbers.specs.meaning.Bytestring.{countOf, countTold, writtenTold, bytesAnswer, bytesOut};
+ghost use Rattle.paths_numbers.specs.meaning.Cell.{sizeOf, sizeTold, cellTold};
+ghost use Rattle.paths_numbers.specs.meaning.Expression.{evalPrefix, evalInfix, evalConditional, evalTold};
+ghost use Rattle.paths_numbers.specs.meaning.Number.{signedNumber, intTold, i64Told};
+ghost use Rattle.paths_numbers.specs.meaning.Path.{atOrUnder, stripped, goodPath, joined, joinedLen, builtTold, builtAnswer, builtOut};
 ghost use Rattle.paths_numbers.specs.meaning.Reference.{target};
 ghost use Rattle.paths_numbers.specs.meaning.Text.{same};
-ghost use Rattle.paths_numbers_c.specs.meaning.Told.{truth, builtTold, intTold, i64Told, cellTold, evalTold, countTold, writtenTold};
+ghost use Rattle.paths_numbers_c.specs.meaning.Told.{truth, numberTold, integerTold, resultTold, lengthTold, bytesTold, pathTold};
 ghost use Rattle.paths_numbers_c.specs.meaning.Told.{widthTold, widthOf, intAt, exprAt, charAt, targetTold};
 use paths_numbers::dt_node::Built;
 use paths_numbers::dt_node::build_path;
@@ -125,7 +125,7 @@ pub extern "C" fn pn_build_path(
     out: &mut [u8],
     at: usize,
 ) -> PnWritten
-    ensures { λ r. ⌜ r ≡ builtTold (builtAnswer (joined (now (parent .entry)) (now (name .entry)) (now (unit .entry)))
+    ensures { λ r. ⌜ r ≡ pathTold (builtAnswer (joined (now (parent .entry)) (now (name .entry)) (now (unit .entry)))
         (length (now (out .entry))) at) ⌝ }
     ensures { λ _. ⌜ now (out .exit) ≡ builtOut (joined (now (parent .entry)) (now (name .entry)) (now (unit .entry))) (now (out .entry))
         at ⌝ }
@@ -172,7 +172,7 @@ pub extern "C" fn pn_parse_int(text: &[u8], bits: u32) -> PnNumber
 // A number's text, read as a signed 64-bit number.
 #[no_mangle]
 pub extern "C" fn pn_parse_i64(text: &[u8]) -> PnInteger
-    ensures { λ r. ⌜ r ≡ i64Told (signedNumber (now (text .entry))) ⌝ }
+    ensures { λ r. ⌜ r ≡ integerTold (signedNumber (now (text .entry))) ⌝ }
 {
     told_i64(parse_int_tok_i64(text))
 }
@@ -212,7 +212,7 @@ pub extern "C" fn pn_char_cell(ch: u32, bits: u32) -> PnNumber
 // The prefix operator of this number on a value; code 1 where there is none.
 #[no_mangle]
 pub extern "C" fn pn_prefix(op: u32, a: i64) -> PnInteger
-    ensures { λ r. ⌜ r ≡ evalTold (evalPrefix op a) ⌝ }
+    ensures { λ r. ⌜ r ≡ resultTold (evalPrefix op a) ⌝ }
 {
     told_eval(eval_prefix(op, a))
 }
@@ -220,7 +220,7 @@ pub extern "C" fn pn_prefix(op: u32, a: i64) -> PnInteger
 // The infix operator of this number on two values; code 1 where there is none.
 #[no_mangle]
 pub extern "C" fn pn_infix(op: u32, a: i64, b: i64) -> PnInteger
-    ensures { λ r. ⌜ r ≡ evalTold (evalInfix op a b) ⌝ }
+    ensures { λ r. ⌜ r ≡ resultTold (evalInfix op a b) ⌝ }
 {
     told_eval(eval_infix(op, a, b))
 }
@@ -236,7 +236,7 @@ pub extern "C" fn pn_conditional(a: i64, b: i64, c: i64) -> i64
 // How many bytes the text of a bytestring stands for.
 #[no_mangle]
 pub extern "C" fn pn_bytestring_len(text: &[u8]) -> PnWritten
-    ensures { λ r. ⌜ r ≡ countTold (countOf (now (text .entry))) ⌝ }
+    ensures { λ r. ⌜ r ≡ lengthTold (countOf (now (text .entry))) ⌝ }
 {
     told_count(bytestring_len(text))
 }
@@ -244,7 +244,7 @@ pub extern "C" fn pn_bytestring_len(text: &[u8]) -> PnWritten
 // Writes the bytes that the text of a bytestring stands for into `out` from `at` on.
 #[no_mangle]
 pub extern "C" fn pn_lower_bytestring(text: &[u8], out: &mut [u8], at: usize) -> PnWritten
-    ensures { λ r. ⌜ r ≡ writtenTold (bytesAnswer (now (text .entry)) (length (now (out .entry))) at) ⌝ }
+    ensures { λ r. ⌜ r ≡ bytesTold (bytesAnswer (now (text .entry)) (length (now (out .entry))) at) ⌝ }
     ensures { λ _. ⌜ now (out .exit) ≡ bytesOut (now (text .entry)) (now (out .entry)) at ⌝ }
 {
     told_written(lower_bytestring(text, out, at))
@@ -267,7 +267,7 @@ pub extern "C" fn pn_reference(raw: &[u8]) -> PnReference
 
 // The width of this many bits.
 fn size_of(bits: u32) -> SizeRead
-    ensures { λ r. ⌜ r ≡ widthOf bits ⌝ }
+    ensures { λ r. ⌜ sizeTold r ≡ widthOf bits ⌝ }
 {
     match bits {
         8 => SizeRead::Size(BitsSize::Bits8),
@@ -289,7 +289,7 @@ fn told_truth(t: bool) -> u32
 }
 
 fn told_built(b: Built) -> PnWritten
-    ensures { λ r. ⌜ r ≡ builtTold b ⌝ }
+    ensures { λ r. ⌜ r ≡ pathTold (builtTold b) ⌝ }
 {
     match b {
         Built::Bytes(len) => PnWritten { number: 0, len },
@@ -301,7 +301,7 @@ fn told_built(b: Built) -> PnWritten
 }
 
 fn told_int(p: ParsedInt) -> PnNumber
-    ensures { λ r. ⌜ r ≡ intTold p ⌝ }
+    ensures { λ r. ⌜ r ≡ numberTold (intTold p) ⌝ }
 {
     match p {
         ParsedInt::Value(value) => PnNumber { code: 0, value },
@@ -313,7 +313,7 @@ fn told_int(p: ParsedInt) -> PnNumber
 }
 
 fn told_i64(p: ParsedI64) -> PnInteger
-    ensures { λ r. ⌜ r ≡ i64Told p ⌝ }
+    ensures { λ r. ⌜ r ≡ integerTold (i64Told p) ⌝ }
 {
     match p {
         ParsedI64::Value(value) => PnInteger { code: 0, value },
@@ -325,7 +325,7 @@ fn told_i64(p: ParsedI64) -> PnInteger
 }
 
 fn told_width(s: SizeRead) -> PnNumber
-    ensures { λ r. ⌜ r ≡ widthTold s ⌝ }
+    ensures { λ r. ⌜ r ≡ widthTold (sizeTold s) ⌝ }
 {
     match s {
         SizeRead::Size(size) => PnNumber {
@@ -340,7 +340,7 @@ fn told_width(s: SizeRead) -> PnNumber
 }
 
 fn told_cell(c: Cell) -> PnNumber
-    ensures { λ r. ⌜ r ≡ cellTold c ⌝ }
+    ensures { λ r. ⌜ r ≡ numberTold (cellTold c) ⌝ }
 {
     match c {
         Cell::Number(value) => PnNumber { code: 0, value },
@@ -352,7 +352,7 @@ fn told_cell(c: Cell) -> PnNumber
 }
 
 fn told_eval(e: Evaluated) -> PnInteger
-    ensures { λ r. ⌜ r ≡ evalTold e ⌝ }
+    ensures { λ r. ⌜ r ≡ resultTold (evalTold e) ⌝ }
 {
     match e {
         Evaluated::Value(value) => PnInteger { code: 0, value },
@@ -368,7 +368,7 @@ fn told_eval(e: Evaluated) -> PnInteger
 }
 
 fn told_count(c: ByteCount) -> PnWritten
-    ensures { λ r. ⌜ r ≡ countTold c ⌝ }
+    ensures { λ r. ⌜ r ≡ lengthTold (countTold c) ⌝ }
 {
     match c {
         ByteCount::Bytes(len) => PnWritten { number: 0, len },
@@ -380,7 +380,7 @@ fn told_count(c: ByteCount) -> PnWritten
 }
 
 fn told_written(w: BytesWritten) -> PnWritten
-    ensures { λ r. ⌜ r ≡ writtenTold w ⌝ }
+    ensures { λ r. ⌜ r ≡ bytesTold (writtenTold w) ⌝ }
 {
     match w {
         BytesWritten::Bytes(len) => PnWritten { number: 0, len },

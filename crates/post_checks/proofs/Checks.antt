@@ -1,15 +1,14 @@
 -- Walks through a chain that report on the way: what each step adds, and that the chain stays (Walks).
-use Prim.Native.Nat.{ℕ, zero, suc, _+_, _-_, _≤_, _<_}
+use Prim.Native.Nat.{ℕ, zero, suc, _+_, _-_, _<_}
 use mathlib.Core.Path.{_≡_, refl, sym, ap, subst, _∙_}
-use mathlib.Core.Bool.{Bool, true, false, cond}
+use mathlib.Core.Bool.{true, false}
 use mathlib.Core.List.{List, [], _∷_, _++_, append-assoc, append-nil}
 use native.Mathlib.Omega.{arith}
-use lib.Dec.{eqb}
 use lib.ListN.{length, getD, length-append}
 use Rattle.paths_numbers.proofs.Texts.{by-test, not-both}
 use Rattle.making.specs.declared.ctx.LowerCtx.{LowerCtx}
 use Rattle.log.specs.meaning.Contents.{Diag}
-use Rattle.log.specs.meaning.Record.{nextOf, leads, logCount, outField}
+use Rattle.log.specs.meaning.Record.{nextOf, leads, logCount}
 use Rattle.log.specs.meaning.ReadBack.{chainFrom}
 use Rattle.making.specs.meaning.State.{State, emit, diagsBytes}
 use Rattle.making.specs.machine.Represents.{Context, Represents, Steps}

@@ -1,5 +1,5 @@
 -- Duplicate labels: what was seen, by the bindings passed (again), and the steps of both walks.
-use Prim.Native.Nat.{ℕ, _+_, _-_, _≤_}
+use Prim.Native.Nat.{ℕ, _+_, _-_}
 use mathlib.Core.Path.{_≡_, refl, sym, ap, subst, _∙_}
 use mathlib.Core.Bool.{Bool, true, false, not, cond}
 use mathlib.Core.List.{List, [], _∷_, _++_, map, map-append}
@@ -10,19 +10,19 @@ use Rattle.paths_numbers.proofs.Texts.{by-test, same-true, same-refl, same-ne, 
 use Rattle.making.specs.declared.ctx.LowerCtx.{LowerCtx}
 use Rattle.making.specs.declared.place.PathAt.{PathAt}
 use Rattle.log.specs.declared.parts.Span as declared
-use Rattle.log.specs.meaning.Contents.{Span, Binding, Diag}
+use Rattle.log.specs.meaning.Contents.{Span, Binding}
 use Rattle.log.specs.meaning.Record.{nextOf, spanStart, spanEnd, textStart, textLength, firstText, secondText, logCount}
 use Rattle.log.specs.meaning.ReadBack.{chainFrom, chainOf, spanAt, bindingAt, readBindings}
 use Rattle.making.specs.machine.PathPlaces.{pathIn}
 use Rattle.making.specs.machine.Recs.{diagMade}
 use Rattle.log.specs.machine.Parts.{meant}
 use Rattle.making.specs.meaning.State.{State, emit}
-use Rattle.making.specs.machine.Represents.{Context, Represents, Steps}
+use Rattle.making.specs.machine.Represents.{Steps}
 use Rattle.making.specs.machine.Kept.{Still, All, all-none, all-more, Kept, Keeps}
 use Rattle.making.proofs.InHand.{represents-bindings}
 use Rattle.making.proofs.Keeping.{still-kept, binds-still, first-place}
 use Rattle.paths_numbers.specs.meaning.Lists.{any}
-use Rattle.post_checks.specs.meaning.Post.{duplicate, duplicatesOf, duplicateLabels}
+use Rattle.post_checks.specs.meaning.Post.{duplicatesOf, duplicateLabels}
 use Rattle.resolving.specs.machine.Lowers.{Lowers}
 use Rattle.post_checks.specs.machine.Checks.{Reports, again, isReported, bindingReport, labelReports, textPlace}
 use Rattle.post_checks.proofs.Checks.{all-behind, all-before, all-first, chain-front, chain-kept, all-kept, reports-none}

@@ -1,14 +1,14 @@
 -- Directive order by the kinds of definitions (Checks: headerCode, headersAfter).
 use Prim.Native.Nat.{ℕ}
 use mathlib.Core.Path.{_≡_, refl, sym, ap, _∙_}
-use mathlib.Core.Bool.{Bool, true, false, cond}
+use mathlib.Core.Bool.{Bool, false, cond}
 use mathlib.Core.List.{List, [], _∷_, _++_, map}
 use native.Mathlib.Omega.{arith}
-use borrow.Author.Tests.{eqb-true, eqb-false, ne-eqb, lt-leb}
-use lib.Dec.{eqb, leb}
+use borrow.Author.Tests.{eqb-false, ne-eqb, lt-leb}
+use lib.Dec.{eqb}
 use Rattle.paths_numbers.proofs.Texts.{by-test}
 use Rattle.making.specs.declared.ctx.LowerCtx.{LowerCtx}
-use Rattle.log.specs.meaning.Contents.{Span, Diag, Value, Def}
+use Rattle.log.specs.meaning.Contents.{Span, Value, Def}
 use Rattle.making.specs.declared.place.PathAt.{PathAt}
 use Rattle.log.specs.declared.parts.Span as declared
 use Rattle.log.specs.meaning.Record.{kindOf, nameStart, nameEnd, logCount}

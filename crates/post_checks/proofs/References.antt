@@ -15,7 +15,7 @@ use Rattle.paths_numbers.proofs.Texts.{by-test}
 use Rattle.making.specs.declared.ctx.LowerCtx.{LowerCtx}
 use Rattle.making.specs.declared.place.PathAt.{PathAt}
 use Rattle.log.specs.declared.parts.Span as declared
-use Rattle.log.specs.meaning.Contents.{Span, Def, Binding, Diag}
+use Rattle.log.specs.meaning.Contents.{Span, Def, Diag}
 use Rattle.log.specs.meaning.Record.{kindOf, childOf, nOf, mOf, spanStart, spanEnd, nameStart, nameEnd, textStart, textLength, firstText}
 use Rattle.log.specs.meaning.Record.{secondText, logCount, nodeKind, propertyKind, deletedNodeKind, deletedPropertyKind, pluginKind}
 use Rattle.log.specs.meaning.Record.{cellListKind, bytestringKind, referenceKind}
@@ -35,7 +35,7 @@ use Rattle.queries.specs.meaning.Query.{liveNumbers}
 use Rattle.queries.specs.machine.Table.{fitted}
 use Rattle.queries.proofs.Chain.{chain-most}
 use Rattle.queries.proofs.Numbers.{live-numbers, live-most, written-start, fitted-full}
-use Rattle.resolving.specs.meaning.Resolve.{firstBinding, byLabel, belowLabel, liveAt, resolve}
+use Rattle.resolving.specs.meaning.Resolve.{resolve}
 use Rattle.post_checks.specs.meaning.Post.{checkTarget, checkCell, checkCells, checkValue, checkValues, checkDef, checkDefs}
 use Rattle.post_checks.specs.meaning.Post.{checkReferences}
 use Rattle.resolving.specs.machine.Lowers.{Lowers}
@@ -47,7 +47,7 @@ use Rattle.post_checks.proofs.Checks.{all-first, all-at, chain-kept, re
 use Rattle.post_checks.proofs.Checks.{reports-then, reports-lower}
 use Rattle.post_checks.proofs.Headers.{no-text}
 use Rattle.post_checks.proofs.Duplicates.{binding-kept}
-use Rattle.resolving.proofs.Leading.{none-in, never-at, below-text}
+use Rattle.resolving.proofs.Leading.{below-text}
 use Rattle.post_checks.proofs.PostChecks.{defs-alike}
 
 -- what is read of records that stay

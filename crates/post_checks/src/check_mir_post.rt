@@ -2,15 +2,14 @@
 // is added behind it and keeps what they walk through.
 ghost use mathlib.Core.Path.{_≡_};
 ghost use mathlib.Core.List.{[], _∷_, map};
-ghost use Rattle.log.specs.meaning.Record.{kindOf, nextOf, textStart, textLength};
-ghost use Rattle.log.specs.meaning.ReadBack.{chainFrom, spanAt, nameSpanAt, bindingAt};
-ghost use Rattle.log.specs.machine.Parts.{meant};
+ghost use Rattle.log.specs.meaning.Record.{kindOf, nextOf};
+ghost use Rattle.log.specs.meaning.ReadBack.{chainFrom, nameSpanAt, bindingAt};
 ghost use Rattle.making.specs.meaning.State.{State, emit};
 ghost use Rattle.paths_numbers.specs.meaning.Lists.{any};
 ghost use Rattle.post_checks.specs.meaning.Post.{duplicatesOf, duplicateLabels, checkDirectives, postChecks};
 ghost use Rattle.resolving.specs.machine.Lowers.{Lowers};
 ghost use Rattle.post_checks.specs.machine.Checks.{Reports, isPlain, headersOf, headerCode, codeReport, headersAfter, again};
-ghost use Rattle.post_checks.specs.machine.Checks.{isReported, bindingReport, labelReports, textPlace};
+ghost use Rattle.post_checks.specs.machine.Checks.{isReported, bindingReport, labelReports};
 use crate::check_phandles::check_phandles;
 use log::kinds::DELETED_PROPERTY;
 use log::kinds::PLUGIN;

@@ -7,14 +7,14 @@ use mathlib.Core.List.{List, [], _∷_, _++_, append-assoc, append-nil}
 use native.Mathlib.Omega.{arith}
 use Rattle.paths_numbers.specs.meaning.Text.{same}
 use Rattle.paths_numbers.specs.meaning.Path.{atOrUnder}
-use Rattle.paths_numbers.proofs.Texts.{by-test, not-both, is-false, same-true, same-ne}
+use Rattle.paths_numbers.proofs.Texts.{by-test, not-both, is-false, same-ne}
 use Rattle.paths_numbers.proofs.Under.{under-trans, under-refl}
 use Rattle.log.specs.meaning.Contents.{DefValue, node, property, deletedNode, deletedProperty, version, plugin, Def}
-use Rattle.queries.specs.meaning.Kind.{isNode, isProperty, isDeletedNode, isDeletion, isOfProperty, isPlugin, setsOverlay}
+use Rattle.queries.specs.meaning.Kind.{isProperty, isDeletedNode, isDeletion, isOfProperty, isPlugin, setsOverlay}
 use Rattle.paths_numbers.specs.meaning.Lists.{any}
 use Rattle.queries.specs.meaning.Live.{deletes, overwrites, gone, isLive, live, nodeAt, containsNode}
 use Rattle.queries.specs.meaning.History.{definedBy, historyFrom, history}
-use Rattle.paths_numbers.proofs.Lists.{any-append, any-head, any-front, any-back, any-middle}
+use Rattle.paths_numbers.proofs.Lists.{any-head, any-front, any-back, any-middle}
 
 -- a version or plugin directive
 abbrev pub isDirective : DefValue → Bool

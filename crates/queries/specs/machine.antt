@@ -1,3 +1,4 @@
 -- Steps of the code, which contracts inside the library cite.
+pub mod Lists
 pub mod Pass
 pub mod Table

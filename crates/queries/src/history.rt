@@ -6,7 +6,7 @@ ghost use lib.ListN.{length};
 ghost use Rattle.paths_numbers.specs.meaning.Text.{written};
 ghost use Rattle.log.specs.meaning.Record.{logCount};
 ghost use Rattle.log.specs.meaning.ReadBack.{defAt};
-ghost use Rattle.queries.specs.meaning.Query.{historyIn};
+ghost use Rattle.queries.specs.machine.Lists.{historyIn};
 ghost use Rattle.queries.specs.machine.Pass.{isListed, definedAfter};
 ghost use Rattle.queries.specs.machine.Table.{fewHeads, Listed};
 use crate::definition::defined_by;

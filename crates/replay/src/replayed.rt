@@ -7,6 +7,7 @@ use crate::recorded::read_numbers;
 use crate::recorded::text_at;
 use crate::tally::Tally;
 use log::answer::Answer;
+use log::answer::REFUSED_ROOM;
 use log::layout::RECORD_WORDS;
 use lowering::lower::lower;
 
@@ -208,7 +209,10 @@ fn replay_refused(
 
 // What is answered and left where there is no room.
 fn refused(answer: Answer, out: &[u32], bytes: &[u8], t: Tally) -> Tally {
-    let numbered = t.noted(answer.number == 7, b"number of an input without room");
+    let numbered = t.noted(
+        answer.number == REFUSED_ROOM,
+        b"number of an input without room",
+    );
     let returned = numbered.noted(answer.returned == 0, b"returned of an input without room");
     let cleared = returned.noted(no_word(out), b"words of an input without room");
     cleared.noted(no_byte(bytes), b"bytes of an input without room")

@@ -1,19 +1,19 @@
 -- The search for the first record of a chain with a text, and where a reference leads by it.
-use Prim.Native.Nat.{ℕ, suc, _-_, _<_}
+use Prim.Native.Nat.{ℕ, _-_}
 use mathlib.Core.Path.{_≡_, refl, sym, ap, _∙_}
-use mathlib.Core.Bool.{Bool, true, false, cond}
+use mathlib.Core.Bool.{Bool, true, false}
 use mathlib.Core.List.{List, [], _∷_, _++_, map, append-nil, head-eq-of-cons-eq, tail-eq-of-cons-eq}
 use mathlib.Core.Option.{some, none}
 use native.Mathlib.Omega.{arith}
 use borrow.Author.Tests.{eqb-true, eqb-false}
 use lib.Dec.{eqb}
 use lib.Seq.{append-snoc}
-use Rattle.paths_numbers.specs.meaning.Text.{same, isEmpty}
+use Rattle.paths_numbers.specs.meaning.Text.{isEmpty}
 use Rattle.paths_numbers.specs.meaning.Path.{join, joined, withUnit}
 use Rattle.paths_numbers.proofs.Texts.{by-test, not-both, same-true, same-refl}
 use Rattle.log.specs.meaning.Contents.{Def, Binding, Span}
-use Rattle.log.specs.meaning.Record.{nextOf, firstText, secondText, leads, logCount}
-use Rattle.log.specs.meaning.ReadBack.{chainFrom, chainOf, bindingAt, defAt, readBindings, readDefs}
+use Rattle.log.specs.meaning.Record.{nextOf, firstText, secondText, logCount}
+use Rattle.log.specs.meaning.ReadBack.{chainFrom, chainOf, bindingAt, readBindings, readDefs}
 use Rattle.making.specs.machine.Represents.{lastNumber, Context, Represents, Steps}
 use Rattle.paths_numbers.specs.meaning.Lists.{any}
 use Rattle.paths_numbers.proofs.Lists.{any-append as any-both, any-head, any-back}

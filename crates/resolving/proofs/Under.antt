@@ -1,16 +1,14 @@
 -- What functions of lowering do under a path, for which a place stands.
-use Prim.Native.Nat.{ℕ, _+_, _≤_}
-use mathlib.Core.Path.{_≡_, refl, sym, ap, subst, _∙_}
-use mathlib.Core.Bool.{Bool, true, false}
-use mathlib.Core.List.{List, [], _∷_, _++_, append-nil, append-assoc}
+use Prim.Native.Nat.{ℕ, _+_}
+use mathlib.Core.Path.{_≡_, refl, subst}
+use mathlib.Core.List.{List, [], append-nil}
 use native.Mathlib.Omega.{arith}
 use Rattle.paths_numbers.proofs.Texts.{by-test}
 use Rattle.making.specs.declared.ctx.LowerCtx.{LowerCtx}
 use Rattle.making.specs.declared.place.PathAt.{PathAt}
-use Rattle.log.specs.meaning.Contents.{Diag}
 use Rattle.making.specs.machine.PathPlaces.{pathIn}
 use Rattle.making.specs.meaning.State.{State, emit, diagsBytes}
-use Rattle.making.specs.machine.Represents.{Context, withPlace, Represents, Steps}
+use Rattle.making.specs.machine.Represents.{withPlace, Represents, Steps}
 use Rattle.making.proofs.InHand.{place-reads}
 use Rattle.resolving.specs.machine.Lowers.{Lowers, LowersAt}
 use Rattle.resolving.proofs.Lowers.{Grows, stays-over}

@@ -1,7 +1,7 @@
 -- A definition that is no directive, once made, stays in the log in hand; and after it directive order is settled.
 use Prim.Native.Nat.{ℕ}
-use mathlib.Core.Path.{_≡_, refl, sym, ap, _∙_}
-use mathlib.Core.Bool.{Bool, true, false, not, cond}
+use mathlib.Core.Path.{_≡_, refl}
+use mathlib.Core.Bool.{true, false, not}
 use mathlib.Core.List.{List, [], _∷_, _++_}
 use mathlib.Core.Option.{Option, some, none}
 use lib.Dec.{eqb}
@@ -16,18 +16,16 @@ use Rattle.paths_numbers.proofs.Lists.{any-front, any-back, any-head}
 use Rattle.queries.proofs.Gap.{isDirective, Within, none as no-defs, next as one-def}
 use Rattle.input.specs.meaning.Tree.{Tree, Trees, tree, empty, more, firstOf, nodeKind, propertyKind, directiveKind, preprocessorKind}
 use Rattle.input.specs.meaning.Tree.{nameKind, referenceKind}
-use Rattle.input.specs.meaning.Report.{Got, Made, report}
-use Rattle.input.specs.meaning.Name.{fullName, labelsOf}
+use Rattle.input.specs.meaning.Name.{fullName}
 use Rattle.input.specs.meaning.Phandle.{lowerPhandle}
 use Rattle.resolving.specs.meaning.Resolve.{Resolution, reaches, missing, resolve}
-use Rattle.input.specs.meaning.Property.{lowerValues}
 use Rattle.making.specs.meaning.State.{State, define, bind, emit, apart, dropped, extended}
 use Rattle.items.specs.meaning.Unbind.{unbind}
-use Rattle.items.specs.meaning.Lower.{Place, at, aside, discarded, nowhere, Placed, placeOf, nodeDef, opened, settled, lowerPlaced}
-use Rattle.items.specs.meaning.Lower.{lowerNode, namedProperty, lowerProperty, bare, deleteNode, deleteResolved, deleteTarget}
+use Rattle.items.specs.meaning.Lower.{Place, at, aside, discarded, nowhere, placeOf, nodeDef, opened, settled, lowerPlaced}
+use Rattle.items.specs.meaning.Lower.{lowerNode, namedProperty, lowerProperty, deleteNode, deleteResolved, deleteTarget}
 use Rattle.items.specs.meaning.Lower.{deleteReferenced, deleteNamed, lowerDeleteNode, deletePropertyNamed, lowerDirective, lowerAs}
 use Rattle.items.specs.meaning.Lower.{lowerItem, lowerItems}
-use Rattle.post_checks.specs.meaning.Post.{Headers, atFirst, defined, nextHeaders, headerReport, directivesFrom, checkDirectives}
+use Rattle.post_checks.specs.meaning.Post.{Headers, defined, nextHeaders, headerReport, directivesFrom}
 
 -- a definition that is no directive is in the log in hand
 abbrev pub Defined : State → Type 0

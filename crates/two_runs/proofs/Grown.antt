@@ -1,8 +1,8 @@
 -- What the new subnode adds to the state: definitions at or under its path, and bindings that its live nodes stand for, which its deletion
 -- takes away.
 use Prim.Native.Nat.{ℕ}
-use mathlib.Core.Path.{_≡_, refl, sym, ap, _∙_}
-use mathlib.Core.Bool.{Bool, true, false, not, cond}
+use mathlib.Core.Path.{_≡_, refl, sym, _∙_}
+use mathlib.Core.Bool.{Bool, true, false, cond}
 use mathlib.Core.List.{List, [], _∷_, _++_, append-assoc, append-nil}
 use mathlib.Core.Option.{Option, some, none}
 use lib.Dec.{eqb}
@@ -10,12 +10,12 @@ use Rattle.paths_numbers.specs.meaning.Text.{same}
 use Rattle.paths_numbers.specs.meaning.Path.{atOrUnder}
 use Rattle.paths_numbers.proofs.Texts.{by-test, not-both, is-false, same-refl}
 use Rattle.paths_numbers.proofs.Under.{under-trans, under-refl}
-use Rattle.log.specs.meaning.Contents.{Span, DefValue, node, deletedNode, Def, Ext, Binding, Diag}
+use Rattle.log.specs.meaning.Contents.{Span, node, deletedNode, Def, Binding, Diag}
 use Rattle.queries.specs.meaning.Kind.{isDeletedNode}
 use Rattle.paths_numbers.specs.meaning.Lists.{any}
 use Rattle.queries.specs.meaning.Live.{deletes, live}
 use Rattle.queries.proofs.Gap.{isDirective, Within, none as no-defs, next as one-def, within-append}
-use Rattle.input.specs.meaning.Tree.{Tree, Trees, empty, more, kindOf, spanOf, childrenOf, labelKind}
+use Rattle.input.specs.meaning.Tree.{Tree, Trees, empty, more, kindOf, childrenOf, labelKind}
 use Rattle.input.specs.meaning.Report.{Got, Made, andThen}
 use Rattle.input.specs.meaning.Name.{nameOrMacro, labelled, labelsOf}
 use Rattle.making.specs.meaning.State.{State, define, bind, emit}

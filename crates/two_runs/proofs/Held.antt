@@ -1,19 +1,18 @@
 -- Bindings that a live node of the log stands for: a node with the label at the path, and no later deletion at or above it.
 use Prim.Native.Nat.{ℕ}
-use mathlib.Core.Path.{_≡_, refl, sym, ap, _∙_}
+use mathlib.Core.Path.{_≡_, refl, _∙_}
 use mathlib.Core.Bool.{Bool, true, false, not, cond}
 use mathlib.Core.List.{List, [], _∷_, _++_}
 use Rattle.paths_numbers.specs.meaning.Text.{same}
 use Rattle.paths_numbers.specs.meaning.Path.{atOrUnder}
-use Rattle.paths_numbers.proofs.Texts.{by-test, not-both, is-false, both, same-true, same-refl}
-use Rattle.paths_numbers.proofs.Under.{under-trans}
+use Rattle.paths_numbers.proofs.Texts.{by-test, not-both, both, same-true}
 use Rattle.log.specs.meaning.Contents.{DefValue, node, property, deletedNode, deletedProperty, version, plugin, Def, Binding}
-use Rattle.queries.specs.meaning.Kind.{isProperty, isDeletedNode, isDeletion}
+use Rattle.queries.specs.meaning.Kind.{isProperty, isDeletion}
 use Rattle.paths_numbers.specs.meaning.Lists.{any}
-use Rattle.queries.specs.meaning.Live.{deletes, overwrites, gone, isLive, live}
+use Rattle.queries.specs.meaning.Live.{deletes, gone, isLive, live}
 use Rattle.paths_numbers.proofs.Lists.{any-append}
 use Rattle.queries.specs.meaning.Labels.{labelsIn}
-use Rattle.items.specs.meaning.Unbind.{bindsLabelOf, without}
+use Rattle.items.specs.meaning.Unbind.{bindsLabelOf}
 
 -- whether the list holds such a node
 unfoldable pub held : Binding → List Def → Bool

@@ -1,28 +1,27 @@
 -- The new subnode grows the state under its path, and with its deletion leaves a gap in the log and nothing else.
 use Prim.Native.Nat.{ℕ}
-use mathlib.Core.Path.{_≡_, refl, sym, ap, _∙_}
-use mathlib.Core.Bool.{Bool, true, false, not, cond}
+use mathlib.Core.Path.{_≡_, refl, sym}
+use mathlib.Core.Bool.{true, false, not}
 use mathlib.Core.List.{List, [], _∷_, _++_, append-assoc, append-nil}
 use mathlib.Core.Option.{Option, some, none}
 use borrow.Author.Tests.{eq-eqb, not-true}
 use lib.Dec.{eqb}
-use Rattle.paths_numbers.specs.meaning.Text.{same, isEmpty}
-use Rattle.paths_numbers.specs.meaning.Path.{root, join, atOrUnder}
+use Rattle.paths_numbers.specs.meaning.Text.{isEmpty}
+use Rattle.paths_numbers.specs.meaning.Path.{join, atOrUnder}
 use Rattle.paths_numbers.proofs.Texts.{by-test, not-both, both, cond-in}
 use Rattle.paths_numbers.proofs.Under.{under-refl}
-use Rattle.log.specs.meaning.Contents.{Span, Def, DefValue, deletedNode, deletedProperty, property, Binding, Diag}
+use Rattle.log.specs.meaning.Contents.{Span, Def, deletedNode, Binding}
 use Rattle.paths_numbers.specs.meaning.Lists.{any}
 use Rattle.queries.specs.meaning.Live.{live}
 use Rattle.queries.proofs.Gap.{isDirective, Gap}
-use Rattle.input.specs.meaning.Tree.{Tree, Trees, tree, empty, more, kindOf, textOf, wOf, spanOf, childrenOf, firstOf, has, nodeKind}
+use Rattle.input.specs.meaning.Tree.{Tree, Trees, tree, empty, more, kindOf, wOf, spanOf, childrenOf, firstOf, has, nodeKind}
 use Rattle.input.specs.meaning.Tree.{propertyKind, directiveKind, preprocessorKind, nameKind, referenceKind}
-use Rattle.input.specs.meaning.Report.{Got, Made, report}
-use Rattle.input.specs.meaning.Name.{fullName, nodeNameSpan}
+use Rattle.input.specs.meaning.Name.{fullName}
 use Rattle.input.specs.meaning.Property.{lowerValues}
 use Rattle.making.specs.meaning.State.{State, define, emit}
 use Rattle.items.specs.meaning.Unbind.{unbind}
-use Rattle.items.specs.meaning.Lower.{Place, at, Placed, placedAs, byName, byParts, placeOf, opened, lowerPlaced, lowerNode, namedProperty}
-use Rattle.items.specs.meaning.Lower.{lowerProperty, bare, deleteNode, deleteReferenced, deleteNamed, lowerDeleteNode, deletePropertyNamed}
+use Rattle.items.specs.meaning.Lower.{at, placeOf, opened, lowerNode, namedProperty}
+use Rattle.items.specs.meaning.Lower.{lowerProperty, bare, deleteNode, deleteNamed, lowerDeleteNode, deletePropertyNamed}
 use Rattle.items.specs.meaning.Lower.{lowerDirective, lowerAs, lowerItem, lowerItems}
 use Rattle.two_runs.specs.meaning.TwoRuns.{plainName, quietDirective, quiet, quietIn, Names, Pair}
 use Rattle.input.specs.meaning.GoodName.{goodNames, goodNamesIn}

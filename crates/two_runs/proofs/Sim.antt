@@ -1,7 +1,7 @@
 -- Two runs that differ in a gap of the log in hand, or only in row 7's counts, stay so: lowering asks the log for nothing but live lists
 -- and whether it is an overlay.
 use Prim.Native.Nat.{ℕ}
-use mathlib.Core.Path.{_≡_, refl, sym, ap, _∙_}
+use mathlib.Core.Path.{_≡_, refl, ap, _∙_}
 use mathlib.Core.Bool.{Bool, true, false, cond}
 use mathlib.Core.List.{List, [], _∷_, _++_}
 use mathlib.Core.Option.{Option, some, none}
@@ -9,20 +9,20 @@ use lib.Dec.{eqb}
 use Rattle.paths_numbers.specs.meaning.Text.{isEmpty}
 use Rattle.paths_numbers.specs.meaning.Path.{root, join}
 use Rattle.paths_numbers.specs.meaning.Reference.{Target, label, labelPath, path, unreadable}
-use Rattle.log.specs.meaning.Contents.{Span, Def, DefValue, deletedNode, deletedProperty, version, plugin, Ext, Binding, Diag}
+use Rattle.log.specs.meaning.Contents.{Span, Def, deletedNode, version, plugin, Binding, Diag}
 use Rattle.queries.specs.meaning.Kind.{setsOverlay}
 use Rattle.queries.specs.meaning.Live.{live, containsNode}
 use Rattle.queries.proofs.Gap.{Gap, gap-live, gap-overlay, gap-contains, gap-more}
-use Rattle.input.specs.meaning.Tree.{Tree, Trees, tree, empty, more, textOf, spanOf, firstOf, has, nodeKind, propertyKind, directiveKind}
+use Rattle.input.specs.meaning.Tree.{Tree, Trees, tree, empty, more, firstOf, nodeKind, propertyKind, directiveKind}
 use Rattle.input.specs.meaning.Tree.{preprocessorKind, nameKind, referenceKind}
-use Rattle.input.specs.meaning.Report.{Got, Made, report}
+use Rattle.input.specs.meaning.Report.{report}
 use Rattle.input.specs.meaning.Name.{fullName, nodeNameSpan, labelsOf}
 use Rattle.input.specs.meaning.Phandle.{lowerPhandle}
 use Rattle.resolving.specs.meaning.Resolve.{firstBinding, Resolution, reaches, missing, liveAt, belowLabel, resolve, unresolved}
 use Rattle.input.specs.meaning.Property.{lowerValues}
 use Rattle.making.specs.meaning.State.{State, define, bind, emit, apart, dropped, extended}
 use Rattle.items.specs.meaning.Unbind.{without, unbind}
-use Rattle.items.specs.meaning.Lower.{Place, at, aside, discarded, nowhere, Placed, byResolution, byTarget, byName, byParts, placeOf}
+use Rattle.items.specs.meaning.Lower.{Place, at, aside, discarded, nowhere, byResolution, byTarget, byParts, placeOf}
 use Rattle.items.specs.meaning.Lower.{nodeDef, opened, settled, lowerPlaced, lowerNode, namedProperty, lowerProperty, bare, deleteNode}
 use Rattle.items.specs.meaning.Lower.{deleteResolved, deleteTarget, deleteReferenced, deleteNamed, lowerDeleteNode, deletePropertyNamed}
 use Rattle.items.specs.meaning.Lower.{lowerDirective, lowerAs, lowerItem, lowerItems}

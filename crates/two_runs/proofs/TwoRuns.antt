@@ -1,25 +1,24 @@
 -- The two-run theorem over trees and states: a new subnode and its deletion, anywhere in a body that enters the main log, leave all that is
 -- read alike.
 use Prim.Native.Nat.{ℕ}
-use mathlib.Core.Path.{_≡_, refl, sym, ap, _∙_}
-use mathlib.Core.Bool.{Bool, true, false, not, cond}
-use mathlib.Core.List.{List, [], _∷_, _++_}
+use mathlib.Core.Path.{_≡_, refl, sym, ap}
+use mathlib.Core.Bool.{Bool, true, false, cond}
+use mathlib.Core.List.{List, [], _∷_}
 use Rattle.paths_numbers.specs.meaning.Text.{isEmpty}
 use Rattle.paths_numbers.specs.meaning.Path.{atOrUnder}
 use Rattle.paths_numbers.specs.meaning.Reference.{Target}
-use Rattle.paths_numbers.proofs.Texts.{by-test, not-both, both}
+use Rattle.paths_numbers.proofs.Texts.{not-both, both}
 use Rattle.log.specs.meaning.Contents.{Span, Cell, number, reference, Value, string, cellList, bytestring, phandle, DefValue, node}
 use Rattle.log.specs.meaning.Contents.{property, deletedNode, deletedProperty, version, plugin, Def, Diag}
 use Rattle.queries.specs.meaning.Kind.{setsOverlay}
-use Rattle.paths_numbers.specs.meaning.Lists.{any}
 use Rattle.queries.specs.meaning.Live.{live}
 use Rattle.queries.specs.meaning.History.{history}
 use Rattle.queries.proofs.Gap.{gap-within, gap-history}
-use Rattle.input.specs.meaning.Tree.{Tree, Trees, tree, empty, more, nodeKind}
-use Rattle.making.specs.meaning.State.{State, start, emit}
+use Rattle.input.specs.meaning.Tree.{Trees, tree, nodeKind}
+use Rattle.making.specs.meaning.State.{State, emit}
 use Rattle.items.specs.meaning.Lower.{at, nowhere, placeOf, opened, lowerNode, lowerItem, lowerItems, lowered}
-use Rattle.post_checks.specs.meaning.Post.{atFirst, duplicateLabels, referenceReport, checkTarget, checkCell, checkCells, checkValue}
-use Rattle.post_checks.specs.meaning.Post.{checkValues, checkDef, checkDefs, checkReferences, directivesFrom, checkDirectives, postChecks}
+use Rattle.post_checks.specs.meaning.Post.{atFirst, referenceReport, checkTarget, checkCell, checkCells, checkValue}
+use Rattle.post_checks.specs.meaning.Post.{checkValues, checkDef, checkDefs, checkReferences, checkDirectives, postChecks}
 use Rattle.two_runs.specs.meaning.TwoRuns.{Inserted, here, after, within, unlowered, Alike, TwoRuns}
 use Rattle.input.specs.meaning.GoodName.{goodNames, goodNamesIn}
 use Rattle.two_runs.proofs.Sim.{Sim, Like, equal, gap, like-live, like-overlay, sim-refl, same-resolve, keeps}

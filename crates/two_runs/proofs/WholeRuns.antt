@@ -1,19 +1,17 @@
 -- Demand 3 from what lowering answers and leaves: an accepted run writes what its description lowers to, so the theorem over trees decides.
-use Prim.Native.Nat.{ℕ, _≤_}
+use Prim.Native.Nat.{ℕ}
 use mathlib.Core.Path.{_≡_, refl, sym, ap, _∙_}
 use mathlib.Core.Bool.{Bool, true, false, cond}
 use mathlib.Core.List.{List, [], _∷_, _++_, map}
-use mathlib.Core.Option.{Option, some, none}
 use native.Mathlib.Omega.{arith}
-use Rattle.paths_numbers.proofs.Texts.{by-test}
 use Rattle.paths_numbers.specs.meaning.Text.{same}
 use Rattle.paths_numbers.specs.meaning.Path.{atOrUnder}
-use Rattle.log.specs.meaning.Contents.{Def, Ext, Binding, Diag}
+use Rattle.log.specs.meaning.Contents.{Def}
 use Rattle.log.specs.meaning.Record.{firstDef, firstExt, firstBind, firstDiag, firstPost}
 use Rattle.log.specs.meaning.ReadBack.{Log, chainOf, defAt, extAt, bindingAt, diagAt, readLog, readDefs, readExts, readBindings, readDiags}
 use Rattle.log.specs.meaning.Sound.{Place, definitions}
 use Rattle.log.specs.meaning.Written.{Written}
-use Rattle.log.specs.meaning.Alike.{AlikeWords, AlikeAll, AlikeDef, AlikeExt}
+use Rattle.log.specs.meaning.Alike.{AlikeAll, AlikeDef}
 use Rattle.log.proofs.Reached.{defs, exts, binds, diags, post}
 use Rattle.log.proofs.Places.{head-stands}
 use Rattle.log.proofs.Chains.{head-starts, chain-list}
@@ -23,11 +21,10 @@ use Rattle.queries.specs.meaning.Live.{live, isLive, deletes}
 use Rattle.queries.specs.meaning.History.{historyFrom, history, definedBy}
 use Rattle.queries.specs.meaning.Query.{liveNumbers, historyNumbers, mainChain, liveAnswers, historyAnswers}
 use Rattle.log.specs.meaning.Answer.{Answered}
-use Rattle.making.specs.meaning.State.{State, start}
+use Rattle.making.specs.meaning.State.{start}
 use Rattle.items.specs.meaning.Lower.{lowered}
-use Rattle.post_checks.specs.meaning.Post.{postChecks}
 use Rattle.input.specs.meaning.Input.{description}
-use Rattle.input.specs.meaning.Rows.{Verdict, accepted, refused, orElse, verdict, wrongSize, rowTwo, rowThree, rowFour, rowFive, rowSix}
+use Rattle.input.specs.meaning.Rows.{accepted, verdict}
 use Rattle.lowering.specs.meaning.Lowered.{logOf, recordsMade, bytesMade, meaning, Lowered, turnedDown, short, done}
 use Rattle.two_runs.specs.meaning.TwoRuns.{Inserted, Alike, TwoRuns}
 use Rattle.two_runs.specs.meaning.WholeRuns.{Run, AcceptedRun, AlikeRuns, WholeRuns}

@@ -1,4 +1,5 @@
 // What the crate paths_numbers answers to a case.
+use crate::field::FIELD;
 use crate::field::first;
 use paths_numbers::dt_node;
 use paths_numbers::dt_property;
@@ -65,7 +66,7 @@ fn strip(path: &[u8], base: &[u8]) {
 
 // The path of a parent and a name.
 fn join(parent: &[u8], name: &[u8]) {
-    let mut out = [0u8; 600];
+    let mut out = [0u8; 2 * FIELD + 1];
     let none = &name[name.len()..];
     let built = dt_node::build_path(parent, name, none, &mut out, 0);
     if let dt_node::Built::Bytes(n) = built {
@@ -76,7 +77,7 @@ fn join(parent: &[u8], name: &[u8]) {
 
 // The bytes of a bytestring in hex digits.
 fn bytes(text: &[u8]) {
-    let mut out = [0u8; 256];
+    let mut out = [0u8; FIELD];
     let written = dt_property::lower_bytestring(text, &mut out, 0);
     match written {
         dt_property::BytesWritten::Bytes(n) => {

@@ -2,6 +2,9 @@
 ghost use Prim.Native.Nat.{_+_, _≤_, _<_};
 ghost use lib.ListN.{length};
 
+// The longest field that is read.
+pub const FIELD: usize = 256;
+
 // The index of the first `b` from `from` on, the length where there is none.
 pub fn end_of(s: &[u8], from: usize, b: u8) -> usize
     requires { ⌜ from ≤ length (now s) ⌝ }

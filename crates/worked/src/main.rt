@@ -3,6 +3,7 @@
 mod answer;
 mod field;
 
+use field::FIELD;
 use field::first;
 
 fn main() {
@@ -25,9 +26,9 @@ fn print_lines(text: &[u8]) {
 fn print_case(line: &[u8]) {
     io::write_all(1, line);
     io::write_all(1, b"\t");
-    let mut a = [0u8; 256];
-    let mut b = [0u8; 256];
-    let mut c = [0u8; 256];
+    let mut a = [0u8; FIELD];
+    let mut b = [0u8; FIELD];
+    let mut c = [0u8; FIELD];
     let k = field::unescape(field::field(line, 1), &mut a);
     let m = field::unescape(field::field(line, 2), &mut b);
     let n = field::unescape(field::field(line, 3), &mut c);

@@ -8,7 +8,7 @@ use Rattle.paths_numbers.specs.meaning.Number.{unsignedNumber, unsigned, digits
 use Rattle.paths_numbers.specs.meaning.Cell.{sizeOf}
 use Rattle.log.specs.meaning.Contents.{Span, number, cellList}
 use Rattle.input.specs.meaning.Tree.{Trees, tree, empty, more}
-use Rattle.input.specs.meaning.Report.{report, Made}
+use Rattle.input.specs.meaning.Report.{report}
 use Rattle.input.specs.meaning.Property.{lowerValues, lowerValue, lowerCells, lowerCell}
 
 abbrev span : ℕ → ℕ → Span

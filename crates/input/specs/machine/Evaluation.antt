@@ -8,7 +8,8 @@ use lib.IntN.{ℤ}
 use Rattle.paths_numbers.specs.meaning.Expression.{andOp, orOp, isTrue}
 use Rattle.input.specs.meaning.Report.{undefinedMacro}
 use Rattle.input.specs.meaning.Expr.{Outcome, value, fails, missing, failsWith}
-use Rattle.input.specs.meaning.Input.{spanAt, recordAt}
+use Rattle.input.specs.meaning.Input.{spanAt}
+use Rattle.input.specs.machine.At.{recordAt}
 use Rattle.input.specs.declared.expr_eval.Evaluation.{Evaluation}
 use Rattle.input.specs.declared.expr_eval.Evaluation.the-variants as E
 

@@ -3,8 +3,9 @@
 use Prim.Native.Nat.{ℕ, _≤_, _<_}
 use mathlib.Core.Path.{_≡_}
 use mathlib.Core.List.{List}
-use Rattle.input.specs.meaning.Input.{recordCount, nextAt, childAt, secondAt, chainAt, recordAt}
-use Rattle.input.specs.meaning.Place.{depthOf, depthsOf}
+use Rattle.input.specs.meaning.Input.{recordCount, nextAt, childAt, secondAt, chainAt}
+use Rattle.input.specs.machine.At.{recordAt}
+use Rattle.input.specs.machine.Fits.{depthOf, depthsOf}
 
 -- a link l of record r is 0, or leads above r and to a record that there is
 pub record Link (words : List ℕ) (r l : ℕ) : Type 0 where

@@ -7,7 +7,8 @@ use mathlib.Core.Option.{Option, some, none}
 use Rattle.paths_numbers.specs.meaning.Text.{isEmpty}
 use Rattle.input.specs.meaning.Report.{Got, found, failed, undefinedMacro}
 use Rattle.input.specs.meaning.Name.{withAddress, fullName}
-use Rattle.input.specs.meaning.Input.{textAt, chainAt, recordAt}
+use Rattle.input.specs.meaning.Input.{textAt, chainAt}
+use Rattle.input.specs.machine.At.{recordAt}
 use Rattle.input.specs.meaning.GoodName.{goodNamesIn}
 use Rattle.input.specs.declared.name.NameOrMacro.{NameOrMacro}
 use Rattle.input.specs.declared.name.NameOrMacro.the-variants.{Name, Macro, Nothing}

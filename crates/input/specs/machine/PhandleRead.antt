@@ -4,11 +4,10 @@ use mathlib.Core.Bool.{cond}
 use mathlib.Core.List.{List, [], _∷_}
 use lib.Dec.{eqb}
 use Rattle.paths_numbers.specs.meaning.Reference.{Target, label, labelPath, path, target, labelOf, pathOf}
-use Rattle.paths_numbers.specs.declared.phandle.MirPhandleTarget.{MirPhandleTarget}
-use Rattle.paths_numbers.specs.declared.phandle.MirPhandleTarget.the-variants as K
 use Rattle.input.specs.meaning.Place.{rawReference}
 use Rattle.input.specs.meaning.Report.{Got, found, failed, undefinedMacro}
-use Rattle.input.specs.meaning.Input.{numberAt, textAt, recordAt}
+use Rattle.input.specs.meaning.Input.{numberAt, textAt}
+use Rattle.input.specs.machine.At.{recordAt}
 use Rattle.input.specs.declared.phandle.PhandleRead.{PhandleRead}
 use Rattle.input.specs.declared.phandle.PhandleRead.the-variants.{Macro, Label, LabelPath, Path, Unreadable}
 
@@ -31,9 +30,6 @@ targetOf words text l p Unreadable = failed []
 unfoldable pub phandleRead : List ℕ → List ℕ → ℕ → PhandleRead → Got Target
 phandleRead words text r k = targetOf words text (labelAt words text r) (pathAt words text r) k
 
--- the kinds of what a raw reference names
-abbrev pub readAs : MirPhandleTarget → PhandleRead
-readAs K.Label = Label
-readAs K.LabelPath = LabelPath
-readAs K.Path = Path
-readAs K.Unreadable = Unreadable
+-- what a raw reference names, by 01's N
+abbrev pub readAs : ℕ → PhandleRead
+readAs n = cond (eqb n 1) Label (cond (eqb n 2) LabelPath (cond (eqb n 3) Path Unreadable))

@@ -6,7 +6,8 @@ use mathlib.Core.List.{List}
 use mathlib.Core.Option.{Option, some, none}
 use lib.Dec.{eqb}
 use Rattle.input.specs.meaning.Tree.{Tree, firstOf}
-use Rattle.input.specs.meaning.Input.{kindAt, nextAt, chainAt, recordAt}
+use Rattle.input.specs.meaning.Input.{kindAt, nextAt, chainAt}
+use Rattle.input.specs.machine.At.{recordAt}
 use Rattle.input.specs.machine.Linked.{At}
 
 -- the record behind r in its chain, 0 behind none

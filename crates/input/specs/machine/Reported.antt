@@ -3,7 +3,8 @@ use Prim.Native.Nat.{ℕ}
 use mathlib.Core.List.{List, [], _∷_}
 use Rattle.log.specs.meaning.Contents.{Diag}
 use Rattle.input.specs.meaning.Report.{report, undefinedMacro}
-use Rattle.input.specs.meaning.Input.{spanAt, recordAt}
+use Rattle.input.specs.meaning.Input.{spanAt}
+use Rattle.input.specs.machine.At.{recordAt}
 use Rattle.input.specs.declared.report.Report.{Report}
 use Rattle.input.specs.declared.report.Report.the-variants as R
 

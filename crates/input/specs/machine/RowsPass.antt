@@ -13,6 +13,13 @@ use Rattle.input.specs.meaning.Place.{macros, noPlace, childPlace, secon
 use Rattle.input.specs.meaning.Rows.{Verdict, accepted, linkedBelow, badText, rowThree, Visit, unfit, badHead, rowFour, badName}
 use Rattle.input.specs.meaning.Rows.{rowFive, tooDeep, rowSix, orElse, lowest}
 use Rattle.input.specs.machine.Rising.{visit, known}
+use Rattle.input.specs.declared.refusal.Found.{Found}
+use Rattle.input.specs.declared.refusal.Found.the-variants.{Nothing, Record}
+
+-- what a search for a record found
+abbrev pub foundIn : Found → Option ℕ
+foundIn Nothing = none
+foundIn (Record r) = some r
 
 -- where a record stands, by number
 abbrev pub numberOf : InputPlace → ℕ

@@ -3,7 +3,7 @@ use Prim.Native.Nat.{ℕ}
 use mathlib.Core.Bool.{cond}
 use mathlib.Core.List.{List, []}
 use Rattle.paths_numbers.specs.meaning.Bytestring.{isOdd, bytesOf}
-use Rattle.paths_numbers.specs.declared.dt_property.SizeRead.the-variants.{Size}
+use Rattle.paths_numbers.specs.meaning.Reading as R
 use Rattle.paths_numbers.specs.meaning.Reference.{Target}
 use Rattle.log.specs.meaning.Contents.{Cell, number, reference, Value, string, bytestring, phandle}
 use Rattle.log.specs.machine.Parts.{targetMade}
@@ -42,5 +42,5 @@ module _ (words text : List ℕ) (r : ℕ) where
   -- a value at record r
   abbrev pub valueMade : ValueRead → Made Value
   valueMade (Read.Plain v) = plainMade v
-  valueMade (Read.CellList size) = sizedList (spanAt words r) (partsAt words text r) (Size size)
+  valueMade (Read.CellList size) = sizedList (spanAt words r) (partsAt words text r) (R.value size)
   valueMade (Read.Failed d) = nothing (reportsOf words text d)

@@ -1,16 +1,14 @@
 -- 01, "Numbers": the value of an expression (eval), from its operators' definitions.
 use Prim.Native.Nat.{ℕ}
-use mathlib.Core.Bool.{Bool, true, false, cond}
+use mathlib.Core.Bool.{cond}
 use mathlib.Core.List.{List, [], _∷_}
 use lib.Dec.{eqb}
 use lib.IntN.{ℤ, pos}
 use Rattle.paths_numbers.specs.meaning.Code.{macroUndefined}
-use Rattle.paths_numbers.specs.meaning.Number.{signedNumber, intCode}
-use Rattle.paths_numbers.specs.meaning.Expression.{andOp, orOp, conditionalOp, evalPrefix, evalInfix, evalCode, isTrue, ofTruth}
-use Rattle.paths_numbers.specs.declared.expr_eval.ParsedI64.{ParsedI64}
-use Rattle.paths_numbers.specs.declared.expr_eval.ParsedI64.the-variants as I
-use Rattle.paths_numbers.specs.declared.operators.Evaluated.{Evaluated}
-use Rattle.paths_numbers.specs.declared.operators.Evaluated.the-variants.{Value, Outside, ZeroDivisor, ShiftAmount, Missing}
+use Rattle.paths_numbers.specs.meaning.Reading.{Reading, noCode}
+use Rattle.paths_numbers.specs.meaning.Reading as R
+use Rattle.paths_numbers.specs.meaning.Number.{signedNumber}
+use Rattle.paths_numbers.specs.meaning.Expression.{andOp, orOp, conditionalOp, evalPrefix, evalInfix, isTrue, ofTruth}
 use Rattle.log.specs.meaning.Contents.{Span, Diag}
 use Rattle.input.specs.meaning.Tree.{Tree, Trees, tree, empty, more, macroKind, numberKind, characterKind, prefixKind}
 use Rattle.input.specs.meaning.Tree.{parenthesisKind, infixKind}
@@ -29,18 +27,10 @@ missing = fails []
 abbrev pub failsWith : ℕ → Span → Outcome
 failsWith code span = fails (report code [] span ∷ [])
 
--- "Codes 24 to 26 span the prefix or infix record."
-abbrev pub evaluated : Span → Evaluated → Outcome
-evaluated span (Value z) = value z
-evaluated span Outside = failsWith (evalCode Outside) span
-evaluated span ZeroDivisor = failsWith (evalCode ZeroDivisor) span
-evaluated span ShiftAmount = failsWith (evalCode ShiftAmount) span
-evaluated span Missing = missing
-
--- a number's text
-abbrev pub literal : Span → ParsedI64 → Outcome
-literal span (I.Value z) = value z
-literal span (I.Failed e) = failsWith (intCode e) span
+-- a number's text, or an operator's result: "Codes 24 to 26 span the prefix or infix record."
+abbrev pub evaluated : Span → Reading ℤ → Outcome
+evaluated span (R.value z) = value z
+evaluated span (R.fails code) = cond (eqb code noCode) missing (failsWith code span)
 
 -- the operand that an operation goes on with, where it has a value
 abbrev pub withValue : Outcome → (ℤ → Outcome) → Outcome
@@ -84,7 +74,7 @@ prefixOf op span (x ∷ l) = cond (eqb op 0) missing (withValue x (λ a. evaluat
 abbrev pub combined : ℕ → List ℕ → ℕ → Span → List Outcome → Outcome
 combined k text w span operands =
     cond (eqb k macroKind) (fails (report macroUndefined text span ∷ []))
-    (cond (eqb k numberKind) (literal span (signedNumber text))
+    (cond (eqb k numberKind) (evaluated span (signedNumber text))
     (cond (eqb k characterKind) (value (pos w))
     (cond (eqb k prefixKind) (prefixOf w span operands)
     (cond (eqb k parenthesisKind) (firstOperand operands)

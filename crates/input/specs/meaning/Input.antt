@@ -6,7 +6,7 @@ use mathlib.Core.List.{List}
 use lib.Dec.{eqb}
 use lib.ListN.{length, getD, take, drop}
 use Rattle.log.specs.meaning.Contents.{Span}
-use Rattle.input.specs.meaning.Tree.{Tree, Trees, tree, empty, more, nodeKind, propertyKind}
+use Rattle.input.specs.meaning.Tree.{Trees, tree, empty, more, nodeKind, propertyKind}
 
 -- "8 words each"
 abbrev pub recordWords : ℕ
@@ -82,16 +82,6 @@ chainAt words text r = treesAt (recordCount words) words text r
 -- items of a node or the values of a property
 abbrev pub partsAt : List ℕ → List ℕ → ℕ → Trees
 partsAt words text r = chainAt words text (childAt words r)
-
-abbrev pub contentsAt : List ℕ → List ℕ → ℕ → Trees
-contentsAt words text r = chainAt words text (secondAt words r)
-
--- the tree of record r alone
-unfoldable pub recordAt : List ℕ → List ℕ → ℕ → Tree
-recordAt words text r =
-    tree (kindAt words r) (textAt words text r) (numberAt words r) (spanAt words r)
-    (partsAt words text r)
-    (contentsAt words text r)
 
 -- "Record 0 holds only the first top item as child": the top items
 unfoldable pub description : List ℕ → List ℕ → Trees

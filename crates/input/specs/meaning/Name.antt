@@ -1,14 +1,14 @@
 -- 01, "Nodes and items": names with their unit addresses, and labels (resolve_name_or_macro, get_name_and_unit_addr, collect_labels).
 use Prim.Native.Nat.{ℕ}
-use mathlib.Core.Bool.{Bool, true, false, cond}
+use mathlib.Core.Bool.{cond}
 use mathlib.Core.List.{List, [], _∷_, _++_}
 use mathlib.Core.Option.{Option, some, none}
 use lib.Dec.{eqb, leb}
 use Rattle.paths_numbers.specs.meaning.Byte.{atSign}
-use Rattle.log.specs.meaning.Contents.{Span, Diag, Binding}
+use Rattle.log.specs.meaning.Contents.{Span, Binding}
 use Rattle.input.specs.meaning.Tree.{Tree, Trees, empty, more, kindOf, textOf, spanOf, childrenOf, firstOf, nameKind, unitAddressKind}
 use Rattle.input.specs.meaning.Tree.{labelKind, referenceKind, macroKind, slashKind}
-use Rattle.input.specs.meaning.Report.{Got, found, failed, Made, one, nothing, andThen, undefinedMacro}
+use Rattle.input.specs.meaning.Report.{Got, found, failed, Made, nothing, andThen, undefinedMacro}
 
 -- the name in a chain of parts; without one, the macro that stands there instead is reported
 abbrev pub nameOr : Option Tree → Option Tree → Got (List ℕ)

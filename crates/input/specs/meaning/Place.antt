@@ -1,13 +1,13 @@
 -- 01, "Records", input: which kinds stand where, what W may be, and how deep a record lies; and row 4's and row 6's rules of a whole tree.
-use Prim.Native.Nat.{ℕ, suc, max}
-use mathlib.Core.Bool.{Bool, true, false, not, cond}
+use Prim.Native.Nat.{ℕ}
+use mathlib.Core.Bool.{Bool, false, not, cond}
 use mathlib.Core.List.{List, [], _∷_}
 use lib.Dec.{eqb, leb}
 use Rattle.paths_numbers.specs.meaning.Expression.{conditionalOp}
 use Rattle.paths_numbers.specs.meaning.Text.{isEmpty}
 use Rattle.log.specs.meaning.Contents.{Span}
 use Rattle.paths_numbers.specs.meaning.Lists.{any}
-use Rattle.input.specs.meaning.Tree.{Tree, Trees, tree, empty, more, nodeKind, propertyKind, directiveKind, preprocessorKind}
+use Rattle.input.specs.meaning.Tree.{nodeKind, propertyKind, directiveKind, preprocessorKind}
 use Rattle.input.specs.meaning.Tree.{nameKind, unitAddressKind, labelKind, referenceKind, macroKind, slashKind, omitKind, stringKind}
 use Rattle.input.specs.meaning.Tree.{cellListKind, bytestringKind, numberKind, characterKind, expressionKind, prefixKind}
 use Rattle.input.specs.meaning.Tree.{parenthesisKind, infixKind}
@@ -104,25 +104,3 @@ wFits k w =
 -- row 4's rule of what a record says by itself: its kind in its place, its W, and no "span end before start"
 unfoldable pub fitsAlone : InputPlace → ℕ → ℕ → Span → Bool
 fitsAlone place k w span = cond (fits place k) (cond (wFits k w) (leb (span .from) (span .to)) false) false
-
--- row 4's rule of a whole tree: of each record in it; children stand where the kind above them says
-unfoldable mutual
-  pub fitsPlace : InputPlace → Tree → Bool
-  fitsPlace place (tree k text w span children second) =
-      cond (fitsAlone place k w span)
-      (cond (fitsPlaces (childPlace k) children) (fitsPlaces (secondPlace k) second) false)
-      false
-
-  pub fitsPlaces : InputPlace → Trees → Bool
-  fitsPlaces place empty = true
-  fitsPlaces place (more t ts) = cond (fitsPlace place t) (fitsPlaces place ts) false
-
--- row 6: the "child, item or value links" to the deepest record of a chain, the one that leads to the chain among them; next links count
--- none
-unfoldable mutual
-  pub depthOf : Tree → ℕ
-  depthOf (tree k text w span children second) = suc (max (depthsOf children) (depthsOf second))
-
-  pub depthsOf : Trees → ℕ
-  depthsOf empty = 0
-  depthsOf (more t ts) = max (depthOf t) (depthsOf ts)

@@ -1,18 +1,9 @@
 -- What the check of an input answers, in the words of its definition.
-use mathlib.Core.Option.{Option, some, none}
-use Prim.Native.Nat.{ℕ}
 use Rattle.input.specs.meaning.Rows.{Verdict, accepted, refused}
 use Rattle.input.specs.declared.refusal.Checked.{Checked}
 use Rattle.input.specs.declared.refusal.Checked.the-variants.{Accepted, Refused}
-use Rattle.input.specs.declared.refusal.Found.{Found}
-use Rattle.input.specs.declared.refusal.Found.the-variants.{Nothing, Record}
 
 -- no cause, or the first of 01's causes by its number with the record that it returns
 abbrev pub told : Checked → Verdict
 told Accepted = accepted
 told (Refused cause r) = refused cause r
-
--- what a search for a record found
-abbrev pub foundIn : Found → Option ℕ
-foundIn Nothing = none
-foundIn (Record r) = some r

@@ -1,7 +1,7 @@
 -- 01, "Records", input: a description as the tree that its records make from record 0, without record numbers and text starts.
 use Prim.Native.Nat.{ℕ}
 use mathlib.Core.Bool.{Bool, true, false, cond}
-use mathlib.Core.List.{List, [], _∷_}
+use mathlib.Core.List.{List}
 use mathlib.Core.Option.{Option, some, none}
 use lib.Dec.{eqb}
 use Rattle.log.specs.meaning.Contents.{Span}
@@ -31,9 +31,6 @@ spanOf (tree k t w s c v) = s
 
 abbrev pub childrenOf : Tree → Trees
 childrenOf (tree k t w s c v) = c
-
-abbrev pub secondOf : Tree → Trees
-secondOf (tree k t w s c v) = v
 
 -- "The first part of a kind counts"
 unfoldable pub firstOf : ℕ → Trees → Option Tree

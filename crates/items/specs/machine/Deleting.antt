@@ -1,7 +1,7 @@
 -- What the deletions by a reference that leads somewhere do to the log in hand.
 use Prim.Native.Nat.{ℕ}
 use mathlib.Core.Path.{_≡_}
-use mathlib.Core.Bool.{Bool, true, false, cond}
+use mathlib.Core.Bool.{Bool, true, false}
 use mathlib.Core.List.{List, []}
 use mathlib.Core.Option.{some}
 use Rattle.making.specs.declared.ctx.LowerCtx.{LowerCtx}

@@ -2,7 +2,7 @@
 use Prim.Native.Nat.{ℕ, _+_}
 use mathlib.Core.Path.{_≡_}
 use mathlib.Core.Bool.{true}
-use mathlib.Core.List.{List, [], _∷_, _++_}
+use mathlib.Core.List.{List, _++_}
 use lib.ListN.{length}
 use Rattle.making.specs.declared.ctx.LowerCtx.{LowerCtx}
 use Rattle.making.specs.declared.place.PathAt.{PathAt}

@@ -21,7 +21,6 @@ use Rattle.items.specs.meaning.Unbind.{bindsLabelOf, without, unbind}
 use Rattle.items.specs.declared.unbind.Base.{Base}
 use Rattle.items.specs.declared.unbind.Base.the-variants.{Named, Given, Bound, BoundPath}
 use Rattle.items.specs.declared.unbind.Unbound.{Unbound}
-use Rattle.items.specs.declared.unbind.Unlinked.{Unlinked}
 
 -- a path as it is read: of a name below a place, the name itself, a binding's path, or of the name below that
 unfoldable pub baseOf : ℕ → List ℕ → List ℕ → List ℕ → List ℕ → Base → List ℕ

@@ -1,6 +1,6 @@
 -- 01, "Nodes and items": lowering the items of a description (lower_item, lower_dt_node, handle_dts_directive, emit_delete_directive).
 use Prim.Native.Nat.{ℕ}
-use mathlib.Core.Bool.{Bool, true, false, cond}
+use mathlib.Core.Bool.{cond}
 use mathlib.Core.List.{List, [], _∷_, _++_}
 use mathlib.Core.Option.{Option, some, none}
 use lib.Dec.{eqb}
@@ -8,12 +8,12 @@ use Rattle.paths_numbers.specs.meaning.Code.{preprocessor, include, subnodeOuts
 use Rattle.paths_numbers.specs.meaning.Text.{same, isEmpty}
 use Rattle.paths_numbers.specs.meaning.Path.{root, join}
 use Rattle.paths_numbers.specs.meaning.Reference.{Target}
-use Rattle.log.specs.meaning.Contents.{Span, Def, DefValue, node, property, deletedNode, deletedProperty, version, plugin, Ext, Binding}
+use Rattle.log.specs.meaning.Contents.{Span, Def, DefValue, node, property, deletedNode, deletedProperty, version, plugin, Binding}
 use Rattle.log.specs.meaning.Contents.{Diag}
 use Rattle.queries.specs.meaning.Kind.{setsOverlay}
 use Rattle.input.specs.meaning.Tree.{Tree, Trees, tree, empty, more, textOf, spanOf, firstOf, has, nodeKind, propertyKind, directiveKind}
 use Rattle.input.specs.meaning.Tree.{preprocessorKind, nameKind, referenceKind, slashKind, omitKind}
-use Rattle.input.specs.meaning.Report.{Got, Made, report}
+use Rattle.input.specs.meaning.Report.{report}
 use Rattle.input.specs.meaning.Name.{fullName, nodeNameSpan, propertyNameSpan, labelsOf}
 use Rattle.input.specs.meaning.Phandle.{lowerPhandle}
 use Rattle.resolving.specs.meaning.Resolve.{Resolution, reaches, missing, resolve, unresolved}

@@ -4,8 +4,14 @@ use Prim.Native.Nat.{ℕ, _+_}
 use mathlib.Core.Bool.{cond}
 use mathlib.Core.Path.{_≡_}
 use mathlib.Core.List.{List, [], _∷_, _++_}
-use lib.Dec.{ltb}
+use lib.Dec.{eqb, ltb}
 use lib.ListN.{length, take, drop, set}
+use Rattle.log.specs.meaning.ReadBack.{Log}
+use Rattle.listing.specs.meaning.Listing.{listing, refusalLine}
+
+-- what is printed for an answer of lowering and the log that it left
+abbrev pub answerText : ℕ → ℕ → Log → List ℕ
+answerText number returned log = cond (eqb number 0) (listing log) (refusalLine number returned)
 
 pub record Page : Type 0 where
   pub bytes : List ℕ

@@ -4,7 +4,7 @@ use Prim.Native.Nat.{ℕ, zero, suc, _+_, _*_, _≤_, _<_}
 use mathlib.Core.Bool.{Bool, cond}
 use mathlib.Core.Path.{_≡_}
 use mathlib.Core.List.{List, [], _∷_}
-use lib.Dec.{eqb, ltb}
+use lib.Dec.{ltb}
 use lib.ListN.{length, getD, take, drop, replicate}
 use Rattle.log.specs.meaning.ReadBack.{Log}
 use Rattle.input.specs.meaning.Rows.{Verdict, accepted, refused, verdict, mostRecords, mostText}
@@ -58,10 +58,6 @@ outLength = 16384
 
 abbrev pub bytesLength : ℕ
 bytesLength = 65536
-
--- what is printed for an answer of lowering and the log that it left
-abbrev pub answerText : ℕ → ℕ → Log → List ℕ
-answerText number returned log = cond (eqb number 0) (listing log) (refusalLine number returned)
 
 -- what is printed of words and a text: by rows 1 to 6, by row 7, and else the log
 abbrev pub listedBy : Verdict → Bool → Log → List ℕ

@@ -1,6 +1,6 @@
 -- 01, "Records", output: what a log says, with texts as byte lists and no record numbers. The Rust's names are in mir.rs.
 use Prim.Native.Nat.{ℕ}
-use mathlib.Core.Bool.{Bool, true, false}
+use mathlib.Core.Bool.{Bool}
 use mathlib.Core.List.{List}
 use Rattle.paths_numbers.specs.meaning.Reference.{Target}
 

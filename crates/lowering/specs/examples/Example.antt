@@ -1,18 +1,17 @@
 -- 01's worked listing, computed by the checker: a version directive, and a root node with the node b, labelled a, in it.
 use Prim.Native.Nat.{ℕ}
-use mathlib.Core.Bool.{true, false}
+use mathlib.Core.Bool.{false}
 use mathlib.Core.Path.{_≡_, refl}
 use mathlib.Core.List.{List, [], _∷_}
 use Rattle.paths_numbers.specs.meaning.Text.{same, isEmpty, begins, startsWith}
 use Rattle.paths_numbers.specs.meaning.Path.{join, atOrUnder, strip}
-use Rattle.log.specs.meaning.Contents.{Span, Def, node, version, Binding}
+use Rattle.log.specs.meaning.Contents.{Span, node, version}
 use Rattle.queries.specs.meaning.Kind.{setsOverlay}
 use Rattle.paths_numbers.specs.meaning.Lists.{any}
 use Rattle.queries.specs.meaning.Live.{live, isLive, gone}
-use Rattle.input.specs.meaning.Tree.{Tree, Trees, tree, empty, more, firstOf, has}
+use Rattle.input.specs.meaning.Tree.{Trees, tree, empty, more, firstOf, has}
 use Rattle.input.specs.meaning.Name.{nameOrMacro, fullName, nodeNameSpan, labelsOf}
-use Rattle.making.specs.meaning.State.{State, define, bind, emit, bindingsBytes, diagsBytes, textsBytes}
-use Rattle.items.specs.meaning.Unbind.{without, unbind}
+use Rattle.making.specs.meaning.State.{define, bind, emit}
 use Rattle.items.specs.meaning.Lower.{lowered, lowerItem, lowerItems, lowerNode, lowerDirective, placeOf, opened, labelTexts}
 use Rattle.post_checks.specs.meaning.Post.{postChecks, checkDirectives, directivesFrom, checkReferences, checkDefs, duplicateLabels}
 use Rattle.post_checks.specs.meaning.Post.{duplicatesOf}

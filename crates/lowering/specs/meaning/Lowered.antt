@@ -2,20 +2,18 @@
 use Prim.Native.Nat.{ℕ, _+_}
 use mathlib.Core.Bool.{Bool, true, false, cond}
 use mathlib.Core.Path.{_≡_}
-use mathlib.Core.List.{List, []}
+use mathlib.Core.List.{List}
 use lib.Dec.{leb}
 use lib.ListN.{length, replicate}
-use Rattle.log.specs.meaning.Contents.{Diag}
 use Rattle.log.specs.meaning.ReadBack.{Log}
 use Rattle.log.specs.meaning.Record.{outCount, mostRecords, mostBytes}
 use Rattle.log.specs.meaning.Written.{Written}
 use Rattle.log.specs.meaning.Answer.{Answered, success, refusedRoom}
-use Rattle.input.specs.meaning.Tree.{Trees}
 use Rattle.making.specs.meaning.State.{State, diagsBytes}
 use Rattle.items.specs.meaning.Lower.{lowered}
 use Rattle.post_checks.specs.meaning.Post.{postChecks}
 use Rattle.input.specs.meaning.Input.{description}
-use Rattle.input.specs.meaning.Rows.{Verdict, accepted, refused, verdict}
+use Rattle.input.specs.meaning.Rows.{accepted, refused, verdict}
 
 -- the log of a state after the post checks
 unfoldable pub logOf : State → Log

@@ -1,12 +1,12 @@
 -- How the buffers of a log in the making stand to the records made: the relation that every operation keeps. Not what a reader must
 -- believe: what is read back follows from it (proofs/ReadLog).
-use Prim.Native.Nat.{ℕ, _+_, _*_, _-_, _^_, _≤_, _<_}
-use mathlib.Core.Bool.{Bool, true, false}
+use Prim.Native.Nat.{ℕ, _+_, _*_, _-_, _≤_, _<_}
+use mathlib.Core.Bool.{true}
 use mathlib.Core.Path.{_≡_}
-use mathlib.Core.List.{List, [], _∷_, _++_}
+use mathlib.Core.List.{List}
 use lib.ListN.{length, replicate}
 use Rattle.log.specs.meaning.Record.{logCount, mostBytes}
-use Rattle.making.specs.machine.Events.{Event, childrenOf, bytesIn, allWords, allBytes, endOf, Ordered}
+use Rattle.making.specs.machine.Events.{Event, allWords, allBytes, endOf, Ordered}
 use Rattle.making.specs.declared.ctx.Rec.{Rec}
 
 -- the record that a `Rec` with these texts is, in a chain

@@ -1,10 +1,9 @@
 -- What the records that the operations make say.
-use Prim.Native.Nat.{ℕ, _+_, _*_, _^_}
+use Prim.Native.Nat.{ℕ}
 use mathlib.Core.Path.{_≡_}
-use mathlib.Core.Bool.{Bool, true, false}
-use mathlib.Core.List.{List, [], _∷_}
-use lib.ListN.{length}
-use Rattle.paths_numbers.specs.meaning.Reference.{Target, label, labelPath, path}
+use mathlib.Core.Bool.{true, false}
+use mathlib.Core.List.{List, []}
+use Rattle.paths_numbers.specs.meaning.Reference.{label, path}
 use Rattle.making.specs.declared.ctx.LowerCtx.{LowerCtx}
 use Rattle.making.specs.declared.ctx.Rec.{Rec}
 use Rattle.log.specs.declared.parts.Span as declared
@@ -14,10 +13,9 @@ use Rattle.log.specs.declared.parts.TargetKind.{TargetKind}
 use Rattle.log.specs.declared.parts.TargetKind.the-variants as T
 use Rattle.log.specs.meaning.Contents.{Span, DefValue, node, property, deletedNode, deletedProperty, version, plugin, Def, Binding, Diag}
 use Rattle.log.specs.meaning.Contents.{bytestring}
-use Rattle.log.specs.machine.Parts.{meant, targetMade}
-use Rattle.log.specs.meaning.Record.{nodeKind, propertyKind, deletedNodeKind, deletedPropertyKind, versionKind, pluginKind, referenceKind}
-use Rattle.log.specs.meaning.Record.{extensionKind, bindingKind, diagnosticKind}
-use Rattle.making.specs.machine.Made.{Told, childLink, withPart}
+use Rattle.log.specs.machine.Parts.{meant}
+use Rattle.log.specs.meaning.Record.{nodeKind, propertyKind, deletedNodeKind, deletedPropertyKind, versionKind, pluginKind}
+use Rattle.making.specs.machine.Made.{Told}
 use Rattle.making.specs.machine.Adding.{inProperty, addValue}
 use Rattle.making.specs.machine.Represents.{StepsIn}
 use Rattle.paths_numbers.specs.meaning.Bytestring.{bytesOf, isOdd}

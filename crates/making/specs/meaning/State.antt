@@ -1,8 +1,7 @@
 -- The state of lowering: the log in hand (its definitions and extensions, in the order made), the bindings and the diagnostics, which are
 -- one list for all logs, and row 7's counts of records and bytes made.
-use Prim.Native.Nat.{ℕ, zero, suc, _+_}
+use Prim.Native.Nat.{ℕ, _+_}
 use mathlib.Core.List.{List, [], _∷_, _++_}
-use mathlib.Core.Bool.{Bool, true, false}
 use lib.ListN.{length}
 use Rattle.paths_numbers.specs.meaning.Reference.{Target, label, labelPath, path, unreadable}
 use Rattle.log.specs.meaning.Contents.{Cell, number, reference, Value, string, cellList, bytestring, phandle, DefValue, node, property}

@@ -9,11 +9,12 @@ use Rattle.paths_numbers.specs.meaning.Text.{begins, same, startsWith}
 use Rattle.paths_numbers.specs.meaning.Path.{strip, found, nothing, join}
 use Rattle.paths_numbers.specs.meaning.Lists.{any}
 use Rattle.paths_numbers.proofs.Texts.{by-test, not-both}
+use Rattle.paths_numbers.specs.meaning.Reading as R
 use Rattle.paths_numbers.specs.meaning.Number.{unsignedNumber, unsigned, signedNumber, signed, digits, behindSign, behindPrefix, baseOf}
-use Rattle.paths_numbers.specs.meaning.Number.{trimmed, isSuffix, intCode}
+use Rattle.paths_numbers.specs.meaning.Number.{trimmed, isSuffix}
 use Rattle.paths_numbers.specs.meaning.Expression.{evalInfix, quotient, shiftLeft}
-use Rattle.paths_numbers.specs.meaning.Cell.{exprCell, cellCode, largest}
-use Rattle.paths_numbers.specs.meaning.Bytestring.{countOf, countCode, nibbles, pairs}
+use Rattle.paths_numbers.specs.meaning.Cell.{exprCell, largest}
+use Rattle.paths_numbers.specs.meaning.Bytestring.{countOf, nibbles, pairs}
 use Rattle.paths_numbers.specs.meaning.Reference.{target, isBraced, innerText, inBraces, hasSlash, beforeSlash, behindSlash, labelPath}
 use Rattle.log.specs.meaning.Contents.{Def, Binding}
 use Rattle.queries.specs.meaning.Live.{containsNode}
@@ -21,11 +22,7 @@ use Rattle.input.specs.meaning.Tree.{tree, empty, more}
 use Rattle.input.specs.meaning.Report.{noSpan}
 use Rattle.input.specs.meaning.Expr.{eval, evals, value}
 use Rattle.resolving.specs.meaning.Resolve.{resolve, reaches, firstBinding}
-use Rattle.paths_numbers.specs.declared.expr_eval.IntErrorKind.the-variants.{Empty, PosOverflow}
-use Rattle.paths_numbers.specs.declared.expr_eval.ParsedInt.the-variants as Parsed
-use Rattle.paths_numbers.specs.declared.operators.Evaluated.the-variants as Evaluated
 use Rattle.paths_numbers.specs.declared.dt_property.BitsSize.the-variants.{Bits8}
-use Rattle.paths_numbers.specs.declared.dt_property.Cell.the-variants as Cell
 
 -- path "/ab", base "/a": nothing
 pub child-by-letters : strip (47 ∷ 97 ∷ 98 ∷ []) (47 ∷ 97 ∷ []) ≡ nothing
@@ -43,33 +40,27 @@ unfolding strip same begins startsWith
 root-under-empty = refl
 
 -- 8 bits: -128 gives 128
-pub smallest-in-8-bits : exprCell 8 (negsuc 127) ≡ Cell.Number 128
+pub smallest-in-8-bits : exprCell 8 (negsuc 127) ≡ R.value 128
 unfolding exprCell
 smallest-in-8-bits = refl
 
 -- -129 gives 15
-pub below-8-bits : cellCode (exprCell 8 (negsuc 128)) ≡ 15
+pub below-8-bits : exprCell 8 (negsuc 128) ≡ R.fails 15
 unfolding exprCell
 below-8-bits = refl
 
 -- "0x" gives 16
-pub prefix-alone : unsignedNumber (largest Bits8) (48 ∷ 120 ∷ []) ≡ Parsed.Failed Empty
+pub prefix-alone : unsignedNumber (largest Bits8) (48 ∷ 120 ∷ []) ≡ R.fails 16
 unfolding unsignedNumber unsigned digits behindSign behindPrefix baseOf trimmed isSuffix digitOf
 prefix-alone = refl
 
-prefix-alone-code : intCode Empty ≡ 16
-prefix-alone-code = refl
-
 -- "256" in 8 bits gives 18
-pub above-8-bits : unsignedNumber (largest Bits8) (50 ∷ 53 ∷ 54 ∷ []) ≡ Parsed.Failed PosOverflow
+pub above-8-bits : unsignedNumber (largest Bits8) (50 ∷ 53 ∷ 54 ∷ []) ≡ R.fails 18
 unfolding unsignedNumber unsigned digits behindSign behindPrefix baseOf trimmed isSuffix digitOf
 above-8-bits = refl
 
-above-8-bits-code : intCode PosOverflow ≡ 18
-above-8-bits-code = refl
-
 -- "010" gives 10
-pub leading-zero : unsignedNumber (largest Bits8) (48 ∷ 49 ∷ 48 ∷ []) ≡ Parsed.Value 10
+pub leading-zero : unsignedNumber (largest Bits8) (48 ∷ 49 ∷ 48 ∷ []) ≡ R.value 10
 unfolding unsignedNumber unsigned digits behindSign behindPrefix baseOf trimmed isSuffix digitOf
 leading-zero = refl
 
@@ -86,12 +77,12 @@ unfolding eval evals signedNumber signed digits behindSign behindPrefix baseOf t
 and-decides-early = refl
 
 -- 1 << 63 is -2^63
-pub shift-to-the-sign : evalInfix 9 (pos 1) (pos 63) ≡ Evaluated.Value (negsuc (2 ^ 63 - 1))
+pub shift-to-the-sign : evalInfix 9 (pos 1) (pos 63) ≡ R.value (negsuc (2 ^ 63 - 1))
 unfolding evalInfix shiftLeft
 shift-to-the-sign = refl
 
 -- [1 2 a] gives 11
-pub odd-digits : countCode (countOf (91 ∷ 49 ∷ 32 ∷ 50 ∷ 32 ∷ 97 ∷ 93 ∷ [])) ≡ 11
+pub odd-digits : countOf (91 ∷ 49 ∷ 32 ∷ 50 ∷ 32 ∷ 97 ∷ 93 ∷ []) ≡ R.fails 11
 unfolding countOf nibbles pairs digitOf
 odd-digits = refl
 

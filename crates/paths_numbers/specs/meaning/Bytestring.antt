@@ -1,10 +1,12 @@
 -- 01, "Values": "Bytestring: hex digits up to the first ], all else skipped; an odd count gives 11 and drops the value."
 use Prim.Native.Nat.{ℕ, _+_, _*_, _%_}
-use mathlib.Core.Bool.{Bool, true, false, cond}
+use mathlib.Core.Bool.{Bool, cond}
 use mathlib.Core.List.{List, [], _∷_}
+use mathlib.Core.Option.{Option, some, none}
 use lib.Dec.{eqb, ltb, leb}
 use lib.ListN.{length}
 use Rattle.paths_numbers.specs.meaning.Code.{oddDigits}
+use Rattle.paths_numbers.specs.meaning.Reading.{Reading, value, fails, noCode}
 use Rattle.paths_numbers.specs.meaning.Byte.{digitOf, closingBracket}
 use Rattle.paths_numbers.specs.meaning.Text.{written}
 use Rattle.paths_numbers.specs.declared.dt_property.ByteCount.{ByteCount}
@@ -32,22 +34,32 @@ bytesOf text = pairs (nibbles text)
 abbrev pub isOdd : List ℕ → Bool
 isOdd text = eqb (length (nibbles text) % 2) 1
 
+-- the diagnostic code of a bytestring that is none, and what an answer tells
+abbrev pub countCode : ByteCount → ℕ
+countCode (C.Bytes n) = noCode
+countCode C.MissingDigit = oddDigits
+
+abbrev pub countTold : ByteCount → Reading ℕ
+countTold (C.Bytes n) = value n
+countTold C.MissingDigit = fails (countCode C.MissingDigit)
+
 -- how many bytes
-unfoldable pub countOf : List ℕ → ByteCount
-countOf text = cond (isOdd text) C.MissingDigit (C.Bytes (length (bytesOf text)))
+unfoldable pub countOf : List ℕ → Reading ℕ
+countOf text = cond (isOdd text) (fails oddDigits) (value (length (bytesOf text)))
+
+-- what an answer to the writing of them tells: none where there is no room, which has no number
+abbrev pub writtenTold : BytesWritten → Option (Reading ℕ)
+writtenTold (W.Bytes n) = some (value n)
+writtenTold W.MissingDigit = some (fails (countCode C.MissingDigit))
+writtenTold W.NoRoom = none
 
 -- what writing the bytes at a place answers
-unfoldable pub bytesAnswer : List ℕ → ℕ → ℕ → BytesWritten
+unfoldable pub bytesAnswer : List ℕ → ℕ → ℕ → Option (Reading ℕ)
 bytesAnswer text room at =
-    cond (isOdd text) W.MissingDigit
-    (cond (leb (at + length (bytesOf text)) room) (W.Bytes (length (bytesOf text))) W.NoRoom)
+    cond (isOdd text) (some (fails oddDigits))
+    (cond (leb (at + length (bytesOf text)) room) (some (value (length (bytesOf text)))) none)
 
 -- and what the buffer then holds: a refusal leaves it
 unfoldable pub bytesOut : List ℕ → List ℕ → ℕ → List ℕ
 bytesOut text out at =
     cond (isOdd text) out (cond (leb (at + length (bytesOf text)) (length out)) (written out at (bytesOf text)) out)
-
--- the diagnostic code of a bytestring that is none; 0 where it is one
-abbrev pub countCode : ByteCount → ℕ
-countCode (C.Bytes n) = 0
-countCode C.MissingDigit = oddDigits

@@ -1,14 +1,13 @@
 -- 01, "Values": a cell list's width, and what an expression's result and a character are as cells of it.
 use Prim.Native.Nat.{ℕ, _-_, _%_, _^_}
-use mathlib.Core.Bool.{Bool, true, false, cond}
+use mathlib.Core.Bool.{Bool, false, cond}
 use mathlib.Core.List.{List}
 use lib.Dec.{eqb, ltb}
 use lib.IntN.{ℤ, pos, negsuc}
 use Rattle.paths_numbers.specs.meaning.Code.{widthUnsupported, characterTooLarge, cellOutside}
 use Rattle.paths_numbers.specs.meaning.Text.{isEmpty}
+use Rattle.paths_numbers.specs.meaning.Reading.{Reading, value, fails, noCode}
 use Rattle.paths_numbers.specs.meaning.Number.{unsignedNumber, intCode}
-use Rattle.paths_numbers.specs.declared.expr_eval.ParsedInt.{ParsedInt}
-use Rattle.paths_numbers.specs.declared.expr_eval.ParsedInt.the-variants as U
 use Rattle.paths_numbers.specs.declared.dt_property.BitsSize.{BitsSize}
 use Rattle.paths_numbers.specs.declared.dt_property.BitsSize.the-variants.{Bits8, Bits16, Bits32, Bits64}
 use Rattle.paths_numbers.specs.declared.dt_property.SizeRead.{SizeRead}
@@ -27,31 +26,41 @@ bitsOf Bits64 = 64
 abbrev pub largest : BitsSize → ℕ
 largest s = 2 ^ bitsOf s - 1
 
--- the width that a number names, "another gives 12"
-abbrev pub sized : ParsedInt → SizeRead
-sized (U.Value n) =
-    cond (eqb n 8) (Size Bits8)
-    (cond (eqb n 16) (Size Bits16)
-    (cond (eqb n 32) (Size Bits32)
-    (cond (eqb n 64) (Size Bits64)
-    Unsupported)))
-sized (U.Failed e) = Failed e
-
--- a width's text, "none means 32"; it is read as a 32-bit number
-unfoldable pub sizeOf : List ℕ → SizeRead
-sizeOf text = cond (isEmpty text) (Size Bits32) (sized (unsignedNumber (largest Bits32) text))
-
--- the diagnostic code of a width that is none; 0 where it is one
+-- the diagnostic code of a width that is none, and what an answer tells
 abbrev pub sizeCode : SizeRead → ℕ
-sizeCode (Size s) = 0
+sizeCode (Size s) = noCode
 sizeCode Unsupported = widthUnsupported
 sizeCode (Failed e) = intCode e
 
--- the diagnostic code of a cell that has no number; 0 where it has one
+abbrev pub sizeTold : SizeRead → Reading BitsSize
+sizeTold (Size s) = value s
+sizeTold Unsupported = fails (sizeCode Unsupported)
+sizeTold (Failed e) = fails (sizeCode (Failed e))
+
+-- the width that a number names, "another gives 12"
+abbrev pub sized : Reading ℕ → Reading BitsSize
+sized (value n) =
+    cond (eqb n 8) (value Bits8)
+    (cond (eqb n 16) (value Bits16)
+    (cond (eqb n 32) (value Bits32)
+    (cond (eqb n 64) (value Bits64)
+    (fails widthUnsupported))))
+sized (fails c) = fails c
+
+-- a width's text, "none means 32"; it is read as a 32-bit number
+unfoldable pub sizeOf : List ℕ → Reading BitsSize
+sizeOf text = cond (isEmpty text) (value Bits32) (sized (unsignedNumber (largest Bits32) text))
+
+-- the diagnostic code of a cell that has no number, and what an answer tells
 abbrev pub cellCode : Cell → ℕ
-cellCode (Number n) = 0
+cellCode (Number n) = noCode
 cellCode CharTooLarge = characterTooLarge
 cellCode ExprOutside = cellOutside
+
+abbrev pub cellTold : Cell → Reading ℕ
+cellTold (Number n) = value n
+cellTold CharTooLarge = fails (cellCode CharTooLarge)
+cellTold ExprOutside = fails (cellCode ExprOutside)
 
 -- whether z is a number of this many bits, unsigned, and signed
 abbrev pub fitsUnsigned : ℕ → ℤ → Bool
@@ -68,12 +77,12 @@ modulo (pos n) m = n % m
 modulo (negsuc n) m = m - 1 - n % m
 
 -- "An expression cell is kept if it fits the unsigned or the signed width (stored modulo 2^width), else 15."
-unfoldable pub exprCell : ℕ → ℤ → Cell
+unfoldable pub exprCell : ℕ → ℤ → Reading ℕ
 exprCell bits z =
-    cond (fitsUnsigned bits z) (Number (modulo z (2 ^ bits)))
-    (cond (fitsSigned bits z) (Number (modulo z (2 ^ bits)))
-    ExprOutside)
+    cond (fitsUnsigned bits z) (value (modulo z (2 ^ bits)))
+    (cond (fitsSigned bits z) (value (modulo z (2 ^ bits)))
+    (fails cellOutside))
 
 -- "Character too large: 13."
-unfoldable pub charCell : ℕ → ℕ → Cell
-charCell bits ch = cond (ltb ch (2 ^ bits)) (Number ch) CharTooLarge
+unfoldable pub charCell : ℕ → ℕ → Reading ℕ
+charCell bits ch = cond (ltb ch (2 ^ bits)) (value ch) (fails characterTooLarge)

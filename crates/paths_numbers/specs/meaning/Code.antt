@@ -1,106 +1,85 @@
 -- 01, "Diagnostic codes".
 use Prim.Native.Nat.{ℕ}
 
--- preprocessor
+-- "1 preprocessor, 2 include, 3 label not found, 4 node not found, 5 subnode outside a node, 6 root inside one, 7 property outside,
+-- 8 directive as value, 9 as cell, 10 macro undefined"
 abbrev pub preprocessor : ℕ
 preprocessor = 1
 
--- include
 abbrev pub include : ℕ
 include = 2
 
--- label not found
 abbrev pub labelNotFound : ℕ
 labelNotFound = 3
 
--- node not found
 abbrev pub nodeNotFound : ℕ
 nodeNotFound = 4
 
--- subnode outside a node
 abbrev pub subnodeOutside : ℕ
 subnodeOutside = 5
 
--- root inside one
 abbrev pub rootInside : ℕ
 rootInside = 6
 
--- property outside
 abbrev pub propertyOutside : ℕ
 propertyOutside = 7
 
--- directive as value
 abbrev pub directiveAsValue : ℕ
 directiveAsValue = 8
 
--- as cell
 abbrev pub directiveAsCell : ℕ
 directiveAsCell = 9
 
--- macro undefined
 abbrev pub macroUndefined : ℕ
 macroUndefined = 10
 
--- an odd count of hex digits
+-- "11 to 19 … above": an odd count of hex digits; a width, a character, a reference's width, an expression cell; a number's text
 abbrev pub oddDigits : ℕ
 oddDigits = 11
 
--- a width that is none of the four
 abbrev pub widthUnsupported : ℕ
 widthUnsupported = 12
 
--- character too large
 abbrev pub characterTooLarge : ℕ
 characterTooLarge = 13
 
--- reference outside 32-bit cells
 abbrev pub referenceWidth : ℕ
 referenceWidth = 14
 
--- an expression cell that does not fit
 abbrev pub cellOutside : ℕ
 cellOutside = 15
 
--- an empty number
 abbrev pub numberEmpty : ℕ
 numberEmpty = 16
 
--- not a digit
 abbrev pub notADigit : ℕ
 notADigit = 17
 
--- too large
 abbrev pub numberTooLarge : ℕ
 numberTooLarge = 18
 
--- too small
 abbrev pub numberTooSmall : ℕ
 numberTooSmall = 19
 
--- duplicate label
+-- "20 duplicate label, 21 version directive late, 22 plugin directive misplaced, 23 definition before version"
 abbrev pub duplicateLabel : ℕ
 duplicateLabel = 20
 
--- version directive late
 abbrev pub versionLate : ℕ
 versionLate = 21
 
--- plugin directive misplaced
 abbrev pub pluginMisplaced : ℕ
 pluginMisplaced = 22
 
--- definition before version
 abbrev pub beforeVersion : ℕ
 beforeVersion = 23
 
--- a result outside 64 bits
+-- "24 to 26 above": of an operator's result
 abbrev pub outside64Bits : ℕ
 outside64Bits = 24
 
--- zero divisor
 abbrev pub zeroDivisor : ℕ
 zeroDivisor = 25
 
--- shift amount outside 0 to 63
 abbrev pub shiftAmount : ℕ
 shiftAmount = 26

@@ -1,11 +1,12 @@
 -- 01, "Numbers": what a number's text reads as, at an unsigned limit and signed in 64 bits.
-use Prim.Native.Nat.{ℕ, _+_, _*_, _-_, _^_, _≤_}
-use mathlib.Core.Bool.{Bool, true, false, _||_, cond}
+use Prim.Native.Nat.{ℕ, _+_, _*_, _-_, _^_}
+use mathlib.Core.Bool.{Bool, true, false, cond}
 use mathlib.Core.List.{List, [], _∷_}
 use lib.Dec.{eqb, ltb, leb}
-use lib.IntN.{pos, negℤ}
+use lib.IntN.{ℤ, pos, negℤ}
 use lib.ListN.{getD, drop}
 use Rattle.paths_numbers.specs.meaning.Code.{numberEmpty, notADigit, numberTooLarge, numberTooSmall}
+use Rattle.paths_numbers.specs.meaning.Reading.{Reading, value, fails}
 use Rattle.paths_numbers.specs.meaning.Byte.{digitOf, plus, minus}
 use Rattle.paths_numbers.specs.declared.expr_eval.IntErrorKind.{IntErrorKind}
 use Rattle.paths_numbers.specs.declared.expr_eval.IntErrorKind.the-variants.{Empty, InvalidDigit, PosOverflow, NegOverflow}
@@ -14,12 +15,20 @@ use Rattle.paths_numbers.specs.declared.expr_eval.ParsedInt.the-variants
 use Rattle.paths_numbers.specs.declared.expr_eval.ParsedI64.{ParsedI64}
 use Rattle.paths_numbers.specs.declared.expr_eval.ParsedI64.the-variants as I
 
--- the diagnostic code of each way to fail
+-- the diagnostic code of each way to fail, and what an answer tells
 abbrev pub intCode : IntErrorKind → ℕ
 intCode Empty = numberEmpty
 intCode InvalidDigit = notADigit
 intCode PosOverflow = numberTooLarge
 intCode NegOverflow = numberTooSmall
+
+abbrev pub intTold : ParsedInt → Reading ℕ
+intTold (U.Value n) = value n
+intTold (U.Failed e) = fails (intCode e)
+
+abbrev pub i64Told : ParsedI64 → Reading ℤ
+i64Told (I.Value z) = value z
+i64Told (I.Failed e) = fails (intCode e)
 
 -- u, U, l and L
 unfoldable pub isSuffix : ℕ → Bool
@@ -55,50 +64,45 @@ unfoldable pub behindPrefix : List ℕ → List ℕ
 behindPrefix s = cond (eqb (baseOf s) 10) s (drop 2 s)
 
 -- the digits s behind those that gave acc: "the first digit that fails decides", not a digit before too large
-unfoldable pub digits : ℕ → ℕ → IntErrorKind → ℕ → List ℕ → ParsedInt
-digits base most over acc [] = U.Value acc
+unfoldable pub digits : ℕ → ℕ → ℕ → ℕ → List ℕ → Reading ℕ
+digits base most over acc [] = value acc
 digits base most over acc (b ∷ s) =
     cond (ltb (digitOf b) base)
-    (cond (leb (acc * base + digitOf b) most) (digits base most over (acc * base + digitOf b) s) (U.Failed over))
-    (U.Failed InvalidDigit)
+    (cond (leb (acc * base + digitOf b) most) (digits base most over (acc * base + digitOf b) s) (fails over))
+    (fails notADigit)
 
 -- what stands behind a sign: a lone sign is no digit
-unfoldable pub behindSign : ℕ → ℕ → IntErrorKind → List ℕ → ParsedInt
-behindSign base most over [] = U.Failed InvalidDigit
+unfoldable pub behindSign : ℕ → ℕ → ℕ → List ℕ → Reading ℕ
+behindSign base most over [] = fails notADigit
 behindSign base most over (b ∷ s) = digits base most over 0 (b ∷ s)
 
 -- an unsigned reading up to most: "One leading + is allowed … Empty: code 16."
-unfoldable pub unsigned : ℕ → ℕ → List ℕ → ParsedInt
-unsigned base most [] = U.Failed Empty
+unfoldable pub unsigned : ℕ → ℕ → List ℕ → Reading ℕ
+unsigned base most [] = fails numberEmpty
 unsigned base most (b ∷ s) =
-    cond (eqb b plus) (behindSign base most PosOverflow s) (digits base most PosOverflow 0 (b ∷ s))
+    cond (eqb b plus) (behindSign base most numberTooLarge s) (digits base most numberTooLarge 0 (b ∷ s))
 
 -- an unsigned number's text, at the largest value most
-unfoldable pub unsignedNumber : ℕ → List ℕ → ParsedInt
+unfoldable pub unsignedNumber : ℕ → List ℕ → Reading ℕ
 unsignedNumber most text = unsigned (baseOf (trimmed text)) most (behindPrefix (trimmed text))
 
 -- a reading as a positive and as a negative number
-abbrev pub positive : ParsedInt → ParsedI64
-positive (U.Value n) = I.Value (pos n)
-positive (U.Failed e) = I.Failed e
+abbrev pub positive : Reading ℕ → Reading ℤ
+positive (value n) = value (pos n)
+positive (fails e) = fails e
 
-abbrev pub negative : ParsedInt → ParsedI64
-negative (U.Value n) = I.Value (negℤ (pos n))
-negative (U.Failed e) = I.Failed e
+abbrev pub negative : Reading ℕ → Reading ℤ
+negative (value n) = value (negℤ (pos n))
+negative (fails e) = fails e
 
 -- the signed 64-bit reading: "One leading + is allowed, and - for the signed 64-bit reading."
-unfoldable pub signed : ℕ → List ℕ → ParsedI64
-signed base [] = I.Failed Empty
+unfoldable pub signed : ℕ → List ℕ → Reading ℤ
+signed base [] = fails numberEmpty
 signed base (b ∷ s) =
-    cond (eqb b plus) (positive (behindSign base (2 ^ 63 - 1) PosOverflow s))
-    (cond (eqb b minus) (negative (behindSign base (2 ^ 63) NegOverflow s))
-    (positive (digits base (2 ^ 63 - 1) PosOverflow 0 (b ∷ s))))
+    cond (eqb b plus) (positive (behindSign base (2 ^ 63 - 1) numberTooLarge s))
+    (cond (eqb b minus) (negative (behindSign base (2 ^ 63) numberTooSmall s))
+    (positive (digits base (2 ^ 63 - 1) numberTooLarge 0 (b ∷ s))))
 
 -- a signed number's text
-unfoldable pub signedNumber : List ℕ → ParsedI64
+unfoldable pub signedNumber : List ℕ → Reading ℤ
 signedNumber text = signed (baseOf (trimmed text)) (behindPrefix (trimmed text))
-
--- a reading that is at most m, where it is a number
-abbrev pub Within : ℕ → ParsedInt → Type 0
-Within m (U.Value n) = n ≤ m
-Within m (U.Failed e) = Unit {0}

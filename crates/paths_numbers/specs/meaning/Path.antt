@@ -1,6 +1,7 @@
 -- 01, "Paths": stripping a base from a path, joining a parent and a name, and row 9's form of a path.
 use Prim.Native.Nat.{ℕ, _+_, _-_, _^_}
 use mathlib.Core.Bool.{Bool, true, false, not, cond}
+use mathlib.Core.Option.{Option, some, none}
 use mathlib.Core.List.{List, [], _∷_, _++_}
 use lib.Dec.{eqb, leb}
 use lib.ListN.{length, drop}
@@ -51,10 +52,6 @@ stripped p b = part (strip p b)
 unfoldable pub join : List ℕ → List ℕ → List ℕ
 join parent name = cond (same name root) root (cond (same parent root) (slash ∷ name) (parent ++ slash ∷ name))
 
--- what stands before the "/" in front of a name
-abbrev pub stem : List ℕ → List ℕ
-stem parent = cond (same parent root) [] parent
-
 -- the largest usize
 abbrev pub largestUsize : ℕ
 largestUsize = 2 ^ 64 - 1
@@ -75,9 +72,14 @@ joined parent name unit = join parent (withUnit name unit)
 abbrev pub joinedLen : List ℕ → List ℕ → List ℕ → ℕ
 joinedLen parent name unit = atMost largestUsize (length (joined parent name unit))
 
+-- what an answer to the writing of a path tells: how many bytes, none where there is no room, which has no number
+abbrev pub builtTold : Built → Option ℕ
+builtTold (Bytes n) = some n
+builtTold NoRoom = none
+
 -- what writing a path at a place answers, and what the buffer then holds: without room it is left
-unfoldable pub builtAnswer : List ℕ → ℕ → ℕ → Built
-builtAnswer p room at = cond (leb (at + length p) room) (Bytes (length p)) NoRoom
+unfoldable pub builtAnswer : List ℕ → ℕ → ℕ → Option ℕ
+builtAnswer p room at = cond (leb (at + length p) room) (some (length p)) none
 
 unfoldable pub builtOut : List ℕ → List ℕ → ℕ → List ℕ
 builtOut p out at = cond (leb (at + length p) (length out)) (written out at p) out

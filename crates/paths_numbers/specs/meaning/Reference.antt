@@ -54,13 +54,14 @@ innerText raw = cond (isBraced raw) (take (length raw - 3) (drop 2 raw)) []
 unfoldable pub target : List ℕ → Target
 target raw = cond (isBraced raw) (inBraces (innerText raw)) unreadable
 
--- the kind, the label and the path of a target, empty where it has none
-abbrev pub kindOf : Target → MirPhandleTarget
-kindOf (label l) = K.Label
-kindOf (labelPath l p) = K.LabelPath
-kindOf (path p) = K.Path
-kindOf unreadable = K.Unreadable
+-- 01's N for each kind of target, 0 where it cannot be read
+abbrev pub numberOf : Target → ℕ
+numberOf (label l) = 1
+numberOf (labelPath l p) = 2
+numberOf (path p) = 3
+numberOf unreadable = 0
 
+-- the label and the path of a target, empty where it has none
 abbrev pub labelOf : Target → List ℕ
 labelOf (label l) = l
 labelOf (labelPath l p) = l
@@ -73,7 +74,7 @@ pathOf (labelPath l p) = p
 pathOf (path p) = p
 pathOf unreadable = []
 
--- 01's N for each kind of reference; 0 where it cannot be read
+-- what an answer tells, by the same numbers
 abbrev pub targetNumber : MirPhandleTarget → ℕ
 targetNumber K.Label = 1
 targetNumber K.LabelPath = 2

@@ -1,6 +1,6 @@
 -- `pn_build_path`: what `build_path` ensures, its answer told.
 use mathlib.Core.Path.{ap, _∙_}
-use Rattle.paths_numbers_c.specs.meaning.Told.{builtTold}
+use Rattle.paths_numbers_c.specs.meaning.Told.{pathTold}
 use borrow.Author.Needs.{needs}
 use Rattle.paths_numbers_c.proofs.pn_build_path.Statement.{statement}
 use Rattle.paths_numbers_c.proofs.pn_build_path.Tie as tie
@@ -16,7 +16,7 @@ same-length c = search needs
 
 returns : tie.Need-returns
 returns c = (
-  c .told-built .ensures ∙ ap builtTold (c .before .before .before .build-path .ensures .0),
+  c .told-built .ensures ∙ ap pathTold (c .before .before .before .build-path .ensures .0),
   c .before .before .before .build-path .ensures .1,
 )
 

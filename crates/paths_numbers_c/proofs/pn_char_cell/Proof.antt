@@ -1,7 +1,7 @@
 -- `pn_char_cell`: what `char_cell` ensures of the width, told, or the code of no width.
 use mathlib.Core.Path.{ap, _∙_}
 use Rattle.paths_numbers_c.proofs.Widths.{at-size, at-none}
-use Rattle.paths_numbers_c.specs.meaning.Told.{cellTold}
+use Rattle.paths_numbers_c.specs.meaning.Told.{numberTold}
 use borrow.Author.Needs.{needs}
 use Rattle.paths_numbers_c.proofs.pn_char_cell.Statement.{statement}
 use Rattle.paths_numbers_c.proofs.pn_char_cell.Tie as tie
@@ -22,11 +22,12 @@ told-width-requires : tie.Need-told-width-requires
 told-width-requires c κs = search needs
 
 returns : tie.Need-returns
-returns c = at-size _ (c .before .before .before .before .before .size-of .ensures) (c .before .before .before .read .given .1)
-    (c .told-cell .ensures ∙ ap cellTold (c .before .char-cell .ensures))
+returns c = at-size _ (c .before .before .before .before .before .size-of .result)
+    (c .before .before .before .before .before .size-of .ensures) (c .before .before .before .read .given .1)
+    (c .told-cell .ensures ∙ ap numberTold (c .before .char-cell .ensures))
 
 returns-2 : tie.Need-returns-2
-returns-2 c = at-none _ (c .before .before .size-of .ensures) (c .before .match .keys2) (c .told-width .ensures)
+returns-2 c = at-none _ (c .before .before .size-of .result) (c .before .before .size-of .ensures) (c .before .match .keys2) (c .told-width .ensures)
 
 pub pn-char-cell-spec : {M : Type 1} → statement M
 pn-char-cell-spec =

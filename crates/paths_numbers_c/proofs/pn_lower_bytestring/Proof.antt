@@ -1,6 +1,6 @@
 -- `pn_lower_bytestring`: what `lower_bytestring` ensures, its answer told.
 use mathlib.Core.Path.{ap, _∙_}
-use Rattle.paths_numbers_c.specs.meaning.Told.{writtenTold}
+use Rattle.paths_numbers_c.specs.meaning.Told.{bytesTold}
 use borrow.Author.Needs.{needs}
 use Rattle.paths_numbers_c.proofs.pn_lower_bytestring.Statement.{statement}
 use Rattle.paths_numbers_c.proofs.pn_lower_bytestring.Tie as tie
@@ -16,7 +16,7 @@ same-length c = search needs
 
 returns : tie.Need-returns
 returns c = (
-  c .told-written .ensures ∙ ap writtenTold (c .before .before .before .lower-bytestring .ensures .0),
+  c .told-written .ensures ∙ ap bytesTold (c .before .before .before .lower-bytestring .ensures .0),
   c .before .before .before .lower-bytestring .ensures .1,
 )
 

@@ -1,6 +1,5 @@
 -- `pn_reference`: the kind, told, and the parts that the callees ensure.
-use mathlib.Core.Path.{ap, _∙_}
-use Rattle.paths_numbers.specs.meaning.Reference.{targetNumber}
+use mathlib.Core.Path.{_∙_}
 use borrow.Author.Needs.{needs}
 use Rattle.paths_numbers_c.proofs.pn_reference.Statement.{statement}
 use Rattle.paths_numbers_c.proofs.pn_reference.Tie as tie
@@ -19,7 +18,7 @@ phandle-path-requires c κs = search needs
 
 returns : tie.Need-returns
 returns c =
-    let kind = c .before .before .target-number .ensures ∙ ap targetNumber (c .before .before .before .lower-phandle .ensures) in
+    let kind = c .before .before .target-number .ensures ∙ c .before .before .before .lower-phandle .ensures in
     rw (kind, c .before .phandle-label .ensures, c .phandle-path .ensures)
 
 pub pn-reference-spec : {M : Type 1} → statement M

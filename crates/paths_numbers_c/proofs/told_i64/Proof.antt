@@ -1,7 +1,9 @@
 -- `told_i64`: by the cases of what is told, and the code that `int_code` ensures.
 use mathlib.Core.Path.{sym, ap, _∙_}
 use Rattle.paths_numbers.proofs.Integers.{read}
-use Rattle.paths_numbers_c.specs.meaning.Told.{integer, noInteger, i64Told}
+use Rattle.paths_numbers_c.specs.meaning.Told.{integerTold}
+use Rattle.paths_numbers.specs.meaning.Number.{i64Told}
+use Rattle.paths_numbers.specs.meaning.Reading.{value, fails}
 use borrow.Author.Needs.{needs}
 use Rattle.paths_numbers_c.proofs.told_i64.Statement.{statement}
 use Rattle.paths_numbers_c.proofs.told_i64.Tie as tie
@@ -16,10 +18,10 @@ int-code-requires : tie.Need-int-code-requires
 int-code-requires c κs = search needs
 
 returns : tie.Need-returns
-returns c = ap integer (read (record { sfits = c .known-told .given .0 .1 })) ∙ sym (ap i64Told (c .before .p .given .1))
+returns c = ap (λ z. integerTold (value z)) (read (record { sfits = c .known-told .given .0 .1 })) ∙ sym (ap (λ a. integerTold (i64Told a)) (c .before .p .given .1))
 
 returns-2 : tie.Need-returns-2
-returns-2 c = ap noInteger (c .int-code .ensures) ∙ sym (ap i64Told (c .before .before .p2 .given .1))
+returns-2 c = ap (λ n. integerTold (fails n)) (c .int-code .ensures) ∙ sym (ap (λ a. integerTold (i64Told a)) (c .before .before .p2 .given .1))
 
 pub told-i64-spec : {M : Type 1} → statement M
 told-i64-spec =

@@ -1,6 +1,8 @@
 -- `told_width`: by the cases of what is told, the bits and the code that the callees ensure (Codes).
 use mathlib.Core.Path.{sym, ap, _∙_}
-use Rattle.paths_numbers_c.specs.meaning.Told.{number, noNumber, atWidth, widthTold}
+use Rattle.paths_numbers_c.specs.meaning.Told.{numberTold, atWidth, widthTold}
+use Rattle.paths_numbers.specs.meaning.Cell.{sizeTold}
+use Rattle.paths_numbers.specs.meaning.Reading.{value, fails}
 use Rattle.paths_numbers_c.proofs.Codes.{width-coded}
 use borrow.Author.Needs.{needs}
 use Rattle.paths_numbers_c.proofs.told_width.Statement.{statement}
@@ -20,10 +22,10 @@ size-code-requires c κs = search needs
 
 returns : tie.Need-returns
 unfolding atWidth
-returns c = ap number (c .bits .ensures) ∙ sym (ap widthTold (c .before .before .s .given .1))
+returns c = ap (λ n. numberTold (value n)) (c .bits .ensures) ∙ sym (ap (λ a. widthTold (sizeTold a)) (c .before .before .s .given .1))
 
 returns-2 : tie.Need-returns-2
-returns-2 c = ap noNumber (c .size-code .ensures) ∙ width-coded (c .before .before .args .s) (c .before .match .keys2)
+returns-2 c = ap (λ n. numberTold (fails n)) (c .size-code .ensures) ∙ width-coded (c .before .before .args .s) (c .before .match .keys2)
 
 pub told-width-spec : {M : Type 1} → statement M
 told-width-spec =

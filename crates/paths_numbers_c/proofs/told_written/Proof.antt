@@ -1,6 +1,8 @@
 -- `told_written`: by the cases of what is told, and the code that `count_code` ensures.
 use mathlib.Core.Path.{sym, ap, _∙_}
-use Rattle.paths_numbers_c.specs.meaning.Told.{noBytes, writtenTold}
+use Rattle.paths_numbers_c.specs.meaning.Told.{lengthTold, bytesTold}
+use Rattle.paths_numbers.specs.meaning.Bytestring.{writtenTold}
+use Rattle.paths_numbers.specs.meaning.Reading.{fails}
 use borrow.Author.Needs.{needs}
 use Rattle.paths_numbers_c.proofs.told_written.Statement.{statement}
 use Rattle.paths_numbers_c.proofs.told_written.Tie as tie
@@ -18,13 +20,13 @@ enum-told-2 : tie.Need-enum-told-2
 enum-told-2 c = search needs
 
 returns : tie.Need-returns
-returns c = sym (ap writtenTold (c .before .w .given .1))
+returns c = sym (ap (λ a. bytesTold (writtenTold a)) (c .before .w .given .1))
 
 returns-2 : tie.Need-returns-2
-returns-2 c = ap noBytes (c .count-code .ensures) ∙ sym (ap writtenTold (c .before .enum-told .given .1))
+returns-2 c = ap (λ n. lengthTold (fails n)) (c .count-code .ensures) ∙ sym (ap (λ a. bytesTold (writtenTold a)) (c .before .enum-told .given .1))
 
 returns-3 : tie.Need-returns-3
-returns-3 c = sym (ap writtenTold (c .enum-told2 .given .1))
+returns-3 c = sym (ap (λ a. bytesTold (writtenTold a)) (c .enum-told2 .given .1))
 
 pub told-written-spec : {M : Type 1} → statement M
 told-written-spec =

@@ -9,7 +9,7 @@ use Rattle.making.specs.declared.place.PathAt.{PathAt}
 use Rattle.paths_numbers.specs.meaning.Code.{versionLate, pluginMisplaced, beforeVersion}
 use Rattle.paths_numbers.specs.meaning.Text.{same}
 use Rattle.log.specs.meaning.Contents.{Span, Binding, Diag}
-use Rattle.log.specs.meaning.Record.{pluginKind, deletedPropertyKind, nOf, textStart, textLength, firstText}
+use Rattle.log.specs.meaning.Record.{pluginKind, deletedPropertyKind, nOf, textStart, textLength}
 use Rattle.log.specs.meaning.ReadBack.{chainOf, readDefs, readBindings}
 use Rattle.making.specs.meaning.State.{State, emit}
 use Rattle.making.specs.machine.Represents.{Context, Represents}

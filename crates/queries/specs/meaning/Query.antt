@@ -1,6 +1,6 @@
 -- 01, "Answers", rows 8 to 10: what the queries answer for any words and bytes that a caller lends, and what they leave in the list.
 use Prim.Native.Nat.{ℕ}
-use mathlib.Core.Bool.{Bool, true, false, cond}
+use mathlib.Core.Bool.{Bool, false, cond}
 use mathlib.Core.List.{List, [], _∷_, _++_, map}
 use lib.Dec.{leb}
 use lib.ListN.{length}
@@ -26,13 +26,6 @@ historyNumbers def defined path (r ∷ later) =
     cond (same (def r .path) path) (r ∷ historyNumbers def (definedBy (def r) defined) path later)
     (cond (cond defined (deletes path (def r)) false) (r ∷ historyNumbers def false path later)
     (historyNumbers def defined path later))
-
--- both, of the chain that starts at a record
-abbrev pub liveIn : List ℕ → List ℕ → ℕ → List ℕ → List ℕ
-liveIn words bytes first base = liveNumbers (defAt words bytes) base (chainOf words first)
-
-abbrev pub historyIn : List ℕ → List ℕ → ℕ → List ℕ → List ℕ
-historyIn words bytes first path = historyNumbers (defAt words bytes) false path (chainOf words first)
 
 -- "Lists hold definitions of the main chain": their numbers
 abbrev pub mainChain : List ℕ → List ℕ

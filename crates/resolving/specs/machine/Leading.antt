@@ -1,5 +1,5 @@
 -- What the search for where a reference leads answers, as the resolution that it stands for.
-use Prim.Native.Nat.{ℕ, _+_}
+use Prim.Native.Nat.{ℕ}
 use mathlib.Core.Path.{_≡_}
 use mathlib.Core.Bool.{Bool, true, false, cond}
 use mathlib.Core.List.{List, [], _∷_, _++_}
@@ -8,7 +8,6 @@ use Rattle.paths_numbers.specs.meaning.Text.{same}
 use Rattle.paths_numbers.specs.meaning.Path.{joined}
 use Rattle.paths_numbers.specs.meaning.Reference.{Target}
 use Rattle.making.specs.declared.ctx.LowerCtx.{LowerCtx}
-use Rattle.making.specs.declared.place.PathAt.{PathAt}
 use Rattle.log.specs.meaning.Contents.{Span}
 use Rattle.making.specs.meaning.State.{State, emit}
 use lib.Dec.{eqb}

@@ -2,28 +2,24 @@
 -- path is made, the new subnode has a labelled node and a property in it, and a later deletion and re-creation follow. And one where the
 -- two stand in a body that is not lowered.
 use Prim.Native.Nat.{ℕ}
-use mathlib.Core.Bool.{true, false}
+use mathlib.Core.Bool.{true}
 use mathlib.Core.Path.{_≡_, refl}
 use mathlib.Core.List.{List, [], _∷_}
-use mathlib.Core.Option.{some, none}
-use Rattle.paths_numbers.specs.meaning.Byte.{digitOf}
 use Rattle.paths_numbers.specs.meaning.Text.{same, isEmpty, begins, startsWith}
 use Rattle.paths_numbers.specs.meaning.Path.{join, atOrUnder, strip}
-use Rattle.log.specs.meaning.Contents.{Span}
 use Rattle.queries.specs.meaning.Kind.{setsOverlay}
 use Rattle.paths_numbers.specs.meaning.Lists.{any}
-use Rattle.queries.specs.meaning.Live.{live, isLive, gone, containsNode}
+use Rattle.queries.specs.meaning.Live.{live, isLive, gone}
 use Rattle.input.specs.meaning.Tree.{Tree, Trees, tree, empty, more, firstOf, has}
 use Rattle.input.specs.meaning.Name.{nameOrMacro, fullName, nodeNameSpan, propertyNameSpan, labelsOf}
 use Rattle.input.specs.meaning.Phandle.{lowerPhandle}
 use Rattle.resolving.specs.meaning.Resolve.{resolve, firstBinding}
 use Rattle.input.specs.meaning.Property.{lowerValues}
-use Rattle.making.specs.meaning.State.{State, start, define, bind, emit, bindingsBytes, diagsBytes, textsBytes, valuesRecords, valuesBytes}
-use Rattle.making.specs.meaning.State.{dropped, apart, extended}
+use Rattle.making.specs.meaning.State.{State, start, define, bind, emit}
 use Rattle.items.specs.meaning.Unbind.{without, unbind}
 use Rattle.items.specs.meaning.Lower.{lowered, lowerItem, lowerItems, lowerNode, lowerProperty, lowerDirective, lowerDeleteNode, deleteNode}
 use Rattle.items.specs.meaning.Lower.{placeOf, opened, labelTexts}
-use Rattle.two_runs.specs.meaning.TwoRuns.{plainName, quietDirective, quiet, quietIn, Names, Pair, Inserted, here, after, within}
+use Rattle.two_runs.specs.meaning.TwoRuns.{plainName, quietDirective, quiet, quietIn, Pair, Inserted, here, after, within}
 use Rattle.two_runs.specs.meaning.TwoRuns.{unlowered}
 use Rattle.input.specs.meaning.GoodName.{goodNames, goodNamesIn}
 use Rattle.lowering.specs.examples.Example.{span, part}

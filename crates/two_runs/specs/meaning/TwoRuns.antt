@@ -7,7 +7,6 @@ use mathlib.Core.Path.{_≡_}
 use mathlib.Core.List.{List, []}
 use mathlib.Core.Option.{Option, some, none}
 use lib.Dec.{eqb}
-use Rattle.paths_numbers.specs.meaning.Byte.{slash}
 use Rattle.paths_numbers.specs.meaning.Text.{isEmpty}
 use Rattle.paths_numbers.specs.meaning.Path.{atOrUnder, join}
 use Rattle.log.specs.meaning.Contents.{Span, Binding}

@@ -6,7 +6,8 @@ use native.Mathlib.Omega.{arith}
 use Rattle.paths_numbers.proofs.Integers.{read}
 use Rattle.paths_numbers.proofs.Casts.{signed-is}
 use Rattle.paths_numbers.proofs.Relations.{read-truth}
-use Rattle.input.specs.meaning.Input.{childAt, numberAt, spanAt, chainAt, recordAt}
+use Rattle.input.specs.meaning.Input.{childAt, numberAt, spanAt, chainAt}
+use Rattle.input.specs.machine.At.{recordAt}
 use Rattle.input.specs.meaning.Expr.{evals}
 use Rattle.input.proofs.Read.{before-some, chain-first, chain-after, some-nesting, children-in}
 use Rattle.input.proofs.Evaluation.{prefix-missing, prefix-first, infix-missing, infix-short, conditional-short, decided, undecided}

@@ -1,5 +1,6 @@
 -- By the cases of an operator's result.
 use mathlib.Core.Path.{sym, ap, _∙_}
+use Rattle.paths_numbers.specs.meaning.Expression.{evalTold}
 use Rattle.paths_numbers.proofs.Integers.{read}
 use Rattle.input.specs.meaning.Input.{spanAt}
 use Rattle.input.specs.meaning.Expr.{value, failsWith, evaluated}
@@ -19,10 +20,10 @@ eval-code-requires c κs = search needs
 
 returns : tie.Need-returns
 returns c = λ words text. ap value (read (record { sfits = c .known-told .given .0 .1 }))
-    ∙ sym (ap (evaluated (spanAt words (c .before .before .before .args .r))) (c .before .v .given .1))
+    ∙ sym (ap (λ v. evaluated (spanAt words (c .before .before .before .args .r)) (evalTold v)) (c .before .v .given .1))
 
 returns-2 : tie.Need-returns-2
-returns-2 c = λ words text. sym (ap (evaluated (spanAt words (c .before .before .args .r))) (c .enum-told .given .1))
+returns-2 c = λ words text. sym (ap (λ v. evaluated (spanAt words (c .before .before .args .r)) (evalTold v)) (c .enum-told .given .1))
 
 returns-3 : tie.Need-returns-3
 returns-3 c = let a = c .before .before .args in λ words text. ap (λ n. failsWith n (spanAt words (a .r))) (c .eval-code .ensures)

@@ -1,6 +1,6 @@
 -- By the rows in turn.
 use mathlib.Core.Path.{refl, sym, ap, _∙_}
-use Rattle.input.specs.meaning.RowsAnswer.{foundIn}
+use Rattle.input.specs.machine.RowsPass.{foundIn}
 use Rattle.input.proofs.Rows.{sizes}
 use Rattle.input.proofs.RowsMarks.{marks-start}
 use Rattle.input.proofs.RowsFound.{verdict-one, verdict-two, verdict-later}

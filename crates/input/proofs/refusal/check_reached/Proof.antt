@@ -2,7 +2,7 @@
 use Prim.Native.Nat.{_-_, _≤_}
 use mathlib.Core.Path.{_≡_, refl, ap}
 use native.Mathlib.Omega.{arith}
-use Rattle.input.specs.meaning.RowsAnswer.{foundIn}
+use Rattle.input.specs.machine.RowsPass.{foundIn}
 use Rattle.input.specs.machine.RowsPass.{rowsFrom}
 use Rattle.input.proofs.RowsLoops.{row-here, row-later, row-done}
 use borrow.Author.Needs.{needs}

@@ -1,6 +1,5 @@
 -- By the cases of the count (ValueRead).
 use Rattle.input.proofs.ValueRead.{counted-some}
-use Rattle.input.specs.meaning.Property.{countedBytes}
 use Rattle.input.specs.meaning.Input.{spanAt, textAt}
 use mathlib.Core.Path.{refl}
 use borrow.Author.Needs.{needs}

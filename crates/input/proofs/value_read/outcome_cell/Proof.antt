@@ -1,5 +1,5 @@
 -- By the cases of the expression's outcome.
-use Rattle.input.specs.meaning.Property.{fittedCell, outcomeCell}
+use Rattle.input.specs.meaning.Property.{numberCell, outcomeCell}
 use Rattle.paths_numbers.specs.meaning.Cell.{bitsOf, exprCell}
 use Rattle.paths_numbers.proofs.Integers.{read}
 use Rattle.input.specs.machine.Evaluation.{outcomeOf}
@@ -31,7 +31,7 @@ returns : tie.Need-returns
 returns c = let a = c .before .before .before .before .before .args in
     λ words text.
     c .fitted-cell .ensures words text
-    ∙ ap (fittedCell (spanAt words (a .r))) (c .before .expr-cell .ensures
+    ∙ ap (numberCell (spanAt words (a .r))) (c .before .expr-cell .ensures
     ∙ ap (exprCell (bitsOf (a .size))) (read (record { sfits = c .before .before .known-told .given .0 .1 })))
     ∙ sym (ap (λ e. outcomeCell (a .size) (spanAt words (a .r)) (outcomeOf words text e)) (c .before .before .before .e .given .1))
 

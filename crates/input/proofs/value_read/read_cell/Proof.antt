@@ -1,7 +1,8 @@
 -- By the kind of the record (ValueRead).
 use Rattle.input.proofs.ValueRead.{cell-kind, cell-reference, cell-other}
 use Rattle.input.specs.meaning.Property.{lowerCell, referenceCell}
-use Rattle.input.specs.meaning.Input.{recordAt, spanAt}
+use Rattle.input.specs.meaning.Input.{spanAt}
+use Rattle.input.specs.machine.At.{recordAt}
 use mathlib.Core.Path.{sym, ap, _∙_}
 use borrow.Author.Needs.{needs}
 use Rattle.input.proofs.value_read.read_cell.Statement.{statement}

@@ -1,7 +1,7 @@
 -- By the kind of the record (ValueRead).
 use Rattle.input.proofs.ValueRead.{value-kind, value-reference, value-other}
 use Rattle.input.specs.meaning.Property.{lowerValue, referenceValue}
-use Rattle.input.specs.meaning.Input.{recordAt}
+use Rattle.input.specs.machine.At.{recordAt}
 use mathlib.Core.Path.{sym, ap, _∙_}
 use borrow.Author.Needs.{needs}
 use Rattle.input.proofs.value_read.read_value.Statement.{statement}

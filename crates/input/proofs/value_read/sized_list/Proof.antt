@@ -4,6 +4,7 @@ use mathlib.Core.Path.{sym, ap, _∙_}
 use Rattle.input.specs.meaning.Input.{childAt, spanAt, chainAt}
 use Rattle.input.specs.meaning.Report.{nothing, report}
 use Rattle.input.specs.meaning.Property.{sizedList}
+use Rattle.paths_numbers.specs.meaning.Cell.{sizeTold}
 use Rattle.input.proofs.ValueRead.{size-coded}
 use borrow.Author.Needs.{needs}
 use Rattle.input.proofs.value_read.sized_list.Statement.{statement}
@@ -17,7 +18,7 @@ size-code-requires c κs = search needs
 
 returns : tie.Need-returns
 returns c = let r = c .before .before .before .args .r in λ words text. sym
-    (ap (sizedList (spanAt words r) (chainAt words text (childAt words r))) (c .before .size .given .1))
+    (ap (λ s. sizedList (spanAt words r) (chainAt words text (childAt words r)) (sizeTold s)) (c .before .size .given .1))
 
 returns-2 : tie.Need-returns-2
 returns-2 c = let a = c .before .before .args in λ words text. ap (λ n. nothing (report n [] (spanAt words (a .r)) ∷ []))

@@ -1,17 +1,16 @@
 -- Outside a node, or under its parent (NodePlaced).
-use mathlib.Core.Path.{_≡_, refl, sym, ap, _∙_}
+use mathlib.Core.Path.{sym, ap, _∙_}
 use mathlib.Core.Bool.{true, false}
 use mathlib.Core.List.{List, [], _∷_}
 use Prim.Native.Nat.{ℕ}
-use Rattle.paths_numbers.specs.meaning.Path.{root, join, joined}
 use Rattle.paths_numbers.proofs.Good.{plain-not-root}
 use Rattle.input.specs.meaning.Report.{report}
 use Rattle.input.specs.meaning.Name.{nodeNameSpan}
-use Rattle.items.specs.meaning.Lower.{at, Placed, placedAs}
+use Rattle.items.specs.meaning.Lower.{at, placedAs}
 use Rattle.input.specs.meaning.Input.{childAt, spanAt, chainAt}
 use Rattle.input.proofs.GoodNames.{full-plain}
 use Rattle.input.proofs.NameRead.{full-joined}
-use Rattle.items.proofs.NodePlaced.{places-at, places-nowhere, named-outside, named-below, root-inside, root-on-top}
+use Rattle.items.proofs.NodePlaced.{places-at, places-nowhere, named-outside, named-below}
 use borrow.Author.Needs.{needs}
 use Rattle.items.proofs.dt_node.place_below.Statement.{statement}
 use Rattle.items.proofs.dt_node.place_below.Tie as tie

@@ -1,5 +1,5 @@
 -- By the name, by the slash, or dropped (NodePlaced).
-use mathlib.Core.Path.{_≡_, refl, sym, ap, _∙_}
+use mathlib.Core.Path.{sym, ap, _∙_}
 use Prim.Native.Nat.{ℕ}
 use mathlib.Core.List.{List}
 use Rattle.input.specs.meaning.Report.{Got}

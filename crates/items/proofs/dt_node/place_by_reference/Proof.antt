@@ -1,5 +1,5 @@
 -- By what the reference is read as (NodeReferenced).
-use mathlib.Core.Path.{_≡_, refl, sym, ap, _∙_}
+use mathlib.Core.Path.{refl, ap}
 use Rattle.input.specs.declared.phandle.PhandleRead.{PhandleRead}
 use Rattle.input.specs.machine.PhandleRead.{phandleRead}
 use Rattle.log.specs.declared.parts.TargetKind.the-variants as T

@@ -1,5 +1,4 @@
 -- By the reference among the parts, else by the name (NodePlaced).
-use mathlib.Core.Path.{_≡_, refl, sym, ap, _∙_}
 use Rattle.input.proofs.Read.{child-there, first-missing, first-there}
 use Rattle.items.proofs.NodePlaced.{without-reference, by-reference}
 use borrow.Author.Needs.{needs}

@@ -1,5 +1,5 @@
 -- By where the reference leads (NodeReferenced).
-use mathlib.Core.Path.{_≡_, refl, sym, ap, _∙_}
+use mathlib.Core.Path.{sym, _∙_}
 use Rattle.input.proofs.Read.{child-there}
 use Rattle.items.proofs.NodeReferenced.{place-found, place-missing}
 use borrow.Author.Needs.{needs}

@@ -1,18 +1,14 @@
 -- Inside a node, or on top (NodePlaced).
-use mathlib.Core.Path.{_≡_, refl, sym, ap, _∙_}
+use mathlib.Core.Path.{sym, _∙_}
 use mathlib.Core.Bool.{true, false}
 use borrow.Author.Tests.{not-true, not-false}
-use mathlib.Core.List.{List, [], _∷_}
-use Prim.Native.Nat.{ℕ}
-use Rattle.paths_numbers.specs.meaning.Path.{root, join, joined}
-use Rattle.paths_numbers.proofs.Good.{plain-not-root}
+use mathlib.Core.List.{[], _∷_}
+use Rattle.paths_numbers.specs.meaning.Path.{root}
 use Rattle.input.specs.meaning.Report.{report}
 use Rattle.input.specs.meaning.Name.{nodeNameSpan}
-use Rattle.items.specs.meaning.Lower.{at, Placed, placedAs}
+use Rattle.items.specs.meaning.Lower.{placedAs}
 use Rattle.input.specs.meaning.Input.{childAt, spanAt, chainAt}
-use Rattle.input.proofs.GoodNames.{full-plain}
-use Rattle.input.proofs.NameRead.{full-joined}
-use Rattle.items.proofs.NodePlaced.{places-at, places-nowhere, named-outside, named-below, root-inside, root-on-top}
+use Rattle.items.proofs.NodePlaced.{places-at, places-nowhere, root-inside, root-on-top}
 use borrow.Author.Needs.{needs}
 use Rattle.items.proofs.dt_node.place_root.Statement.{statement}
 use Rattle.items.proofs.dt_node.place_root.Tie as tie

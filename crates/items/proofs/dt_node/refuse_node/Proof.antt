@@ -1,5 +1,5 @@
 -- One diagnostic (Reported).
-use mathlib.Core.Path.{_≡_, refl, sym, ap, _∙_}
+use mathlib.Core.Path.{refl, _∙_}
 use mathlib.Core.List.{[]}
 use Rattle.input.proofs.Read.{child-there}
 use Rattle.items.proofs.Reported.{reported}

@@ -1,6 +1,6 @@
 -- By where the reference leads (Directives).
 use Rattle.log.specs.machine.Parts.{meant}
-use Rattle.input.specs.meaning.Input.{recordAt}
+use Rattle.input.specs.machine.At.{recordAt}
 use Rattle.items.proofs.Directives.{target-bound, target-below, target-at, target-label, target-node, target-nowhere}
 use borrow.Author.Needs.{needs}
 use Rattle.items.proofs.item.delete_target.Statement.{statement}

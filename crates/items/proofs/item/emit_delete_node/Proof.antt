@@ -1,10 +1,8 @@
 -- By the name, else by the reference (Directives).
-use Prim.Native.Nat.{ℕ}
 use mathlib.Core.Path.{sym, ap, _∙_}
-use mathlib.Core.List.{List}
 use mathlib.Core.Option.{Option}
 use Rattle.log.specs.machine.Parts.{meant}
-use Rattle.making.specs.meaning.State.{State, emit}
+use Rattle.making.specs.meaning.State.{emit}
 use Rattle.input.specs.meaning.Tree.{Tree}
 use Rattle.items.specs.meaning.Lower.{deleteReferenced}
 use Rattle.input.specs.machine.NameRead.{fullRead}

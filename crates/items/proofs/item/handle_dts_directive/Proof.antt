@@ -1,5 +1,4 @@
 -- By the directive's W (Directives).
-use mathlib.Core.Path.{sym, _∙_}
 use Rattle.items.proofs.Directives.{is-version, is-plugin, is-include, is-delete-node, is-delete-property, is-other}
 use borrow.Author.Needs.{needs}
 use Rattle.items.proofs.item.handle_dts_directive.Statement.{statement}

@@ -1,6 +1,5 @@
 -- Loop invariant: the labels before record r, and with the rest's those of the whole chain (Labels: LabelsTo).
-use Prim.Native.Nat.{ℕ}
-use mathlib.Core.Path.{_≡_, refl, sym, ap, _∙_}
+use mathlib.Core.Path.{_≡_, refl, sym, _∙_}
 use borrow.Author.Needs.{needs}
 use mathlib.Core.Logic.{⊎-elim}
 use lib.ListN.{length}

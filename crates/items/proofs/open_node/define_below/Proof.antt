@@ -1,5 +1,5 @@
 -- The definition, then the labels (Opened).
-use mathlib.Core.Path.{_≡_, refl, sym, ap, _∙_}
+use mathlib.Core.Path.{refl, _∙_}
 use Rattle.paths_numbers.specs.meaning.Path.{joined}
 use Rattle.making.specs.machine.PathPlaces.{pathIn}
 use Rattle.input.specs.meaning.Input.{spanAt}

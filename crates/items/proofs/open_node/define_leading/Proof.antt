@@ -1,5 +1,5 @@
 -- By where the reference leads (NodeReferenced).
-use mathlib.Core.Path.{_≡_, refl, sym, ap, _∙_}
+use mathlib.Core.Path.{refl, ap, _∙_}
 use Rattle.making.specs.machine.PathPlaces.{pathIn}
 use Rattle.input.specs.meaning.Input.{spanAt}
 use Rattle.input.specs.machine.PhandleRead.{labelAt, pathAt}

@@ -1,5 +1,5 @@
 -- The definition, then the labels (Opened).
-use mathlib.Core.Path.{_≡_, refl, sym, ap, _∙_}
+use mathlib.Core.Path.{refl, _∙_}
 use Rattle.input.specs.meaning.Input.{spanAt}
 use Rattle.input.proofs.Read.{child-there}
 use Rattle.items.proofs.Opened.{defined-opens}

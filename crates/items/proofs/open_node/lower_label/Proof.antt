@@ -1,7 +1,6 @@
 -- By what the reading of its name answers (Labels).
-use mathlib.Core.Path.{_≡_}
 use borrow.Author.Needs.{needs}
-use Rattle.input.specs.meaning.Input.{recordAt}
+use Rattle.input.specs.machine.At.{recordAt}
 use Rattle.items.proofs.Labels.{label-bound, label-reported, label-nothing, label-read}
 use Rattle.items.proofs.open_node.lower_label.Statement.{statement}
 use Rattle.items.proofs.open_node.lower_label.Tie as tie

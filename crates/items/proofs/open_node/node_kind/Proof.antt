@@ -1,5 +1,5 @@
 -- By whether there is an omit mark.
-use mathlib.Core.Path.{_≡_, refl, sym, ap, _∙_}
+use mathlib.Core.Path.{sym, ap, _∙_}
 use mathlib.Core.Bool.{Bool}
 use mathlib.Core.List.{[]}
 use Rattle.log.specs.meaning.Contents.{node}

@@ -1,5 +1,6 @@
 -- A diagnostic of the log, with the macro's text (Reported).
-use Rattle.input.specs.meaning.Input.{spanAt, recordAt}
+use Rattle.input.specs.meaning.Input.{spanAt}
+use Rattle.input.specs.machine.At.{recordAt}
 use Rattle.input.specs.meaning.Report.{report}
 use mathlib.Core.List.{List, [], _∷_}
 use Prim.Native.Nat.{ℕ}

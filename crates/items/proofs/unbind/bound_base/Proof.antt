@@ -1,5 +1,4 @@
 -- By which of the two it is.
-use borrow.Author.Needs.{needs}
 use mathlib.Core.Path.{refl}
 use Rattle.items.proofs.unbind.bound_base.Statement.{statement}
 use Rattle.items.proofs.unbind.bound_base.Tie as tie

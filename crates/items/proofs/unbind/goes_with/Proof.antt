@@ -1,8 +1,5 @@
 -- By where the base is read.
 use Rattle.items.proofs.Unbinding.{goes-by, base-named, base-given, base-binding, base-below}
-use mathlib.Core.Path.{refl, sym, ap, _∙_}
-use Rattle.items.specs.machine.Unbinding.{goesWith, baseOf}
-use Rattle.log.specs.meaning.ReadBack.{bindingAt}
 use borrow.Author.Needs.{needs}
 use Rattle.items.proofs.unbind.goes_with.Statement.{statement}
 use Rattle.items.proofs.unbind.goes_with.Tie as tie

@@ -1,5 +1,5 @@
 -- Where the place is "/", and where it is a text (PathPlaces).
-use mathlib.Core.Path.{refl, sym, ap, _∙_}
+use mathlib.Core.Path.{refl, _∙_}
 use Rattle.items.proofs.Unbinding.{root-read}
 use borrow.Author.Needs.{needs}
 use Rattle.items.proofs.unbind.unbinds_named.Statement.{statement}

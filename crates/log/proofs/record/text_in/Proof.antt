@@ -1,5 +1,4 @@
 -- By where the text starts and ends.
-use native.Mathlib.Omega.{arith}
 use Rattle.log.proofs.Texts.{text-behind, text-within, text-to-end}
 use borrow.Author.Needs.{needs}
 use Rattle.log.proofs.record.text_in.Statement.{statement}

@@ -1,7 +1,7 @@
 -- Items, nodes and bodies call each other as the nesting runs out: each does to the log what its definition does to what the log says
 -- (ItemsLowered, NodeLowered).
-use Prim.Native.Nat.{_+_, _*_, _-_}
-use mathlib.Core.Path.{_≡_, refl, sym, ap, _∙_}
+use Prim.Native.Nat.{_+_, _*_}
+use mathlib.Core.Path.{_≡_, refl, sym, _∙_}
 use native.Mathlib.Omega.{arith}
 use borrow.Author.Needs.{needs}
 use lib.ListN.{length}

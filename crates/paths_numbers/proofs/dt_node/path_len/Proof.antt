@@ -4,7 +4,8 @@ use borrow.Author.Needs.{needs}
 use Prim.Native.Nat.{_+_}
 use mathlib.Core.Path.{refl, sym, ap, _∙_}
 use lib.ListN.{length}
-use Rattle.paths_numbers.specs.meaning.Path.{largestUsize, atMost, stem, withUnit}
+use Rattle.paths_numbers.specs.meaning.Path.{largestUsize, atMost, withUnit}
+use Rattle.paths_numbers.specs.machine.Limits.{stem}
 use Rattle.paths_numbers.proofs.Joined.{joined-root, joined-length}
 use Rattle.paths_numbers.proofs.Lengths.{cut-sum}
 use Rattle.paths_numbers.proofs.dt_node.path_len.Statement.{statement}

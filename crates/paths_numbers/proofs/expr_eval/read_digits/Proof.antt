@@ -4,14 +4,14 @@ use mathlib.Core.Path.{_≡_}
 use native.Mathlib.Omega.{arith}
 use borrow.Author.Needs.{needs}
 use lib.ListN.{length, drop}
-use Rattle.paths_numbers.specs.meaning.Number.{digits}
+use Rattle.paths_numbers.specs.meaning.Number.{digits, intCode}
 use Rattle.paths_numbers.proofs.Digits.{bad, large, good, done, above, below}
 use Rattle.paths_numbers.proofs.expr_eval.read_digits.Tie as tie
 use Rattle.paths_numbers.proofs.expr_eval.read_digits.Statement.{statement}
 
 abbrev Inv-loop : tie.InvT-loop
 Inv-loop s base most over acc₀ i₀ acc i =
-    (i ≤ length s) × (digits base most over 0 s ≡ digits base most over acc (drop i s))
+    (i ≤ length s) × (digits base most (intCode over) 0 s ≡ digits base most (intCode over) acc (drop i s))
 
 abbrev μ-loop : tie.MeasureT-loop
 μ-loop s base most over acc₀ i₀ acc i = length s - i

@@ -3,8 +3,8 @@ use mathlib.Core.Path.{sym, ap, _∙_}
 use native.Mathlib.Omega.{arith}
 use borrow.Author.Needs.{needs}
 use Rattle.paths_numbers.specs.declared.expr_eval.ParsedInt.the-variants as U
-use Rattle.paths_numbers.specs.declared.expr_eval.ParsedI64.the-variants.{Value}
-use Rattle.paths_numbers.specs.meaning.Number.{negative}
+use Rattle.paths_numbers.specs.meaning.Reading.{value}
+use Rattle.paths_numbers.specs.meaning.Number.{intTold, negative}
 use Rattle.paths_numbers.proofs.Casts.{signed-fits, negated-fits, negated-is}
 use Rattle.paths_numbers.proofs.Digits.{value-within}
 use Rattle.paths_numbers.proofs.expr_eval.to_negative.Tie as tie
@@ -14,16 +14,16 @@ enum-known-p : tie.Need-enum-known-p
 enum-known-p c = search needs
 
 returns : tie.Need-returns
-returns c = sym (ap negative (c .before .before .p .given .1 ∙ ap U.Value (c .if1 .taken)))
+returns c = sym (ap (λ q. negative (intTold q)) (c .before .before .p .given .1 ∙ ap U.Value (c .if1 .taken)))
 
 sub-t6 : tie.Need-sub-t6
 sub-t6 c = search needs
 
 cast-t7 : tie.Need-cast-t7
-cast-t7 c = signed-fits _ (omega (arith, value-within _ _ _ (c .before .before .before .before .pre) (c .before .before .p .given .1)))
+cast-t7 c = signed-fits _ (omega (arith, value-within _ _ _ (c .before .before .before .before .pre) (ap intTold (c .before .before .p .given .1))))
 
 sub-t8 : tie.Need-sub-t8
-sub-t8 c = negated-fits _ (c .if1 .left) (value-within _ _ _ (c .before .before .before .before .pre) (c .before .before .p .given .1))
+sub-t8 c = negated-fits _ (c .if1 .left) (value-within _ _ _ (c .before .before .before .before .pre) (ap intTold (c .before .before .p .given .1)))
 
 enum-known-p-2 : tie.Need-enum-known-p-2
 enum-known-p-2 c = search needs
@@ -31,11 +31,11 @@ enum-known-p-2 c = search needs
 returns-2 : tie.Need-returns-2
 returns-2 c =
     let p = c .before .before .p .given in
-    ap Value (negated-is (p .0 .0) (c .if1 .left) (value-within _ _ _ (c .before .before .before .before .pre) (p .1)))
-    ∙ sym (ap negative (p .1))
+    ap value (negated-is (p .0 .0) (c .if1 .left) (value-within _ _ _ (c .before .before .before .before .pre) (ap intTold (p .1))))
+    ∙ sym (ap (λ q. negative (intTold q)) (p .1))
 
 returns-3 : tie.Need-returns-3
-returns-3 c = sym (ap negative (c .before .p2 .given .1))
+returns-3 c = sym (ap (λ q. negative (intTold q)) (c .before .p2 .given .1))
 
 pub to-negative-spec : {M : Type 1} → statement M
 to-negative-spec =

@@ -5,7 +5,7 @@ use borrow.Author.Tests.{ne-eqb}
 use Rattle.paths_numbers.proofs.Integers.{read}
 use Rattle.paths_numbers.proofs.Relations.{read-truth, read-equal, both, either}
 use Rattle.paths_numbers.specs.meaning.Expression.{evalRelation}
-use Rattle.paths_numbers.specs.declared.operators.Evaluated.the-variants.{Value}
+use Rattle.paths_numbers.specs.meaning.Reading.{value}
 use Rattle.paths_numbers.proofs.operators.eval_relation.Statement.{statement}
 use Rattle.paths_numbers.proofs.operators.eval_relation.Tie as tie
 
@@ -50,14 +50,14 @@ unfolding evalRelation
 returns c =
     let f = c .before .before .before .fits in
     rw (c .before .before .match .keys1)
-    (ap Value (both (f .a) (f .b) (c .before .is-true .ensures) (c .is-true2 .ensures)))
+    (ap value (both (f .a) (f .b) (c .before .is-true .ensures) (c .is-true2 .ensures)))
 
 returns-2 : tie.Need-returns-2
 unfolding evalRelation
 returns-2 c =
     let f = c .before .before .before .fits in
     rw (c .before .before .match .keys2)
-    (ap Value (either (f .a) (f .b) (c .before .is-true3 .ensures) (c .is-true4 .ensures)))
+    (ap value (either (f .a) (f .b) (c .before .is-true3 .ensures) (c .is-true4 .ensures)))
 
 returns-3 : tie.Need-returns-3
 unfolding evalRelation

@@ -1,12 +1,7 @@
 -- Loop invariant: what is left of the chain has such a binding if the whole has (Chain of queries).
-use Prim.Native.Nat.{ℕ, _-_, _≤_}
-use mathlib.Core.Path.{_≡_, refl, sym, ap, _∙_}
-use mathlib.Core.Bool.{Bool, true, false}
-use mathlib.Core.List.{List, [], _∷_, map}
+use mathlib.Core.Path.{_≡_, refl, sym, _∙_}
+use mathlib.Core.List.{map}
 use native.Mathlib.Omega.{arith}
-use lib.ListN.{length}
-use Rattle.paths_numbers.specs.meaning.Text.{same}
-use Rattle.log.specs.meaning.Record.{nextOf, firstText, secondText, logCount}
 use Rattle.log.specs.meaning.ReadBack.{chainFrom, bindingAt}
 use Rattle.paths_numbers.specs.meaning.Lists.{any}
 use Rattle.queries.proofs.Chain.{goes-left, any-hit, any-miss, any-end}

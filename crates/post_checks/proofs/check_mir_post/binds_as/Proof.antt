@@ -1,13 +1,7 @@
 -- By whether the labels are the same (Duplicates).
-use Prim.Native.Nat.{ℕ, _-_, _≤_}
-use mathlib.Core.Path.{_≡_, refl, sym, ap, _∙_}
-use mathlib.Core.Bool.{Bool, true, false}
-use mathlib.Core.List.{List, [], _∷_, map}
-use native.Mathlib.Omega.{arith}
-use lib.ListN.{length}
+use mathlib.Core.Path.{_≡_, refl, _∙_}
 use Rattle.paths_numbers.specs.meaning.Text.{same}
-use Rattle.log.specs.meaning.Record.{nextOf, firstText, secondText, logCount}
-use Rattle.log.specs.meaning.ReadBack.{chainFrom, bindingAt}
+use Rattle.log.specs.meaning.Record.{firstText, secondText}
 use Rattle.post_checks.proofs.Duplicates.{again-other, again-path, again-label}
 use borrow.Author.Needs.{needs}
 use Rattle.post_checks.proofs.check_mir_post.binds_as.Statement.{statement}

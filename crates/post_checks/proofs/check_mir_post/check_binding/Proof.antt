@@ -1,12 +1,5 @@
 -- By whether there is a report on it (Duplicates).
-use Prim.Native.Nat.{ℕ, _-_, _≤_}
-use mathlib.Core.Path.{_≡_, refl, sym, ap, _∙_}
-use mathlib.Core.Bool.{Bool, true, false}
-use mathlib.Core.List.{List, [], _∷_, map}
-use native.Mathlib.Omega.{arith}
-use lib.ListN.{length}
-use Rattle.paths_numbers.specs.meaning.Text.{same}
-use Rattle.log.specs.meaning.Record.{nextOf, firstText, secondText, logCount}
+use mathlib.Core.List.{map}
 use Rattle.log.specs.meaning.ReadBack.{chainFrom, bindingAt}
 use Rattle.post_checks.proofs.Duplicates.{binding-none, binding-one}
 use borrow.Author.Needs.{needs}

@@ -1,17 +1,15 @@
 -- The chain behind the first binding is walked (Checks), with the paths seen (Duplicates).
-use Prim.Native.Nat.{ℕ, _-_, _≤_}
-use mathlib.Core.Path.{_≡_, refl, sym, ap, _∙_}
-use mathlib.Core.Bool.{Bool, true, false}
+use Prim.Native.Nat.{ℕ, _≤_}
+use mathlib.Core.Path.{_≡_, refl, sym, _∙_}
 use mathlib.Core.List.{List, [], _∷_, map}
 use native.Mathlib.Omega.{arith}
 use lib.ListN.{length}
-use Rattle.paths_numbers.specs.meaning.Text.{same}
-use Rattle.log.specs.meaning.Record.{nextOf, firstText, secondText, logCount}
+use Rattle.log.specs.meaning.Record.{nextOf}
 use Rattle.log.specs.meaning.ReadBack.{chainFrom, bindingAt}
 use Rattle.making.specs.machine.Kept.{all-none, all-more}
 use Rattle.making.proofs.Keeping.{still-kept}
 use Rattle.queries.proofs.Chain.{goes-left}
-use Rattle.post_checks.specs.meaning.Post.{duplicatesOf, duplicateLabels}
+use Rattle.post_checks.specs.meaning.Post.{duplicatesOf}
 use Rattle.post_checks.proofs.Checks.{Walks, walks-start, walks-step, walks-end, all-behind}
 use Rattle.post_checks.proofs.Duplicates.{pathsSeen, duplicates-kept, paths-start}
 use borrow.Author.Needs.{needs}

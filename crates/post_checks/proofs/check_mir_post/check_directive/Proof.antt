@@ -1,9 +1,8 @@
 -- By whether there is a code (Headers).
 use Prim.Native.Nat.{ℕ}
-use mathlib.Core.Path.{_≡_, refl, sym, ap, _∙_}
-use mathlib.Core.List.{List, [], _∷_, map}
-use lib.ListN.{length}
-use Rattle.post_checks.specs.machine.Checks.{Reports, headersOf, headerCode, codeReport}
+use mathlib.Core.Path.{ap, _∙_}
+use mathlib.Core.List.{[], _∷_}
+use Rattle.post_checks.specs.machine.Checks.{headersOf, headerCode}
 use Rattle.post_checks.proofs.Headers.{code-none, code-one}
 use borrow.Author.Needs.{needs}
 use Rattle.post_checks.proofs.check_mir_post.check_directive.Statement.{statement}

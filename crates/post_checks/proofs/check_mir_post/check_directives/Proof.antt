@@ -1,7 +1,7 @@
 -- The chain of definitions is walked, and what is reported on the way keeps it (Checks).
 use Prim.Native.Nat.{ℕ, _-_}
-use mathlib.Core.Path.{_≡_, refl, sym, ap, subst, _∙_}
-use mathlib.Core.List.{List, [], _∷_, map}
+use mathlib.Core.Path.{_≡_, refl, sym, ap, _∙_}
+use mathlib.Core.List.{List, map}
 use native.Mathlib.Omega.{arith}
 use lib.ListN.{length}
 use Rattle.log.specs.meaning.Record.{nextOf, logCount}
@@ -9,7 +9,7 @@ use Rattle.log.specs.meaning.ReadBack.{chainFrom, defAt}
 use Rattle.making.specs.machine.Kept.{all-none, all-more}
 use Rattle.making.proofs.Keeping.{still-kept}
 use Rattle.queries.proofs.Chain.{goes-left}
-use Rattle.post_checks.specs.meaning.Post.{Headers, atFirst, directivesFrom}
+use Rattle.post_checks.specs.meaning.Post.{atFirst, directivesFrom}
 use Rattle.post_checks.specs.machine.Checks.{headersOf, headersAfter}
 use Rattle.post_checks.proofs.Checks.{Walks, walks-start, walks-step, walks-end}
 use Rattle.post_checks.proofs.Headers.{directives-kept, directives-lower}

@@ -1,18 +1,14 @@
 -- The chain of bindings is walked (Checks), with the labels seen (Duplicates).
-use Prim.Native.Nat.{ℕ, _-_, _≤_}
-use mathlib.Core.Path.{_≡_, refl, sym, ap, _∙_}
-use mathlib.Core.Bool.{Bool, true, false}
-use mathlib.Core.List.{List, [], _∷_, map}
+use Prim.Native.Nat.{ℕ, _≤_}
+use mathlib.Core.Path.{_≡_, refl, sym, _∙_}
+use mathlib.Core.List.{List, [], map}
 use native.Mathlib.Omega.{arith}
 use lib.ListN.{length}
-use Rattle.paths_numbers.specs.meaning.Text.{same}
-use Rattle.log.specs.meaning.Record.{nextOf, firstText, secondText, logCount}
+use Rattle.log.specs.meaning.Record.{logCount}
 use Rattle.log.specs.meaning.ReadBack.{chainFrom, bindingAt}
-use Rattle.making.specs.machine.Kept.{all-none, all-more}
-use Rattle.making.proofs.Keeping.{still-kept}
 use Rattle.queries.proofs.Chain.{goes-left}
-use Rattle.post_checks.specs.meaning.Post.{duplicatesOf, duplicateLabels}
-use Rattle.post_checks.proofs.Checks.{Walks, walks-start, walks-step, walks-end, all-behind}
+use Rattle.post_checks.specs.meaning.Post.{duplicateLabels}
+use Rattle.post_checks.proofs.Checks.{Walks, walks-start, walks-step, walks-end}
 use Rattle.post_checks.proofs.Duplicates.{labelsSeen, label-still, labels-kept, labels-start, labels-lower}
 use borrow.Author.Needs.{needs}
 use Rattle.post_checks.proofs.check_mir_post.check_duplicate_labels.Statement.{statement}

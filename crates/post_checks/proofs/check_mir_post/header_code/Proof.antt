@@ -1,8 +1,8 @@
 -- By the kind, and what is known of the headers.
-use mathlib.Core.Path.{_≡_, refl, sym, ap, _∙_}
-use mathlib.Core.Bool.{Bool, true, false}
+use mathlib.Core.Path.{_≡_, refl, sym, _∙_}
+use mathlib.Core.Bool.{true, false}
 use borrow.Author.Tests.{eq-eqb, ne-eqb}
-use Rattle.post_checks.specs.machine.Checks.{isPlain, headerCode, headersAfter}
+use Rattle.post_checks.specs.machine.Checks.{isPlain, headerCode}
 use borrow.Author.Needs.{needs}
 use Rattle.post_checks.proofs.check_mir_post.header_code.Statement.{statement}
 use Rattle.post_checks.proofs.check_mir_post.header_code.Tie as tie

@@ -1,5 +1,4 @@
 -- By whether the kind is 0.
-use mathlib.Core.Path.{refl}
 use borrow.Author.Tests.{eq-eqb, ne-eqb}
 use Rattle.post_checks.proofs.check_mir_post.is_plain.Statement.{statement}
 use Rattle.post_checks.proofs.check_mir_post.is_plain.Tie as tie

@@ -1,12 +1,8 @@
 -- By the label, by the first path, and by those between (Duplicates).
-use Prim.Native.Nat.{ℕ, _-_, _≤_}
-use mathlib.Core.Path.{_≡_, refl, sym, ap, _∙_}
-use mathlib.Core.Bool.{Bool, true, false}
-use mathlib.Core.List.{List, [], _∷_, map}
-use native.Mathlib.Omega.{arith}
-use lib.ListN.{length}
+use mathlib.Core.Path.{_≡_, refl, _∙_}
+use mathlib.Core.List.{map}
 use Rattle.paths_numbers.specs.meaning.Text.{same}
-use Rattle.log.specs.meaning.Record.{nextOf, firstText, secondText, logCount}
+use Rattle.log.specs.meaning.Record.{firstText, secondText}
 use Rattle.log.specs.meaning.ReadBack.{chainFrom, bindingAt}
 use Rattle.post_checks.proofs.Duplicates.{other-label, first-path, other-path}
 use borrow.Author.Needs.{needs}

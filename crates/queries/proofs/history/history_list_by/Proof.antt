@@ -2,7 +2,6 @@
 use mathlib.Core.Path.{sym, ap, _∙_}
 use mathlib.Core.Bool.{false}
 use native.Mathlib.Omega.{arith}
-use lib.ListN.{length}
 use lib.Seq.{length-take-le}
 use Rattle.log.specs.meaning.ReadBack.{chainOf, defAt}
 use Rattle.queries.specs.meaning.Query.{historyNumbers}

@@ -1,6 +1,5 @@
 -- The numbers are written if they fit (Numbers).
 use mathlib.Core.Path.{_∙_}
-use native.Mathlib.Omega.{arith}
 use Rattle.queries.proofs.Numbers.{fitted-full, fitted-short}
 use borrow.Author.Needs.{needs}
 use Rattle.queries.proofs.list.fit.Statement.{statement}

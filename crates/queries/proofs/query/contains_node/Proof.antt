@@ -1,6 +1,5 @@
 -- Rows 8 and 9 first, then 1 or 0 (Answers).
-use mathlib.Core.Path.{refl, sym, ap, _∙_}
-use mathlib.Core.Bool.{cond}
+use mathlib.Core.Path.{refl}
 use Rattle.queries.proofs.Answers.{contains-refused, contains-answered}
 use borrow.Author.Needs.{needs}
 use Rattle.queries.proofs.query.contains_node.Statement.{statement}

@@ -1,5 +1,5 @@
 -- Row 9.
-use mathlib.Core.Path.{_≡_, refl, sym, _∙_}
+use mathlib.Core.Path.{refl, sym, _∙_}
 use borrow.Author.Needs.{needs}
 use Rattle.queries.proofs.query.path_refused.Statement.{statement}
 use Rattle.queries.proofs.query.path_refused.Tie as tie

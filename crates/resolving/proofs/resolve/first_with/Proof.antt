@@ -1,10 +1,7 @@
 -- Loop invariant: what was passed of the chain has not the text (Leading).
 use borrow.Author.Needs.{needs}
-use mathlib.Core.Path.{sym, _∙_, ap}
+use mathlib.Core.Path.{sym, _∙_}
 use native.Mathlib.Omega.{arith}
-use Rattle.paths_numbers.specs.meaning.Text.{same}
-use mathlib.Core.List.{List}
-use Prim.Native.Nat.{ℕ}
 use Rattle.queries.proofs.Chain.{goes-left}
 use Rattle.resolving.proofs.Leading.{Passed, passed-none, passed-one, passed-found, passed-all}
 use Rattle.resolving.proofs.resolve.first_with.Statement.{statement}

@@ -1,5 +1,5 @@
 -- By whether the log in hand is an overlay, and by what was not found (Leading).
-use mathlib.Core.Path.{refl, sym, ap, _∙_}
+use mathlib.Core.Path.{sym, _∙_}
 use Rattle.resolving.proofs.Leading.{reports-overlay, missing-label, missing-node, missing-below, never-bound, never-below}
 use Rattle.resolving.proofs.Leading.{never-path}
 use borrow.Author.Needs.{needs}

@@ -1,5 +1,5 @@
 -- By what the reference was read as (Leading).
-use mathlib.Core.Path.{refl, sym, _∙_}
+use mathlib.Core.Path.{refl, _∙_}
 use Rattle.input.specs.machine.PhandleRead.{pathAt, labelAt}
 use Rattle.resolving.proofs.Leading.{read-label, read-below, read-path, read-macro, read-nothing, none-in, never-at}
 use borrow.Author.Needs.{needs}

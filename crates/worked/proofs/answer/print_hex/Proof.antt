@@ -1,7 +1,6 @@
 use borrow.Author.Needs.{needs}
-use Prim.Native.Nat.{ℕ, _≤_, _<_, _-_, _+_}
+use Prim.Native.Nat.{_≤_, _-_}
 use lib.ListN.{length}
-use mathlib.Core.Path.{_≡_}
 use Rattle.worked.proofs.answer.print_hex.Statement.{statement}
 use Rattle.worked.proofs.answer.print_hex.Tie as tie
 

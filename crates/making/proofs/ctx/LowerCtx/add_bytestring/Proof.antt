@@ -1,5 +1,6 @@
 -- By the count of the bytes (Typed).
-use mathlib.Core.Path.{refl, sym, _∙_}
+use mathlib.Core.Path.{refl, sym, ap, _∙_}
+use Rattle.paths_numbers.specs.meaning.Bytestring.{countTold}
 use Rattle.paths_numbers.proofs.Texts.{not-both}
 use Rattle.paths_numbers.proofs.Bytestring.{count-missing, count-bytes}
 use Rattle.making.proofs.Typed.{makes-bytestring}
@@ -31,7 +32,7 @@ with-part-requires c κs = search needs
 returns : tie.Need-returns
 returns c =
     let o = count-missing (c .before .before .before .before .before .before .args .text .now)
-    (sym (c .before .before .bytestring-len .ensures) ∙ c .enum-told .given .1) in
+    (sym (c .before .before .bytestring-len .ensures) ∙ ap countTold (c .enum-told .given .1)) in
     record { even = λ e. absurd (not-both o e); odd = λ e. (refl, refl, refl) }
 
 same-length : tie.Need-same-length
@@ -46,7 +47,7 @@ returns-2 c =
     (c .before .before .before .before .before .before .before .before .before .before .before .before .before .before .before
     .before .args .text .now) _ (sym
     (c .before .before .before .before .before .before .before .before .before .before .before .before .bytestring-len .ensures)
-    ∙ c .before .before .before .before .before .before .before .before .before .before .enum-told2 .given .1) in
+    ∙ ap countTold (c .before .before .before .before .before .before .before .before .before .before .enum-told2 .given .1)) in
     record {
       even = λ e. makes-bytestring
           (c .before .before .before .before .before .before .before .before .before .before .before .before .before .before .before .before

@@ -1,5 +1,4 @@
 -- A record made, and counted as a part.
-use mathlib.Core.Path.{_∙_}
 use borrow.Author.Needs.{needs}
 use Rattle.making.proofs.ctx.LowerCtx.add_part.Statement.{statement}
 use Rattle.making.proofs.ctx.LowerCtx.add_part.Tie as tie

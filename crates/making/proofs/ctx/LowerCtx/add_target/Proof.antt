@@ -1,8 +1,4 @@
 -- A record made below another.
-use mathlib.Core.Path.{_≡_, ap, _∙_}
-use Prim.Native.Nat.{ℕ}
-use Rattle.log.specs.meaning.Record.{referenceKind}
-use Rattle.making.specs.machine.Recs.{partRec}
 use borrow.Author.Needs.{needs}
 use Rattle.making.proofs.ctx.LowerCtx.add_target.Statement.{statement}
 use Rattle.making.proofs.ctx.LowerCtx.add_target.Tie as tie

@@ -5,7 +5,7 @@ use mathlib.Core.List.{[], append-nil}
 use native.Mathlib.Nat.{add-zero}
 use native.Mathlib.Omega.{arith}
 use lib.ListN.{length}
-use Rattle.paths_numbers.specs.meaning.Bytestring.{bytesOf}
+use Rattle.paths_numbers.specs.meaning.Bytestring.{bytesOf, countTold}
 use Rattle.paths_numbers.proofs.Texts.{not-both}
 use Rattle.paths_numbers.proofs.Bytestring.{count-missing, count-bytes, lowered-room}
 use Rattle.making.specs.machine.Made.{makes}
@@ -41,7 +41,7 @@ returns c =
     let a = k .args in
     let x = bytesOf (a .text .now) in
     let e = sym (c .before .before .before .before .before .before .before .before .bytestring-len .ensures)
-    ∙ c .before .before .before .before .before .before .size .given .1 in
+    ∙ ap countTold (c .before .before .before .before .before .before .size .given .1) in
     let n = count-bytes (a .text .now) _ e in
     let same = ap (λ (i : ℕ). makes (a .self) (a .words .now) (a .bytes .now) i (a .link)) (sym (add-zero (length x) ∙ n .1)) in
     record {
@@ -64,7 +64,7 @@ cast-put c =
     let x = bytesOf (a .text .now) in
     let e = sym
     (c .before .before .before .before .before .before .before .before .before .before .before .before .before .bytestring-len
-    .ensures) ∙ c .before .before .before .before .before .before .before .before .before .before .before .size .given .1 in
+    .ensures) ∙ ap countTold (c .before .before .before .before .before .before .before .before .before .before .before .size .given .1) in
     let n = count-bytes (a .text .now) _ e in
     let same = ap (λ (i : ℕ). makes (a .self) (a .words .now) (a .bytes .now) i (a .link)) (sym (add-zero (length x) ∙ n .1)) in
     let r = tested-room (a .self) (a .words .now) (a .bytes .now) (a .rec) x [] (a .link) _ same _
@@ -80,7 +80,7 @@ put-requires c κs =
     let x = bytesOf (a .text .now) in
     let e = sym
     (c .before .before .before .before .before .before .before .before .before .before .before .before .before .bytestring-len
-    .ensures) ∙ c .before .before .before .before .before .before .before .before .before .before .before .size .given .1 in
+    .ensures) ∙ ap countTold (c .before .before .before .before .before .before .before .before .before .before .before .size .given .1) in
     let n = count-bytes (a .text .now) _ e in
     let same = ap (λ (i : ℕ). makes (a .self) (a .words .now) (a .bytes .now) i (a .link)) (sym (add-zero (length x) ∙ n .1)) in
     let r = tested-room (a .self) (a .words .now) (a .bytes .now) (a .rec) x [] (a .link) _ same _
@@ -91,7 +91,7 @@ put-requires c κs =
 returns-2 : tie.Need-returns-2
 returns-2 c =
     let a = c .before .before .before .before .before .before .args in
-    let o = count-missing (a .text .now) (sym (c .before .before .bytestring-len .ensures) ∙ c .enum-told .given .1) in
+    let o = count-missing (a .text .now) (sym (c .before .before .bytestring-len .ensures) ∙ ap countTold (c .enum-told .given .1)) in
     record { even = λ e. absurd (not-both o e); odd = λ e. (refl, refl, refl) }
 
 same-length-3 : tie.Need-same-length-3
@@ -109,8 +109,8 @@ returns-3 c =
     let e = sym
     (c .before .before .before .before .before .before .before .before .before .before .before .before .before .before .before
     .before .bytestring-len .ensures)
-    ∙ c .before .before .before .before .before .before .before .before .before .before .before .before .before .before .size .given
-    .1 in
+    ∙ ap countTold (c .before .before .before .before .before .before .before .before .before .before .before .before .before .before .size .given
+    .1) in
     let n = count-bytes (a .text .now) _ e in
     let same = ap (λ (i : ℕ). makes (a .self) (a .words .now) (a .bytes .now) i (a .link)) (sym (add-zero (length x) ∙ n .1)) in
     let r = tested-room (a .self) (a .words .now) (a .bytes .now) (a .rec) x [] (a .link) _ same _
