@@ -23,3 +23,4 @@ pub mod Braces
 pub mod Slashes
 pub mod Reference
 pub mod Lists
+pub mod Octal

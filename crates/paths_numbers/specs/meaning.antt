@@ -6,6 +6,7 @@ pub mod Lists
 pub mod Path
 pub mod Reading
 pub mod Number
+pub mod Octal
 pub mod Expression
 pub mod Cell
 pub mod Bytestring

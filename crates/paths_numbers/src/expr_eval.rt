@@ -2,7 +2,7 @@
 ghost use mathlib.Core.Path.{_≡_};
 ghost use Prim.Native.Nat.{_+_, _<_, _≤_};
 ghost use Rattle.paths_numbers.specs.meaning.Byte.{digitOf};
-ghost use Rattle.paths_numbers.specs.meaning.Number.{isSuffix, trimmed, baseOf, digits, behindSign, unsigned};
+ghost use Rattle.paths_numbers.specs.meaning.Number.{isSuffix, trimmed, baseOf, hasPrefix, digits, behindSign, unsigned};
 ghost use Rattle.paths_numbers.specs.meaning.Number.{unsignedNumber};
 ghost use Rattle.paths_numbers.specs.meaning.Number.{positive, negative, signed, signedNumber, intCode, intTold, i64Told};
 ghost use Rattle.paths_numbers.specs.machine.Limits.{Within};
@@ -17,6 +17,9 @@ pub(crate) const MOST_DOWN: u64 = 9223372036854775808;
 
 // The base of a number without a prefix.
 const DECIMAL: u64 = 10;
+
+// The base behind a leading 0.
+const OCTAL: u64 = 8;
 
 // What a byte that is no digit counts as: more than any base has.
 const NO_DIGIT: u64 = 36;
@@ -60,10 +63,10 @@ pub fn parse_int_tok(text: &[u8], size: BitsSize) -> ParsedInt
     let most = size.most();
     let s = trim_suffixes(text);
     let base = base_of(s);
-    if base == DECIMAL {
-        return read_unsigned(s, base, most);
+    if has_prefix(s) {
+        return read_unsigned(&s[2..], base, most);
     }
-    read_unsigned(&s[2..], base, most)
+    read_unsigned(s, base, most)
 }
 
 // A number's text, read as a signed 64-bit number.
@@ -72,10 +75,10 @@ pub fn parse_int_tok_i64(text: &[u8]) -> ParsedI64
 {
     let s = trim_suffixes(text);
     let base = base_of(s);
-    if base == DECIMAL {
-        return read_signed(s, base);
+    if has_prefix(s) {
+        return read_signed(&s[2..], base);
     }
-    read_signed(&s[2..], base)
+    read_signed(s, base)
 }
 
 // The text without the letters u, U, l and L at its end.
@@ -102,21 +105,39 @@ fn is_suffix(b: u8) -> bool
     }
 }
 
-// The base that a text's prefix names.
+// The base of a text: the one that its prefix names, 8 behind another leading 0, else 10.
 fn base_of(s: &[u8]) -> u64
     ensures { λ r. ⌜ r ≡ baseOf (now (s .entry)) ⌝ }
 {
-    if s.len() < 2 {
+    if s.len() == 0 {
         return DECIMAL;
     }
     if s[0] != b'0' {
         return DECIMAL;
     }
+    if s.len() == 1 {
+        return OCTAL;
+    }
     match s[1] {
         b'x' | b'X' => 16,
         b'b' | b'B' => 2,
-        b'o' | b'O' => 8,
-        _ => DECIMAL,
+        _ => OCTAL,
+    }
+}
+
+// Whether a text starts with one of the known prefixes.
+fn has_prefix(s: &[u8]) -> bool
+    ensures { λ r. ⌜ r ≡ hasPrefix (now (s .entry)) ⌝ }
+{
+    if s.len() < 2 {
+        return false;
+    }
+    if s[0] != b'0' {
+        return false;
+    }
+    match s[1] {
+        b'x' | b'X' | b'b' | b'B' | b'o' | b'O' => true,
+        _ => false,
     }
 }
 

@@ -4,7 +4,8 @@ use mathlib.Core.Path.{_≡_, refl}
 use mathlib.Core.List.{[], _∷_}
 use Rattle.paths_numbers.specs.meaning.Byte.{digitOf}
 use Rattle.paths_numbers.specs.meaning.Text.{isEmpty}
-use Rattle.paths_numbers.specs.meaning.Number.{unsignedNumber, unsigned, digits, behindSign, behindPrefix, baseOf, trimmed, isSuffix}
+use Rattle.paths_numbers.specs.meaning.Number.{unsignedNumber, unsigned, digits, behindSign, behindPrefix, baseOf, hasPrefix, trimmed, isSuffix}
+use Rattle.paths_numbers.specs.meaning.Number.{isPrefixLetter}
 use Rattle.paths_numbers.specs.meaning.Cell.{sizeOf}
 use Rattle.log.specs.meaning.Contents.{Span, number, cellList}
 use Rattle.input.specs.meaning.Tree.{Trees, tree, empty, more}
@@ -25,6 +26,6 @@ pub neighbours-stay : lowerValues threeCells ≡ record {
       ∷ [];
   reports = report 17 [] (span 3 4) ∷ [];
 }
-unfolding lowerValues lowerValue lowerCells lowerCell sizeOf isEmpty unsignedNumber unsigned digits behindSign behindPrefix baseOf trimmed
-    isSuffix digitOf
+unfolding lowerValues lowerValue lowerCells lowerCell sizeOf isEmpty unsignedNumber unsigned digits behindSign behindPrefix baseOf hasPrefix
+    isPrefixLetter trimmed isSuffix digitOf
 neighbours-stay = refl

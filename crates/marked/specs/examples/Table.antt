@@ -11,7 +11,7 @@ use Rattle.paths_numbers.specs.meaning.Lists.{any}
 use Rattle.paths_numbers.proofs.Texts.{by-test, not-both}
 use Rattle.paths_numbers.specs.meaning.Reading as R
 use Rattle.paths_numbers.specs.meaning.Number.{unsignedNumber, unsigned, signedNumber, signed, digits, behindSign, behindPrefix, baseOf}
-use Rattle.paths_numbers.specs.meaning.Number.{trimmed, isSuffix}
+use Rattle.paths_numbers.specs.meaning.Number.{hasPrefix, isPrefixLetter, trimmed, isSuffix}
 use Rattle.paths_numbers.specs.meaning.Expression.{evalInfix, quotient, shiftLeft}
 use Rattle.paths_numbers.specs.meaning.Cell.{exprCell, largest}
 use Rattle.paths_numbers.specs.meaning.Bytestring.{countOf, nibbles, pairs}
@@ -51,17 +51,17 @@ below-8-bits = refl
 
 -- "0x" gives 16
 pub prefix-alone : unsignedNumber (largest Bits8) (48 ∷ 120 ∷ []) ≡ R.fails 16
-unfolding unsignedNumber unsigned digits behindSign behindPrefix baseOf trimmed isSuffix digitOf
+unfolding unsignedNumber unsigned digits behindSign behindPrefix baseOf hasPrefix isPrefixLetter trimmed isSuffix digitOf
 prefix-alone = refl
 
 -- "256" in 8 bits gives 18
 pub above-8-bits : unsignedNumber (largest Bits8) (50 ∷ 53 ∷ 54 ∷ []) ≡ R.fails 18
-unfolding unsignedNumber unsigned digits behindSign behindPrefix baseOf trimmed isSuffix digitOf
+unfolding unsignedNumber unsigned digits behindSign behindPrefix baseOf hasPrefix isPrefixLetter trimmed isSuffix digitOf
 above-8-bits = refl
 
--- "010" gives 10
-pub leading-zero : unsignedNumber (largest Bits8) (48 ∷ 49 ∷ 48 ∷ []) ≡ R.value 10
-unfolding unsignedNumber unsigned digits behindSign behindPrefix baseOf trimmed isSuffix digitOf
+-- "010" gives 8, as 02's request 2 has it
+pub leading-zero : unsignedNumber (largest Bits8) (48 ∷ 49 ∷ 48 ∷ []) ≡ R.value 8
+unfolding unsignedNumber unsigned digits behindSign behindPrefix baseOf hasPrefix isPrefixLetter trimmed isSuffix digitOf
 leading-zero = refl
 
 -- 0 && 1/0 is 0: an infix record && with the number 0 and an infix record / with the numbers 1 and 0
@@ -73,7 +73,7 @@ pub and-decides-early :
     empty))
     empty)
     ≡ value (pos 0)
-unfolding eval evals signedNumber signed digits behindSign behindPrefix baseOf trimmed isSuffix digitOf evalInfix quotient
+unfolding eval evals signedNumber signed digits behindSign behindPrefix baseOf hasPrefix isPrefixLetter trimmed isSuffix digitOf evalInfix quotient
 and-decides-early = refl
 
 -- 1 << 63 is -2^63

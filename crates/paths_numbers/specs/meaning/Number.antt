@@ -44,24 +44,32 @@ unfoldable pub trimmed : List ℕ → List ℕ
 trimmed [] = []
 trimmed (b ∷ s) = kept b (trimmed s)
 
--- the base that the letter behind a leading 0 gives
+-- the base that the letter behind a leading 0 gives; 02, request 2: with "anything else than the known prefixes" it is 8
 abbrev pub baseOfLetter : ℕ → ℕ
 baseOfLetter c =
     cond (eqb c 120) 16
     (cond (eqb c 88) 16
     (cond (eqb c 98) 2
     (cond (eqb c 66) 2
-    (cond (eqb c 111) 8
-    (cond (eqb c 79) 8
-    10)))))
+    8)))
 
--- "After 0x/0X … base 16, after 0b/0B base 2, after 0o/0O base 8, else base 10, leading zeros included."
+-- "After 0x/0X … base 16, after 0b/0B base 2, after 0o/0O base 8"; 02, request 2: "Text … that starts with 0 and goes on with anything else
+-- … is base 8"; else base 10
 unfoldable pub baseOf : List ℕ → ℕ
 baseOf s = cond (eqb (getD s 0 0) 48) (baseOfLetter (getD s 1 0)) 10
 
+-- x, X, b, B, o and O
+unfoldable pub isPrefixLetter : ℕ → Bool
+isPrefixLetter c =
+    cond (eqb c 120) true (cond (eqb c 88) true (cond (eqb c 98) true (cond (eqb c 66) true (cond (eqb c 111) true (eqb c 79)))))
+
+-- whether a text starts with one of the known prefixes
+unfoldable pub hasPrefix : List ℕ → Bool
+hasPrefix s = cond (eqb (getD s 0 0) 48) (isPrefixLetter (getD s 1 0)) false
+
 -- the part behind the prefix, all of it where there is none
 unfoldable pub behindPrefix : List ℕ → List ℕ
-behindPrefix s = cond (eqb (baseOf s) 10) s (drop 2 s)
+behindPrefix s = cond (hasPrefix s) (drop 2 s) s
 
 -- the digits s behind those that gave acc: "the first digit that fails decides", not a digit before too large
 unfoldable pub digits : ℕ → ℕ → ℕ → ℕ → List ℕ → Reading ℕ
