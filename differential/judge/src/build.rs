@@ -8,10 +8,17 @@ use dt_tools_parser::{
     lexer::TokenKind,
 };
 
+use crate::octal;
+
 pub const NOWHERE: TextRange = TextRange { start: 0, end: 0, origin: 0 };
 
 pub fn token(kind: TokenKind, text: &str, range: TextRange) -> RedItem {
     TreeItem::Token(RedToken::new(kind, text, range))
+}
+
+/// The token of a number's text, which is octal as 02 has it.
+pub fn number_token(text: &str, range: TextRange) -> RedToken {
+    RedToken::new(TokenKind::Number, &octal::for_the_rust(text), range)
 }
 
 pub fn node(kind: NodeKind, range: TextRange, children: Vec<RedItem>) -> RedItem {
@@ -51,7 +58,7 @@ pub const INFIX: [TokenKind; 19] = [
 
 /// A literal with a number.
 pub fn number(text: &str, range: TextRange) -> RedItem {
-    node(NodeKind::LiteralExpr, range, vec![token(TokenKind::Number, text, range)])
+    node(NodeKind::LiteralExpr, range, vec![TreeItem::Token(number_token(text, range))])
 }
 
 /// Prefix operator W (0: none) over operands.
@@ -99,9 +106,9 @@ pub fn value(value: i64) -> RedItem {
 pub fn cell_list(width: &str, range: TextRange, cells: Vec<RedItem>) -> RedItem {
     let mut children = Vec::new();
     if !width.is_empty() {
-        let bits =
-            vec![token(TokenKind::BitsDirective, "/bits/", range), token(TokenKind::Number, width, range)];
-        children.push(node(NodeKind::DtsDirective, range, bits));
+        let bits = TreeItem::Token(number_token(width, range));
+        let directive = token(TokenKind::BitsDirective, "/bits/", range);
+        children.push(node(NodeKind::DtsDirective, range, vec![directive, bits]));
     }
     children.extend(cells);
     node(NodeKind::DtCellList, range, children)

@@ -6,13 +6,19 @@ use crate::{
     answer::{Answer, Definition, Query, Value},
     by_01::{
         lower::{EVENTS, Lowered},
-        paths,
+        numbers, paths, values,
     },
     generate::Case,
+    octal,
     records::{MOST_RECORDS, MOST_TEXT, Order, RECORD},
-    tree::{self, Place, walk},
+    tree::{self, Place, Rec, walk},
     trees::Judged,
 };
+
+/// Where number texts stand.
+const AS_CELL: &str = "as a cell";
+const IN_EXPRESSION: &str = "in an expression";
+pub const AS_WIDTH: &str = "as a width";
 
 /// Counts of what came up, with 0 for what is to come up and has not.
 pub struct Coverage(BTreeMap<String, u64>);
@@ -60,6 +66,9 @@ impl Coverage {
             .map(str::to_owned),
         );
         wanted.extend([8, 16, 32, 64].map(|width| format!("cell list of {width} bits")));
+        wanted.extend(octal::wanted(AS_CELL, &[17, 18], "read"));
+        wanted.extend(octal::wanted(IN_EXPRESSION, &[17, 18], "read"));
+        wanted.extend(octal::wanted(AS_WIDTH, &[12, 17, 18], "code 12"));
         Self(wanted.into_iter().map(|feature| (feature, 0)).collect())
     }
 
@@ -92,6 +101,13 @@ impl Coverage {
         *self.0.entry(feature).or_default() += times;
     }
 
+    /// Notes a number's text, if it is octal, with what it reads as.
+    pub fn note_octal<T>(&mut self, place: &str, text: &[u8], read: &Result<T, u32>) {
+        for feature in octal::features(place, text, read) {
+            self.add(feature, 1);
+        }
+    }
+
     /// The report, and what never came up.
     pub fn report(&self) -> (String, Vec<&str>) {
         let lines = self.0.iter().map(|(feature, times)| format!("{times:>9} {feature}\n")).collect();
@@ -106,6 +122,7 @@ impl Coverage {
         walk(&case.top, Place::TopItem, 1, &mut |rec, place, depth| {
             deepest = deepest.max(depth);
             self.add(format!("kind {} as {place:?}", rec.kind), 1);
+            self.note_numbers(rec, place);
             let named = rec.first(tree::NAME).is_some();
             match rec.kind {
                 tree::DIRECTIVE => {
@@ -140,6 +157,22 @@ impl Coverage {
         self.add("64 links".to_owned(), u64::from(deepest == 64));
         self.add("65536 bytes of text".to_owned(), u64::from(case.records.text.len() == MOST_TEXT));
         self.add("2048 records".to_owned(), u64::from(case.records.words.len() == MOST_RECORDS * RECORD));
+    }
+
+    /// The octal texts of a record: a literal's, a cell list's width, and its cells' where the width is good.
+    fn note_numbers(&mut self, rec: &Rec, place: Place) {
+        if rec.kind == tree::NUMBER && place == Place::Expression {
+            self.note_octal(IN_EXPRESSION, &rec.text, &numbers::read_signed(&rec.text));
+        }
+        if rec.kind == tree::CELL_LIST {
+            let width = values::width(&rec.text);
+            self.note_octal(AS_WIDTH, &rec.text, &width);
+            for cell in rec.child.iter().filter(|cell| cell.kind == tree::NUMBER) {
+                if let Ok(bits) = width {
+                    self.note_octal(AS_CELL, &cell.text, &numbers::read_unsigned(&cell.text, bits));
+                }
+            }
+        }
     }
 
     fn note_answer(&mut self, answer: &Answer) {

@@ -1,21 +1,22 @@
 //! A description as the tree that docs/src lowers.
 //!
-//! Two things are put in other words, so that the Rust can judge what 01 says where the Rust alone
-//! could not: a directive as a cell (which `ast.rs` skips) is shown as a preprocessor conditional,
-//! and an expression on which the Rust panics as a macro with the range of the operator that
-//! does. Their diagnostics are known by their origin and get 01's codes.
+//! Three things are put in other words, so that the Rust can judge what 01 and 02 say where the Rust alone
+//! could not: an octal number has `0o` in front (`octal`), a directive as a cell (which `ast.rs` skips) is
+//! shown as a preprocessor conditional, and an expression on which the Rust panics as a macro with the
+//! range of the operator that does. The diagnostics of the last two are known by their origin and get
+//! 01's codes.
 
 use std::{collections::BTreeMap, sync::Arc};
 
 use dt_tools_parser::{
     TextRange,
     ast::{AstNode, Expr},
-    cst::{NodeKind, RedItem, RedNode},
+    cst::{NodeKind, RedItem, RedNode, TreeItem},
     lexer::TokenKind,
 };
 
 use crate::{
-    build::{self, NOWHERE, as_node, node, token},
+    build::{self, NOWHERE, as_node, node, number_token, token},
     panics,
     tree::{self, Rec, Span},
 };
@@ -190,7 +191,7 @@ impl Builder {
     fn literal(&mut self, rec: &Rec) -> RedItem {
         let range = self.range(rec.span);
         if rec.kind == tree::NUMBER {
-            token(TokenKind::Number, text(rec), range)
+            TreeItem::Token(number_token(text(rec), range))
         } else {
             let character = char::from_u32(rec.w).expect("a character");
             token(TokenKind::Char, character.encode_utf8(&mut [0; 4]), range)

@@ -54,11 +54,12 @@ pub fn near_limits(random: &mut Random, count: usize) -> Vec<String> {
             let value = random.pick(&limits) + random.below(7) as i128 - 3;
             let value = if random.once_in(4) { value * (random.below(40) as i128 - 20) } else { value };
             let magnitude = value.unsigned_abs();
-            let (before, digits) = match random.below(7) {
+            let (before, digits) = match random.below(8) {
                 0 => (random.pick(&["0x", "0X"]), format!("{magnitude:x}")),
                 1 => ("0x", format!("{magnitude:X}")),
                 2 => (random.pick(&["0b", "0B"]), format!("{magnitude:b}")),
                 3 => (random.pick(&["0o", "0O"]), format!("{magnitude:o}")),
+                4 => ("0", format!("{magnitude:o}")),
                 _ => ("", format!("{magnitude}")),
             };
             let sign = if value < 0 { "-" } else { random.pick(&["", "", "", "+", "-"]) };
@@ -75,6 +76,59 @@ pub fn near_limits(random: &mut Random, count: usize) -> Vec<String> {
         })
         .collect()
 }
+
+/// Numbers and cell widths in base 8 by a leading 0, good and bad ones, those at the end of each width;
+/// and texts with a prefix or a sign in front, which are none.
+pub const OCTAL: [&str; 48] = [
+    "010",
+    "08",
+    "0",
+    "00",
+    "07",
+    "010u",
+    "0ULL",
+    "09L",
+    "+010",
+    "-010",
+    "0+7",
+    "0-7",
+    "00x1",
+    "0_7",
+    "0.7",
+    "0 7",
+    "07 ",
+    "0a",
+    "0z",
+    "0u0",
+    "0\u{e9}",
+    "0x010",
+    "0b010",
+    "0o010",
+    "0X",
+    "0B",
+    "0O",
+    "0378",
+    "04008",
+    "0377",
+    "0400",
+    "0177777",
+    "0200000",
+    "037777777777",
+    "040000000000",
+    "0777777777777777777777",
+    "01000000000000000000000",
+    "01777777777777777777777",
+    "02000000000000000000000",
+    "020",
+    "040",
+    "0100",
+    "016",
+    "032",
+    "064",
+    "0020u",
+    "000000000000000000000000000000377",
+    "000000000000000000000000000000400",
+];
 
 /// Values near the powers of 2 and a few small ones, with both signs; the most telling first.
 pub fn boundary_values() -> Vec<i64> {

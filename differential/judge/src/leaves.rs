@@ -47,7 +47,7 @@ pub const INTS: [(&str, Int); 5] =
     [("u8", Int::U8), ("u16", Int::U16), ("u32", Int::U32), ("u64", Int::U64), ("i64", Int::I64)];
 
 pub fn int(kind: Int, text: &str) -> Result<i128, u32> {
-    let tok = &RedToken::new(TokenKind::Number, text, NOWHERE);
+    let tok = &build::number_token(text, NOWHERE);
     coded(|diag| {
         Ok(match kind {
             Int::U8 => parse_int_tok::<u8>(tok, diag)?.into(),
@@ -61,7 +61,7 @@ pub fn int(kind: Int, text: &str) -> Result<i128, u32> {
 
 /// The width of a cell list whose width's text this is (empty: none).
 pub fn width(text: &str) -> Result<u32, u32> {
-    let tok = RedToken::new(TokenKind::Number, text, NOWHERE);
+    let tok = build::number_token(text, NOWHERE);
     coded(|diag| reach::bits_size((!text.is_empty()).then_some(&tok), diag).map(u32::from))
 }
 

@@ -20,6 +20,7 @@ pub mod measure;
 pub mod memory;
 pub mod notation;
 pub mod numbers;
+pub mod octal;
 pub mod ours;
 pub mod output;
 pub mod pairs;

@@ -46,7 +46,7 @@ fn command(words: &[&str]) -> Result<(), String> {
         ["all", cases] => number(cases).and_then(all),
         ["short"] => short(),
         ["worked", file] => worked::run(file),
-        ["numbers"] => parts::numbers(&ours::leaves()?).closing(),
+        ["numbers"] => parts::numbers(&ours::leaves()?)?.closing(),
         ["small"] => parts::small(&ours::library()?)?.closing(),
         ["trees", from, cases] => part(parts::descriptions, number(from)?, number(cases)?),
         ["damaged"] => part(parts::damaged, 0, ALL.damaged),
@@ -92,7 +92,7 @@ fn part(part: fn(&Library, u64, u64) -> Result<Counts, String>, from: u64, cases
 fn parts_of(sizes: &Sizes) -> Result<Counts, String> {
     let (leaves, ours) = (ours::leaves()?, ours::library()?);
     let parts = [
-        parts::numbers(&leaves),
+        parts::numbers(&leaves)?,
         parts::small(&ours)?,
         parts::descriptions(&ours, 0, sizes.descriptions)?,
         parts::damaged(&ours, 0, sizes.damaged)?,

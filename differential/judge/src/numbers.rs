@@ -7,8 +7,10 @@ use crate::{
     answer::Target,
     by_01::{self, paths},
     counts::Counts,
-    inputs::{boundary_values, near_limits, pairs, pairs_of, texts},
+    coverage::{AS_WIDTH, Coverage},
+    inputs::{OCTAL, boundary_values, near_limits, pairs, pairs_of, texts},
     leaves::{self, INTS, Int},
+    octal,
     ours::Leaves,
     panics::Outcome,
     random::Random,
@@ -88,12 +90,25 @@ impl Run {
     }
 }
 
+/// What is to come up of a side's numbers: octal texts, good and bad ones.
+pub fn wanted(side: &Leaves) -> Coverage {
+    let ints = INTS.iter().flat_map(|(name, _)| octal::wanted(&as_int(name), &[17, 18], "read"));
+    let ints = side.int.map(|_| ints).into_iter().flatten();
+    let widths = side.width.map(|_| octal::wanted(AS_WIDTH, &[12, 17, 18], "code 12"));
+    Coverage::wanting(ints.chain(widths.into_iter().flatten()))
+}
+
+/// A number's text read as one of the kinds of integers.
+fn as_int(name: &str) -> String {
+    format!("as {name}")
+}
+
 /// Compares docs/src with a side, on at most about `most` cases for each leaf.
-pub fn compare(side: &Leaves, most: u64) -> Lines {
+pub fn compare(side: &Leaves, most: u64, coverage: &mut Coverage) -> Lines {
     let mut lines = Lines::new();
     let random = &mut Random::new(3);
     compare_paths(side, most, &mut lines);
-    compare_ints(side, most, random, &mut lines);
+    compare_ints(side, most, random, coverage, &mut lines);
     compare_values(side, most, random, &mut lines);
     compare_operators(side, most, random, &mut lines);
     lines
@@ -167,11 +182,13 @@ fn compare_paths(side: &Leaves, most: u64, lines: &mut Lines) {
     }
 }
 
-fn compare_ints(side: &Leaves, most: u64, random: &mut Random, lines: &mut Lines) {
+fn compare_ints(side: &Leaves, most: u64, random: &mut Random, coverage: &mut Coverage, lines: &mut Lines) {
+    let octal = OCTAL.map(str::to_owned);
     let short = texts(&["0", "1", "7", "9", "a", "f", "x", "b", "o", "+", "-", "u", "L", "z"], 5);
     let near = near_limits(random, 200_000);
     // Both from the start, so that a fault is found early.
     let mixed = near.iter().zip(&short).flat_map(|(near, short)| [near, short]).chain(&short[near.len()..]);
+    let mixed = octal.iter().chain(mixed);
     if let Some(int) = side.int {
         for (name, kind) in INTS {
             let mut run = Run::new(name, most);
@@ -179,7 +196,9 @@ fn compare_ints(side: &Leaves, most: u64, random: &mut Random, lines: &mut Lines
                 if run.full() {
                     break;
                 }
-                run.compare(|| format!("{text:?}"), leaves::int(kind, text), int(kind, text.as_bytes()));
+                let rust = leaves::int(kind, text);
+                coverage.note_octal(&as_int(name), text.as_bytes(), &rust);
+                run.compare(|| format!("{text:?}"), rust, int(kind, text.as_bytes()));
             }
             run.end(lines);
         }
@@ -187,11 +206,13 @@ fn compare_ints(side: &Leaves, most: u64, random: &mut Random, lines: &mut Lines
     if let Some(width) = side.width {
         let mut run = Run::new("width", most);
         let bits = texts(&["0", "1", "2", "3", "4", "6", "8", "x", "u", "+"], 4);
-        for text in near.iter().take(100).chain(&bits).chain(&near[100..50_000]) {
+        for text in octal.iter().chain(&near[..100]).chain(&bits).chain(&near[100..50_000]) {
             if run.full() {
                 break;
             }
-            run.compare(|| format!("{text:?}"), leaves::width(text), width(text.as_bytes()));
+            let rust = leaves::width(text);
+            coverage.note_octal(AS_WIDTH, text.as_bytes(), &rust);
+            run.compare(|| format!("{text:?}"), rust, width(text.as_bytes()));
         }
         run.end(lines);
     }

@@ -39,7 +39,7 @@ fn reported(coverage: &Coverage, of: &str, counted: &str) -> Result<(), String> 
 }
 
 /// The leaves.
-pub fn numbers(ours: &Leaves) -> Counts {
+pub fn numbers(ours: &Leaves) -> Result<Counts, String> {
     let sides = [("01's sentences", &numbers::by_01()), ("our library", ours)];
     let compared = sides.map(|(name, side)| {
         println!("numbers and paths, the Rust against {name}:");
@@ -48,14 +48,17 @@ pub fn numbers(ours: &Leaves) -> Counts {
     compared.into_iter().sum()
 }
 
-/// The leaves of one side, at most so many inputs of each.
-pub fn leaves(side: &Leaves, most: u64) -> Counts {
-    let lines = numbers::compare(side, most);
-    for (leaf, Counts { compared, different, aside }) in &lines {
+/// The leaves of one side, at most so many inputs of each, with the coverage report.
+pub fn leaves(side: &Leaves, most: u64) -> Result<Counts, String> {
+    let mut coverage = numbers::wanted(side);
+    let lines = numbers::compare(side, most, &mut coverage);
+    let line = |(leaf, Counts { compared, different, aside }): &(&str, Counts)| {
         let panics = if *aside == 0 { String::new() } else { format!(", {aside} by 01's rule") };
-        println!("{compared:>9} {leaf}, {different} different{panics}");
-    }
-    lines.into_iter().map(|(_, counts)| counts).sum()
+        format!("{compared:>9} {leaf}, {different} different{panics}")
+    };
+    let counted: Vec<String> = lines.iter().map(line).collect();
+    reported(&coverage, "numbers", &counted.join("\n"))?;
+    Ok(lines.into_iter().map(|(_, counts)| counts).sum())
 }
 
 /// Small descriptions with their known answers.

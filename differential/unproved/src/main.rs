@@ -29,10 +29,10 @@ fn main() -> ExitCode {
     let words: Vec<&str> = words.iter().map(String::as_str).collect();
     let number = |text: &str| text.parse::<u64>().map_err(|_| format!("{text} is not a number"));
     let result = match words[..] {
-        [] => parts::leaves(&ours(), u64::MAX).closing(),
+        [] => leaves(u64::MAX),
         ["whole"] => whole::compare(0, 20_000),
         ["whole", from, cases] => number(from).and_then(|from| whole::compare(from, number(cases)?)),
-        [most] => number(most).and_then(|most| parts::leaves(&ours(), most).closing()),
+        [most] => number(most).and_then(leaves),
         _ => Err("usage: run unproved [CASES] | whole [FROM CASES]".to_owned()),
     };
     match result {
@@ -42,6 +42,11 @@ fn main() -> ExitCode {
             ExitCode::FAILURE
         }
     }
+}
+
+/// The leaves, at most so many inputs of each.
+fn leaves(most: u64) -> Result<(), String> {
+    parts::leaves(&ours(), most)?.closing()
 }
 
 fn ours() -> Leaves {

@@ -1,4 +1,5 @@
-//! 01's rules written from its sentences (and its settled readings), not from docs/src.
+//! 01's rules, and those of 02's request 2, written from their sentences (and the settled readings), not
+//! from docs/src.
 //!
 //! The Rust is compared with these, so that a sentence of 01 that says something else than the
 //! Rust is found; and they answer what the Rust can't be asked: which descriptions are refused, the

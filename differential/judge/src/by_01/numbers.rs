@@ -1,4 +1,4 @@
-//! Integers and operators.
+//! Integers and operators. Texts in base 8 without a prefix are 02's, request 2.
 
 /// Reads an integer between `least` and `most`; `-` is allowed if `least` is below 0.
 pub fn read(text: &[u8], least: i128, most: i128) -> Result<i128, u32> {
@@ -8,6 +8,8 @@ pub fn read(text: &[u8], least: i128, most: i128) -> Result<i128, u32> {
         [b'0', b'x' | b'X', rest @ ..] => (16, rest),
         [b'0', b'b' | b'B', rest @ ..] => (2, rest),
         [b'0', b'o' | b'O', rest @ ..] => (8, rest),
+        // Starts with 0 and goes on with anything else than the known prefixes, or not at all.
+        [b'0', ..] => (8, text),
         _ => (10, text),
     };
     let (negative, digits) = match digits {

@@ -1,9 +1,12 @@
 //! Properties, values, cells and expressions.
 
 use super::{MOST_LINKS, Maker};
-use crate::tree::{self, Place, Rec};
+use crate::{
+    inputs::OCTAL,
+    tree::{self, Place, Rec},
+};
 
-const WIDTHS: [&str; 20] = [
+const WIDTHS: [&str; 32] = [
     "8",
     "16",
     "32",
@@ -24,6 +27,18 @@ const WIDTHS: [&str; 20] = [
     "-8",
     "+16",
     "\u{e9}",
+    "010",
+    "020",
+    "040",
+    "0100",
+    "010u",
+    "0020UL",
+    "08",
+    "016",
+    "032",
+    "064",
+    "0-8",
+    "040000000000",
 ];
 const STRINGS: [&str; 7] = ["", "ok", "a b", "\u{0}\n", "\u{e9}\u{10ffff}", "-", "a,b\\c"];
 const BYTES: [&str; 14] = [
@@ -44,14 +59,13 @@ const BYTES: [&str; 14] = [
 ];
 const CHARACTERS: [u32; 13] =
     [97, 0, 48, 127, 128, 255, 256, 0xd7ff, 0xe000, 0xffff, 0x1_0000, 0x10_ffff, 0x3b1];
-const NUMBERS: [&str; 48] = [
+const NUMBERS: [&str; 47] = [
     "0",
     "1",
     "2",
     "3",
     "7",
     "10",
-    "010",
     "0x10",
     "0X1f",
     "0b101",
@@ -248,15 +262,16 @@ impl Maker {
         if self.random.once_in(6) {
             let bits = self.random.below(64);
             let number = (self.random.next() >> bits).wrapping_add(self.random.below(3) as u64);
-            let text = match self.random.below(4) {
+            let text = match self.random.below(5) {
                 0 => format!("{number}"),
                 1 => format!("{number:#x}"),
                 2 => format!("{number:#b}"),
+                3 => format!("0{number:o}"),
                 _ => format!("{number:#o}UL"),
             };
             return self.text(tree::NUMBER, &text);
         }
-        let text = self.random.pick(from);
+        let text = if self.random.once_in(10) { self.random.pick(&OCTAL) } else { self.random.pick(from) };
         self.text(tree::NUMBER, text)
     }
 

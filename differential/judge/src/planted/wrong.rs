@@ -1,12 +1,14 @@
-//! 01's seven wrong lowerings, and faults in the rows.
+//! 01's seven wrong lowerings, faults of octal numbers, and faults in the rows.
 
 use super::{By, Fault, lower};
 use crate::{
     by_01::rows::{self, Clause},
+    octal::is_octal,
     records::{MOST_RECORDS, MOST_TEXT, RECORD, Records},
+    tree,
 };
 
-pub static FAULTS: [Fault; 18] = [
+pub static FAULTS: [Fault; 20] = [
     ("only the first top item is lowered", By::Rust, first_item),
     ("an empty log for all input", By::Rust, |records, words, bytes| {
         fixed(records, words, bytes, &[[0; RECORD]])
@@ -26,6 +28,12 @@ pub static FAULTS: [Fault; 18] = [
         lower(records, words, bytes)
     }),
     ("refusal of all", By::Rust, |_, _, _| (1, 0)),
+    ("a leading 0 still means base 10", By::Rust, |records, words, bytes| {
+        octal_cut(records, words, bytes, |text| text.bytes().take_while(|byte| *byte == b'0').count())
+    }),
+    ("two bytes of an octal text are dropped as a prefix", By::Rust, |records, words, bytes| {
+        octal_cut(records, words, bytes, |_| 2)
+    }),
     ("row 1: 2,048 records are too many", By::Rows, |records, words, bytes| {
         let most = records.words.len() == MOST_RECORDS * RECORD;
         if most { (1, 0) } else { lower(records, words, bytes) }
@@ -76,6 +84,26 @@ fn fixed(records: &Records, words: &mut [u32], bytes: &mut [u8], other: &[[u32; 
         (0, 0) => lower(&Records { words: other.concat(), text: Vec::new() }, words, bytes),
         answer => answer,
     }
+}
+
+/// Lowers with so many bytes less in front of each octal text, the last byte kept.
+fn octal_cut(records: &Records, words: &mut [u32], bytes: &mut [u8], cut: fn(&str) -> usize) -> (u32, u32) {
+    let mut other = records.clone();
+    if rows::refusal(records).is_none() {
+        let numbers = other
+            .words
+            .chunks_mut(RECORD)
+            .filter(|record| matches!(record[0], tree::NUMBER | tree::CELL_LIST));
+        for record in numbers {
+            let text = &records.text[record[3] as usize..][..record[4] as usize];
+            if let Some(text) = std::str::from_utf8(text).ok().filter(|text| is_octal(text)) {
+                let less = cut(text).min(text.len() - 1) as u32;
+                record[3] += less;
+                record[4] -= less;
+            }
+        }
+    }
+    lower(&other, words, bytes)
 }
 
 fn first_item(records: &Records, words: &mut [u32], bytes: &mut [u8]) -> (u32, u32) {
