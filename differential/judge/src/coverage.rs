@@ -15,6 +15,9 @@ use crate::{
     trees::Judged,
 };
 
+/// A text as long as it may be.
+pub const FULL_TEXT: &str = "65536 bytes of text";
+
 /// Where number texts stand.
 const AS_CELL: &str = "as a cell";
 const IN_EXPRESSION: &str = "in an expression";
@@ -59,7 +62,7 @@ impl Coverage {
                 "defined again after a deletion",
                 "root deleted",
                 "2048 records",
-                "65536 bytes of text",
+                FULL_TEXT,
                 "64 links",
                 "path of 40 components",
             ]
@@ -155,7 +158,7 @@ impl Coverage {
         };
         self.add(order.to_owned(), 1);
         self.add("64 links".to_owned(), u64::from(deepest == 64));
-        self.add("65536 bytes of text".to_owned(), u64::from(case.records.text.len() == MOST_TEXT));
+        self.add(FULL_TEXT.to_owned(), u64::from(case.records.text.len() == MOST_TEXT));
         self.add("2048 records".to_owned(), u64::from(case.records.words.len() == MOST_RECORDS * RECORD));
     }
 

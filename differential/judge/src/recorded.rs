@@ -6,9 +6,9 @@ use std::{collections::BTreeSet, fs, path::Path};
 use crate::{
     answer::{Cell, Definition, Diagnosis, Target, Value},
     by_01::{self, lower::Lowered},
-    coverage::Coverage,
+    coverage::{Coverage, FULL_TEXT},
     generate::{Case, Size},
-    records::RECORD,
+    records::{MOST_TEXT, RECORD},
     small,
     tree::Span,
     trees::{Judged, judged, judged_case},
@@ -19,6 +19,8 @@ const GENERATED: [(Size, usize, u64, usize); 3] =
     [(Size::Small, 420, 20_000, 64), (Size::Middle, 60, 4_000, 160), (Size::Limit, 3, 300, 2048)];
 /// Queries recorded for each case, at most.
 const QUERIES: usize = 16;
+/// What crates/replay reads of a sample, in bytes.
+const READ: usize = 524_288;
 
 /// The sample and its coverage report.
 fn made() -> Result<(Vec<u8>, String, usize), String> {
@@ -38,11 +40,13 @@ fn made() -> Result<(Vec<u8>, String, usize), String> {
         out.case(judged, &by_01);
     }
     let (report, missing) = coverage.report();
-    if missing.is_empty() {
-        Ok((out.0, report, cases.len()))
-    } else {
-        Err(format!("not in the sample: {}", missing.join(", ")))
+    if !missing.is_empty() {
+        return Err(format!("not in the sample: {}", missing.join(", ")));
     }
+    if out.0.len() > READ {
+        return Err(format!("the sample has {} bytes, and {READ} are read", out.0.len()));
+    }
+    Ok((out.0, report, cases.len()))
 }
 
 /// Writes the sample into a folder.
@@ -69,7 +73,7 @@ pub fn check(folder: &str) -> Result<String, String> {
     }
 }
 
-/// Cases that show something no case before them did, then others up to `wanted`.
+/// Cases that show something no case before them did, then others up to `wanted`. One has a full text.
 fn chosen(seen: &mut BTreeSet<String>, size: Size, wanted: usize, seeds: u64, most: usize) -> Vec<Judged> {
     let mut new = Vec::new();
     let mut others = Vec::new();
@@ -78,7 +82,8 @@ fn chosen(seen: &mut BTreeSet<String>, size: Size, wanted: usize, seeds: u64, mo
         let mut coverage = Coverage::empty();
         coverage.note(&judged, &by_01::lower::lower(&judged.case.top));
         let before = seen.len();
-        if judged.case.records.words.len() / RECORD <= most {
+        let again = judged.case.records.text.len() == MOST_TEXT && seen.contains(FULL_TEXT);
+        if judged.case.records.words.len() / RECORD <= most && !again {
             seen.extend(coverage.features().cloned());
             if seen.len() > before {
                 new.push(judged);

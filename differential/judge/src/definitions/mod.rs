@@ -11,7 +11,7 @@ use std::{
 use crate::{
     answer::Query,
     by_01::{self, lower::Lowered, rows::Refusal},
-    coverage::Coverage,
+    coverage::{Coverage, FULL_TEXT},
     generate::{Case, Size},
     random::Random,
     records::{RECORD, Records},
@@ -37,7 +37,7 @@ const ASKED: usize = 5;
 const IN_A_FILE: usize = 10;
 
 /// What no small description can show.
-const LIMITS: [&str; 4] = ["2048 records", "65536 bytes of text", "64 links", "path of 40 components"];
+const LIMITS: [&str; 4] = ["2048 records", FULL_TEXT, "64 links", "path of 40 components"];
 
 /// The repository's crates, each with those that it uses.
 const LISTED: &str = include_str!("../../../../crates.txt");
