@@ -35,8 +35,11 @@ int main(void)
     printf("from 3 on: number %" PRIu32 ", %zu bytes\n", path.number, path.len);
     number("0x100 in 8 bits", pn_parse_int(TEXT("0x100"), 8));
     number("7 in 9 bits", pn_parse_int(TEXT("7"), 9));
+    number("010 in 8 bits", pn_parse_int(TEXT("010"), 8));
+    number("08 in 8 bits", pn_parse_int(TEXT("08"), 8));
     integer("-9", pn_parse_i64(TEXT("-9")));
     number("no width", pn_width(NULL, 0));
+    number("width 0100", pn_width(TEXT("0100")));
     number("-128 as a cell of 8 bits", pn_expr_cell(-128, 8));
     integer("1 << 63", pn_infix(9, 1, 63));
     integer("1 / 0", pn_infix(4, 1, 0));

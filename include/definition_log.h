@@ -1,5 +1,6 @@
 /* The definition log: lowering, which makes it of a description, and the queries: what of it is live, what a path's history is, and
- * whether a node is there. Proved in Rattle; docs/01-scope.md says what each gives, and "01" below is that page.
+ * whether a node is there. Proved in Rattle; docs/01-scope.md says what each gives, and "01" below is that page; request 2 of
+ * docs/02-change-requests.md changed how numbers are read.
  *
  * A slice is a pointer and a length in elements: `words_len` counts words of 32 bits, not bytes. What a caller keeps:
  *   - the length is true: that many elements can be read there, and of `out`, `bytes` of lowering, and `list` written;
@@ -100,9 +101,10 @@ enum {
     DL_IN_SLASH = 10, /* a root node's mark */
     DL_IN_OMIT = 11, /* the mark that a node may be left out */
     DL_IN_STRING = 12, /* text: its bytes */
-    DL_IN_CELL_LIST = 13, /* text: the width, of length 0 where there is none; child: cells */
+    DL_IN_CELL_LIST = 13, /* text: the width, a number as below, of length 0 where there is none; child: cells */
     DL_IN_BYTESTRING = 14, /* text: its hex digits, up to the first "]" */
-    DL_IN_NUMBER = 15, /* text: the number */
+    /* text: the number, in base 16 behind 0x, base 2 behind 0b, base 8 behind 0o and behind any other 0 in front, else base 10 */
+    DL_IN_NUMBER = 15,
     DL_IN_CHARACTER = 16, /* W: the code point */
     DL_IN_EXPRESSION = 17, /* 17 to 20, child: expressions, in order */
     DL_IN_PREFIX = 18, /* W: the operator, below */

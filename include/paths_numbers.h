@@ -1,5 +1,5 @@
-/* Paths, numbers, operators, cells, bytestrings and references, proved in Rattle; docs/01-scope.md says what each gives, and "01" below
- * is that page.
+/* Paths, numbers, operators, cells, bytestrings and references, proved in Rattle; docs/01-scope.md and request 2 of
+ * docs/02-change-requests.md say what each gives, and "01" and "02" below are these pages.
  *
  * A slice is a pointer and a length in bytes. What a caller keeps:
  *   - the length is true: that many bytes can be read there, and of `out` written;
@@ -79,7 +79,10 @@ uint32_t pn_lies_under_path(const uint8_t *path, size_t path_len, const uint8_t 
 uint32_t pn_path_lies_under(const uint8_t *parent, size_t parent_len, const uint8_t *name, size_t name_len, const uint8_t *unit,
                             size_t unit_len, const uint8_t *base, size_t base_len);
 
-/* ---- Numbers and cells. Where `bits` is not 8, 16, 32 or 64 the code is 12. */
+/* ---- Numbers and cells. Where `bits` is not 8, 16, 32 or 64 the code is 12.
+ *
+ * A number's text loses every u, U, l and L at its end. Then 0x or 0X in front means base 16, 0b or 0B base 2, 0o or 0O base 8; any other
+ * text that starts with 0 is in base 8 (02, request 2), and the rest in base 10: "010" is 8, "08" gives 17, "0" is 0, "+010" is 10. */
 
 /* A number's text, read as an unsigned number of a width. Codes 16 to 18, 12. */
 struct PnNumber pn_parse_int(const uint8_t *text, size_t text_len, uint32_t bits);

@@ -156,11 +156,12 @@ pub enum InputKind {
     Omit,
     /// A string, in its text.
     String,
-    /// A cell list, with cells. Its text is the width, empty where there is none.
+    /// A cell list, with cells. Its text is the width, a number, empty where there is none.
     CellList,
     /// A bytestring: its text has the hex digits.
     Bytestring,
-    /// A number, in its text.
+    /// A number, in its text. It is in base 8 where it starts with 0 and with none of the prefixes `0x`, `0b`
+    /// and `0o`, in either case: `010` is 8, and `08` is reported.
     Number,
     /// A character.
     Character(char),

@@ -194,6 +194,27 @@ fn values_are_lowered() {
     assert_eq!(post, ["label not found: a (code 3)"; 2]);
 }
 
+/// 02, request 2: "010" is 8, "08" gives code 17, "0" is 0, in cells, expressions and widths.
+#[test]
+fn a_leading_zero_means_base_8() {
+    let number = |text: &str| of(InputKind::Number).text(text);
+    let expression = of(InputKind::Expression).with([number("010")]);
+    let list =
+        of(InputKind::CellList).text("010").with([number("010"), number("08"), number("0"), expression]);
+    let no_list = of(InputKind::CellList).text("08");
+    let described =
+        OwnedDescription::of(&[directive(Directive::Version, []), root([property("p", [list, no_list])])]);
+    let lowered = described.description().lower().unwrap();
+    let log = lowered.log();
+    let p = log.definitions().last().unwrap();
+    let values: Vec<Value> = log.values(p.record).collect();
+    let [Value::CellList { record, width: 8 }] = values[..] else { panic!("{values:?}") };
+    let cells: Vec<Cell> = log.cells(record).collect();
+    assert_eq!(cells, [8, 0, 8].map(Cell::Number));
+    let codes: Vec<u32> = log.diagnostics().map(|diagnostic| diagnostic.code).collect();
+    assert_eq!(codes, [17, 17]);
+}
+
 #[test]
 fn extensions_keep_their_bodies() {
     let reference = of(InputKind::Reference).text("a").at(30..32);
