@@ -11,7 +11,8 @@ use lib.Dec.{eqb}
 use lib.IntN.{ℤ}
 use types.Run.{OneOf}
 use denote.Enum.Declared.{tagOf}
-use Rattle.paths_numbers.specs.meaning.Expression.{andOp, orOp, conditionalOp, evalPrefix, evalInfix, evalRelation, evalCode, evalTold, isTrue}
+use Rattle.paths_numbers.specs.meaning.Expression.{andOp, orOp, conditionalOp, evalPrefix, evalInfix, evalRelation, evalCode, evalTold}
+use Rattle.paths_numbers.specs.meaning.Expression.{isTrue}
 use Rattle.paths_numbers.specs.meaning.Expression.{ofTruth}
 use Rattle.paths_numbers.specs.meaning.Reading as R
 use Rattle.paths_numbers.specs.meaning.Number.{intCode}

@@ -197,7 +197,8 @@ pub fn read_value(words: &[u32], text: &[u8], r: u32) -> ValueRead
 
 // A cell list of a width that was read, at record r.
 fn sized_list(r: u32, size: SizeRead) -> ValueRead
-    ensures { λ v. ⌜ ((words text : List ℕ) → valueMade words text r v ≡ sizedList (spanAt words r) (partsAt words text r) (sizeTold size)) ⌝ }
+    ensures { λ v. ⌜ ((words text : List ℕ) → valueMade words text r v ≡ sizedList (spanAt words r) (partsAt words text r)
+        (sizeTold size)) ⌝ }
 {
     match size {
         SizeRead::Size(s) => ValueRead::CellList(s),

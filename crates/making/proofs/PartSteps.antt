@@ -184,7 +184,8 @@ module _ {c d f : LowerCtx} {words bytes w b : List ℕ} {r : Rec} {x y : List �
             passed = λ p. each-more es (op .passed p) (chain-other (e .chain) (extsOf l) e refl (λ q. omega arith));
           })
           (λ en. common-same e m en (λ q. omega arith) (λ q. omega arith) (λ q. omega arith) refl refl)
-          (making-child e (record { at = owner .at; alive = owner .there }) refl (rw k₀ owns) (λ q. other (sym k₀ ∙ q)) (rw k₀ fits) (plain o)
+          (making-child e (record { at = owner .at; alive = owner .there }) refl (rw k₀ owns) (λ q. other (sym k₀
+          ∙ q)) (rw k₀ fits) (plain o)
           mk)
 
       pub steps-part : StepsIn (newestIs p) c f words bytes w b (addPart F size)

@@ -133,7 +133,8 @@ unfolding bytesAnswer bytesOut
 lowered-missing s out at e = let o = count-missing s e in (simp o, simp o)
 
 module _ (s out : List ℕ) (at n : ℕ) (e : countOf s ≡ value n) where
-  pub lowered-room : at + n ≤ length out → (some (value n) ≡ bytesAnswer s (length out) at) × (written out at (bytesOf s) ≡ bytesOut s out at)
+  pub lowered-room : at + n ≤ length out → (some (value n) ≡ bytesAnswer s (length out) at) × (written out at
+      (bytesOf s) ≡ bytesOut s out at)
   unfolding bytesAnswer bytesOut
   lowered-room h = let o = count-bytes s n e in (simp (o .0, o .1, le-leb _ _ h), simp (o .0, o .1, le-leb _ _ h))
 

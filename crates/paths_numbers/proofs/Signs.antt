@@ -22,7 +22,8 @@ module _ (base most : ℕ) where
   unsigned-plus [] h e = absurd (h refl)
   unsigned-plus (b ∷ s) h e = simp (eq-eqb _ _ e)
 
-  pub unsigned-plain : (s : List ℕ) → (length s ≡ 0 → ⊥) → (getD s 0 0 ≡ plus → ⊥) → digits base most numberTooLarge 0 s ≡ unsigned base most s
+  pub unsigned-plain : (s : List ℕ) → (length s ≡ 0 → ⊥) →
+      (getD s 0 0 ≡ plus → ⊥) → digits base most numberTooLarge 0 s ≡ unsigned base most s
   unfolding unsigned
   unsigned-plain [] h n = absurd (h refl)
   unsigned-plain (b ∷ s) h n = simp (ne-eqb _ _ n)

@@ -108,8 +108,8 @@ fn name_byte(name: &[u8], unit: &[u8], i: usize) -> u8
 
 // Writes the path of a parent and a name into `out` from `at` on.
 pub fn build_path(parent: &[u8], name: &[u8], unit: &[u8], out: &mut [u8], at: usize) -> Built
-    ensures { λ r. ⌜ builtTold r ≡ builtAnswer (joined (now (parent .entry)) (now (name .entry)) (now (unit .entry))) (length (now (out .entry)))
-        at ⌝ }
+    ensures { λ r. ⌜ builtTold r ≡ builtAnswer (joined (now (parent .entry)) (now (name .entry)) (now (unit .entry)))
+        (length (now (out .entry))) at ⌝ }
     ensures { λ _. ⌜ now (out .exit) ≡ builtOut (joined (now (parent .entry)) (now (name .entry)) (now (unit .entry))) (now (out .entry))
         at ⌝ }
 {

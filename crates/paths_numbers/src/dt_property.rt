@@ -2,8 +2,10 @@
 ghost use mathlib.Core.Path.{_≡_};
 ghost use Prim.Native.Nat.{_+_, _≤_, _<_};
 ghost use lib.ListN.{length};
-ghost use Rattle.paths_numbers.specs.meaning.Bytestring.{nibbles, bytesOf, countOf, countCode, countTold, writtenTold, bytesAnswer, bytesOut};
-ghost use Rattle.paths_numbers.specs.meaning.Cell.{bitsOf, largest, sizeOf, sizeCode, sizeTold, exprCell, charCell, cellCode, cellTold};
+ghost use Rattle.paths_numbers.specs.meaning.Bytestring.{nibbles, bytesOf, countOf, countCode, countTold, writtenTold, bytesAnswer};
+ghost use Rattle.paths_numbers.specs.meaning.Bytestring.{bytesOut};
+ghost use Rattle.paths_numbers.specs.meaning.Cell.{bitsOf, largest, sizeOf, sizeCode, sizeTold, exprCell, charCell, cellCode};
+ghost use Rattle.paths_numbers.specs.meaning.Cell.{cellTold};
 ghost use Rattle.paths_numbers.specs.meaning.Text.{written};
 use crate::codes;
 use crate::expr_eval::IntErrorKind;

@@ -57,7 +57,8 @@ lowerCells size (more t ts) = andThen (lowerCell size t) (lowerCells size ts)
 
 -- a cell list of a width, or the code of a text that is none
 abbrev pub sizedList : Span → Trees → Reading BitsSize → Made Value
-sizedList span cells (R.value s) = record { made = cellList (bitsOf s) (lowerCells s cells .made) ∷ []; reports = lowerCells s cells .reports }
+sizedList span cells (R.value s) =
+    record { made = cellList (bitsOf s) (lowerCells s cells .made) ∷ []; reports = lowerCells s cells .reports }
 sizedList span cells (R.fails code) = nothing (report code [] span ∷ [])
 
 -- a bytestring's bytes, or code 11

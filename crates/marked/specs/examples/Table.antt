@@ -73,7 +73,8 @@ pub and-decides-early :
     empty))
     empty)
     ≡ value (pos 0)
-unfolding eval evals signedNumber signed digits behindSign behindPrefix baseOf hasPrefix isPrefixLetter trimmed isSuffix digitOf evalInfix quotient
+unfolding eval evals signedNumber signed digits behindSign behindPrefix baseOf hasPrefix isPrefixLetter trimmed isSuffix digitOf evalInfix
+    quotient
 and-decides-early = refl
 
 -- 1 << 63 is -2^63

@@ -29,7 +29,8 @@ returns c = at-size _ (c .before .before .before .before .before .size-of .resul
     (c .told-cell .ensures ∙ ap numberTold (c .before .expr-cell .ensures)))
 
 returns-2 : tie.Need-returns-2
-returns-2 c = at-none _ (c .before .before .size-of .result) (c .before .before .size-of .ensures) (c .before .match .keys2) (c .told-width .ensures)
+returns-2 c = at-none _ (c .before .before .size-of .result) (c .before .before .size-of .ensures) (c .before .match .keys2)
+    (c .told-width .ensures)
 
 pub pn-expr-cell-spec : {M : Type 1} → statement M
 pn-expr-cell-spec =

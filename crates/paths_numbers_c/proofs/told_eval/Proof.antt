@@ -19,7 +19,8 @@ eval-code-requires : tie.Need-eval-code-requires
 eval-code-requires c κs = search needs
 
 returns : tie.Need-returns
-returns c = ap (λ z. resultTold (value z)) (read (record { sfits = c .known-told .given .0 .1 })) ∙ sym (ap (λ a. resultTold (evalTold a)) (c .before .e .given .1))
+returns c = ap (λ z. resultTold (value z)) (read (record { sfits = c .known-told .given .0 .1 }))
+    ∙ sym (ap (λ a. resultTold (evalTold a)) (c .before .e .given .1))
 
 returns-2 : tie.Need-returns-2
 returns-2 c = sym (ap (λ a. resultTold (evalTold a)) (c .enum-told .given .1))

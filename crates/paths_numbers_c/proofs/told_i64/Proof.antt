@@ -18,10 +18,12 @@ int-code-requires : tie.Need-int-code-requires
 int-code-requires c κs = search needs
 
 returns : tie.Need-returns
-returns c = ap (λ z. integerTold (value z)) (read (record { sfits = c .known-told .given .0 .1 })) ∙ sym (ap (λ a. integerTold (i64Told a)) (c .before .p .given .1))
+returns c = ap (λ z. integerTold (value z)) (read (record { sfits = c .known-told .given .0 .1 }))
+    ∙ sym (ap (λ a. integerTold (i64Told a)) (c .before .p .given .1))
 
 returns-2 : tie.Need-returns-2
-returns-2 c = ap (λ n. integerTold (fails n)) (c .int-code .ensures) ∙ sym (ap (λ a. integerTold (i64Told a)) (c .before .before .p2 .given .1))
+returns-2 c = ap (λ n. integerTold (fails n)) (c .int-code .ensures)
+    ∙ sym (ap (λ a. integerTold (i64Told a)) (c .before .before .p2 .given .1))
 
 pub told-i64-spec : {M : Type 1} → statement M
 told-i64-spec =

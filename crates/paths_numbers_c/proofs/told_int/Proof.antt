@@ -20,7 +20,8 @@ returns : tie.Need-returns
 returns c = sym (ap (λ a. numberTold (intTold a)) (c .before .p .given .1))
 
 returns-2 : tie.Need-returns-2
-returns-2 c = ap (λ n. numberTold (fails n)) (c .int-code .ensures) ∙ sym (ap (λ a. numberTold (intTold a)) (c .before .before .p2 .given .1))
+returns-2 c = ap (λ n. numberTold (fails n)) (c .int-code .ensures)
+    ∙ sym (ap (λ a. numberTold (intTold a)) (c .before .before .p2 .given .1))
 
 pub told-int-spec : {M : Type 1} → statement M
 told-int-spec =

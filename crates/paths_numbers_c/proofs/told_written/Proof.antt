@@ -23,7 +23,8 @@ returns : tie.Need-returns
 returns c = sym (ap (λ a. bytesTold (writtenTold a)) (c .before .w .given .1))
 
 returns-2 : tie.Need-returns-2
-returns-2 c = ap (λ n. lengthTold (fails n)) (c .count-code .ensures) ∙ sym (ap (λ a. bytesTold (writtenTold a)) (c .before .enum-told .given .1))
+returns-2 c = ap (λ n. lengthTold (fails n)) (c .count-code .ensures)
+    ∙ sym (ap (λ a. bytesTold (writtenTold a)) (c .before .enum-told .given .1))
 
 returns-3 : tie.Need-returns-3
 returns-3 c = sym (ap (λ a. bytesTold (writtenTold a)) (c .enum-told2 .given .1))

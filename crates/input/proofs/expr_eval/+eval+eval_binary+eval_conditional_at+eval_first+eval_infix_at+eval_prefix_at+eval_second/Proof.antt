@@ -465,7 +465,8 @@ eval-conditional-at-returns-2 t c =
     let text = s .args .text .now in
     let linked = s .pre .1 .0 in
     let nesting = s .args .nesting in
-    λ span. conditional-fails words text linked span nesting (s .args .x) (s .pre .1 .1) (c .before .eval .result) (c .before .eval .ensures)
+    λ span. conditional-fails words text linked span nesting (s .args .x) (s .pre .1 .1) (c .before .eval .result)
+    (c .before .eval .ensures)
     _ (c .before .before .before .before .after .ensures) _ (c .before .before .before .after2 .ensures) (c .before .before .if1 .left)
     (c .match .keys2)
 

@@ -73,7 +73,8 @@ loop-again c =
       stands-more (s .args .words .now) (l .r) (l .stands) _ _ (l .inv .0) h (c .before .before .before .before .number-in .ensures)
           (omega (
             arith,
-            c .before .before .before .before .before .before .before .before .before .before .before .before .before .record-count .ensures,
+            c .before .before .before .before .before .before .before .before .before .before .before .before .before .record-count
+                .ensures,
             h .room,
           )) (c .before .before .lead-on .ensures),
     )

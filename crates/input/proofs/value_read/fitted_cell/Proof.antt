@@ -17,7 +17,8 @@ cell-code-requires : tie.Need-cell-code-requires
 cell-code-requires c κs = search needs
 
 returns : tie.Need-returns
-returns c = λ words text. sym (ap (λ k. numberCell (spanAt words (c .before .before .before .args .r)) (cellTold k)) (c .before .cell .given .1))
+returns c = λ words text. sym (ap (λ k. numberCell (spanAt words (c .before .before .before .args .r)) (cellTold k))
+    (c .before .cell .given .1))
 
 returns-2 : tie.Need-returns-2
 returns-2 c = let a = c .before .before .args in λ words text. ap (λ n. nothing (report n [] (spanAt words (a .r)) ∷ []))

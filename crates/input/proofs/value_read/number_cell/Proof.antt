@@ -17,7 +17,8 @@ int-code-requires : tie.Need-int-code-requires
 int-code-requires c κs = search needs
 
 returns : tie.Need-returns
-returns c = λ words text. sym (ap (λ p. numberCell (spanAt words (c .before .before .before .args .r)) (intTold p)) (c .before .p .given .1))
+returns c = λ words text. sym (ap (λ p. numberCell (spanAt words (c .before .before .before .args .r)) (intTold p))
+    (c .before .p .given .1))
 
 returns-2 : tie.Need-returns-2
 returns-2 c = λ words text. rw (c .int-code .ensures, c .before .before .p2 .given .1) refl

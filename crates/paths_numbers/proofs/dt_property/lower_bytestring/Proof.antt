@@ -41,7 +41,8 @@ write-nibbles-requires c κs =
 returns-3 : tie.Need-returns-3
 returns-3 c =
     let a = c .before .before .before .before .before .args in
-    lowered-missing (a .text .now) (a .out .now) (a .at) (sym (c .before .before .bytestring-len .ensures) ∙ ap countTold (c .enum-told .given .1))
+    lowered-missing (a .text .now) (a .out .now) (a .at) (sym (c .before .before .bytestring-len .ensures)
+    ∙ ap countTold (c .enum-told .given .1))
 
 same-length : tie.Need-same-length
 same-length c = search needs

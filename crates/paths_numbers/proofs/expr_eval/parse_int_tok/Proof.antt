@@ -46,9 +46,11 @@ returns c =
     let k = c .before .before .before .before .before .before .before .before in
     let s = c .before .before .before .before .before .trim-suffixes .result .now in
     c .read-unsigned .ensures
-    ∙ ap (λ (m : ℕ). unsigned (c .before .before .before .before .base-of .result) m (take (length s - 2) (drop 2 s))) (c .before .before .before .before .before .before .most .ensures)
+    ∙ ap (λ (m : ℕ). unsigned (c .before .before .before .before .base-of .result) m (take (length s - 2) (drop 2 s)))
+    (c .before .before .before .before .before .before .most .ensures)
     ∙ read-behind (λ (b : ℕ) (s : List ℕ). unsigned b (largest (k .args .size)) s) s _ _ _
-    (c .before .before .before .before .before .trim-suffixes .ensures) (c .before .before .before .before .base-of .ensures) (c .before .before .before .has-prefix .ensures)
+    (c .before .before .before .before .before .trim-suffixes .ensures) (c .before .before .before .before .base-of .ensures)
+    (c .before .before .before .has-prefix .ensures)
     (c .before .before .if1 .taken)
 
 read-unsigned-requires-2 : tie.Need-read-unsigned-requires-2
@@ -66,7 +68,8 @@ returns-2 c =
     c .read-unsigned2 .ensures
     ∙ ap (λ (m : ℕ). unsigned (c .before .before .before .base-of .result) m s) (c .before .before .before .before .before .most .ensures)
     ∙ read-whole (λ (b : ℕ) (s : List ℕ). unsigned b (largest (k .args .size)) s) s _ _ _
-    (c .before .before .before .before .trim-suffixes .ensures) (c .before .before .before .base-of .ensures) (c .before .before .has-prefix .ensures)
+    (c .before .before .before .before .trim-suffixes .ensures) (c .before .before .before .base-of .ensures)
+    (c .before .before .has-prefix .ensures)
     (c .before .if1 .left)
 
 pub parse-int-tok-spec : {M : Type 1} → statement M

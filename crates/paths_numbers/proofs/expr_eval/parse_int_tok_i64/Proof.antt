@@ -36,7 +36,8 @@ unfolding signedNumber
 returns c =
     let s = c .before .before .before .before .before .trim-suffixes .result .now in
     c .read-signed .ensures
-    ∙ read-behind signed s _ _ _ (c .before .before .before .before .before .trim-suffixes .ensures) (c .before .before .before .before .base-of .ensures) (c .before .before .before .has-prefix .ensures)
+    ∙ read-behind signed s _ _ _ (c .before .before .before .before .before .trim-suffixes .ensures)
+    (c .before .before .before .before .base-of .ensures) (c .before .before .before .has-prefix .ensures)
     (c .before .before .if1 .taken)
 
 read-signed-requires-2 : tie.Need-read-signed-requires-2
@@ -50,7 +51,8 @@ unfolding signedNumber
 returns-2 c =
     let s = c .before .before .before .before .trim-suffixes .result .now in
     c .read-signed2 .ensures
-    ∙ read-whole signed s _ _ _ (c .before .before .before .before .trim-suffixes .ensures) (c .before .before .before .base-of .ensures) (c .before .before .has-prefix .ensures)
+    ∙ read-whole signed s _ _ _ (c .before .before .before .before .trim-suffixes .ensures) (c .before .before .before .base-of .ensures)
+    (c .before .before .has-prefix .ensures)
     (c .before .if1 .left)
 
 pub parse-int-tok-i64-spec : {M : Type 1} → statement M

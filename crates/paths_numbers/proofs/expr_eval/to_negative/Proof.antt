@@ -20,10 +20,15 @@ sub-t6 : tie.Need-sub-t6
 sub-t6 c = search needs
 
 cast-t7 : tie.Need-cast-t7
-cast-t7 c = signed-fits _ (omega (arith, value-within _ _ _ (c .before .before .before .before .pre) (ap intTold (c .before .before .p .given .1))))
+cast-t7 c = signed-fits _ (omega (
+  arith,
+  value-within _ _ _ (c .before .before .before .before .pre) (ap intTold
+      (c .before .before .p .given .1)),
+))
 
 sub-t8 : tie.Need-sub-t8
-sub-t8 c = negated-fits _ (c .if1 .left) (value-within _ _ _ (c .before .before .before .before .pre) (ap intTold (c .before .before .p .given .1)))
+sub-t8 c = negated-fits _ (c .if1 .left) (value-within _ _ _ (c .before .before .before .before .pre) (ap intTold
+    (c .before .before .p .given .1)))
 
 enum-known-p-2 : tie.Need-enum-known-p-2
 enum-known-p-2 c = search needs

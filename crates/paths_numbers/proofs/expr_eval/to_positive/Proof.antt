@@ -21,7 +21,8 @@ enum-known-p-2 c = search needs
 returns : tie.Need-returns
 returns c =
     let p = c .before .p .given in
-    ap value (signed-is (p .0 .0) (omega (arith, value-within _ _ _ (c .before .before .before .pre) (ap intTold (p .1))))) ∙ sym (ap (λ q. positive (intTold q)) (p .1))
+    ap value (signed-is (p .0 .0) (omega (arith, value-within _ _ _ (c .before .before .before .pre) (ap intTold (p .1)))))
+    ∙ sym (ap (λ q. positive (intTold q)) (p .1))
 
 returns-2 : tie.Need-returns-2
 returns-2 c = sym (ap (λ q. positive (intTold q)) (c .before .p2 .given .1))

@@ -107,7 +107,8 @@ holds-requires c κs =
     .before .before .before .args in
     let p = c .before .before .before .before .before .before .before .before .before .before .before .before .before .before .before
     .before .before .before .pre in (
-      overwrites-held (defAt (a .words .now) (a .bytes .now)) (a .base .now) (a .heads .now) (a .links .now) (a .later .now) (p .1 .0) (p .0)
+      overwrites-held (defAt (a .words .now) (a .bytes .now)) (a .base .now) (a .heads .now) (a .links .now) (a .later .now) (p .1 .0)
+          (p .0)
           _ (sym (c .before .before .before .before .before .before .before .before .lies-under .ensures)
           ∙ not-false _ (c .before .before .before .before .before .before .before .if2 .left)) _
           (ap (λ (b : Above). b .hash) (c .before .before .before .look-above .ensures)),

@@ -109,7 +109,8 @@ returns-3 c =
     let e = sym
     (c .before .before .before .before .before .before .before .before .before .before .before .before .before .before .before
     .before .bytestring-len .ensures)
-    ∙ ap countTold (c .before .before .before .before .before .before .before .before .before .before .before .before .before .before .size .given
+    ∙ ap countTold (c .before .before .before .before .before .before .before .before .before .before .before .before .before .before .size
+    .given
     .1) in
     let n = count-bytes (a .text .now) _ e in
     let same = ap (λ (i : ℕ). makes (a .self) (a .words .now) (a .bytes .now) i (a .link)) (sym (add-zero (length x) ∙ n .1)) in

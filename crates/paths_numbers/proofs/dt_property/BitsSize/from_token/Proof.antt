@@ -24,7 +24,8 @@ enum-known-n : tie.Need-enum-known-n
 enum-known-n c = search needs
 
 returns-2 : tie.Need-returns-2
-returns-2 c = sym (ap (λ p. sized (intTold p)) (c .before .e .given .1)) ∙ width-read (c .before .before .before .before .before .before .args .text .now) _
+returns-2 c = sym (ap (λ p. sized (intTold p)) (c .before .e .given .1))
+    ∙ width-read (c .before .before .before .before .before .before .args .text .now) _
     (c .before .before .before .before .if1 .left) (c .before .before .before .parse-int-tok .ensures)
 
 returns-3 : tie.Need-returns-3
