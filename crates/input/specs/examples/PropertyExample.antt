@@ -5,8 +5,7 @@ use mathlib.Core.List.{[], _∷_}
 use Rattle.paths_numbers.specs.meaning.Byte.{digitOf}
 use Rattle.paths_numbers.specs.meaning.Text.{isEmpty}
 use Rattle.paths_numbers.specs.meaning.Number.{unsignedNumber, unsigned, digits, behindSign, behindPrefix, baseOf, hasPrefix, trimmed}
-use Rattle.paths_numbers.specs.meaning.Number.{isSuffix}
-use Rattle.paths_numbers.specs.meaning.Number.{isPrefixLetter}
+use Rattle.paths_numbers.specs.meaning.Number.{isSuffix, isPrefixLetter}
 use Rattle.paths_numbers.specs.meaning.Cell.{sizeOf}
 use Rattle.log.specs.meaning.Contents.{Span, number, cellList}
 use Rattle.input.specs.meaning.Tree.{Trees, tree, empty, more}

@@ -1,4 +1,4 @@
--- 01, "Records", input: which kinds stand where, what W may be, and how deep a record lies; and row 4's and row 6's rules of a whole tree.
+-- 01, "Records", input: which kinds stand where, what W may be, and row 4's rule of one record.
 use Prim.Native.Nat.{ℕ}
 use mathlib.Core.Bool.{Bool, false, not, cond}
 use mathlib.Core.List.{List, [], _∷_}

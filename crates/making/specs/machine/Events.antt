@@ -1,5 +1,5 @@
 -- The log in the making, as the list of the records made so far, in order: record number k is the k-th, from 1. This is how the code's
--- words are told apart, and not what a reader must believe: contracts above cite what is read back (Meaning).
+-- words are told apart, and not what a reader must believe: contracts above cite what is read back (Contents of log).
 use Prim.Native.Nat.{ℕ, _+_, _*_, _^_, _<_}
 use mathlib.Core.Path.{_≡_}
 use mathlib.Core.Bool.{Bool, false, not, cond}
