@@ -29,7 +29,7 @@ struct Request {
 
 static struct DlAnswer lower(const struct iovec *s)
 {
-    return dl_lower(WORDS(s[0]), BYTES(s[1]), WORDS(s[2]), BYTES(s[3]));
+    return dl_lower(WORDS(s[0]), BYTES(s[1]), DL_LEVEL_SIGNED, WORDS(s[2]), BYTES(s[3]));
 }
 
 static struct DlAnswer live(const struct iovec *s)

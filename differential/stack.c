@@ -31,7 +31,7 @@ static void *nothing(void *unused)
 
 static void *lower(void *unused)
 {
-    if (dl_lower(words, RECORDS * DL_IN_RECORD_WORDS, text, 1, out, records * 16, bytes, MOST_BYTES).number != DL_ANSWERED)
+    if (dl_lower(words, RECORDS * DL_IN_RECORD_WORDS, text, 1, DL_LEVEL_SIGNED, out, records * 16, bytes, MOST_BYTES).number != DL_ANSWERED)
         abort();
     return unused;
 }

@@ -191,7 +191,7 @@ static void changed(const char *what, uint32_t number, uint32_t word, uint32_t v
     uint32_t input[DESCRIPTION_LEN];
     memcpy(input, description, sizeof description);
     input[number * DL_IN_RECORD_WORDS + word] = value;
-    told(what, dl_lower(input, DESCRIPTION_LEN, TEXT(source), words, WORDS, bytes, BYTES));
+    told(what, dl_lower(input, DESCRIPTION_LEN, TEXT(source), DL_LEVEL_SIGNED, words, WORDS, bytes, BYTES));
 }
 
 /* Lowers 65 nodes, each but the first in the body of the one before it. */
@@ -204,14 +204,14 @@ static void nested(void)
         input[n * DL_IN_RECORD_WORDS + DL_IN_KIND] = DL_IN_NODE;
         input[n * DL_IN_RECORD_WORDS + DL_IN_W] = n < DEEP ? n + 1 : 0;
     }
-    told("65 nodes inside one another", dl_lower(input, sizeof input / sizeof input[0], NULL, 0, words, WORDS, bytes, BYTES));
+    told("65 nodes inside one another", dl_lower(input, sizeof input / sizeof input[0], NULL, 0, DL_LEVEL_SIGNED, words, WORDS, bytes, BYTES));
 }
 
 int main(void)
 {
     uint32_t list[1];
 
-    told("lowering", dl_lower(description, DESCRIPTION_LEN, TEXT(source), words, WORDS, bytes, BYTES));
+    told("lowering", dl_lower(description, DESCRIPTION_LEN, TEXT(source), DL_LEVEL_SIGNED, words, WORDS, bytes, BYTES));
     print_log();
 
     live("");
@@ -233,13 +233,13 @@ int main(void)
     told("live under \"/b\" into 1 place", dl_iter_live_defs_under(words, WORDS, bytes, BYTES, TEXT("/b"), list, 1));
 
     /* Descriptions that are refused: numbers 1 to 6 leave the buffers as they were, 7 leaves zeros. */
-    told("one word missing", dl_lower(description, DESCRIPTION_LEN - 1, TEXT(source), words, WORDS, bytes, BYTES));
+    told("one word missing", dl_lower(description, DESCRIPTION_LEN - 1, TEXT(source), DL_LEVEL_SIGNED, words, WORDS, bytes, BYTES));
     changed("record 4 as its own label", 4, DL_IN_CHILD, 4);
     changed("a name of 90 bytes", 15, DL_IN_TEXT_LENGTH, 90);
     changed("a string among a node's parts", 9, DL_IN_KIND, DL_IN_STRING);
     changed("a property without a name's bytes", 15, DL_IN_TEXT_LENGTH, 0);
     nested();
     printf("a node at /b: %" PRIu32 " still\n", dl_contains_node(words, WORDS, bytes, BYTES, TEXT("/b")).returned);
-    told("room for 4 records", dl_lower(description, DESCRIPTION_LEN, TEXT(source), words, 4 * DL_RECORD_WORDS, bytes, BYTES));
+    told("room for 4 records", dl_lower(description, DESCRIPTION_LEN, TEXT(source), DL_LEVEL_SIGNED, words, 4 * DL_RECORD_WORDS, bytes, BYTES));
     return 0;
 }

@@ -34,8 +34,8 @@ struct DlAnswer {
     uint32_t returned;
 };
 
-/* The numbers. A lowering tries 1 to 7 in this order, each over all records before the next, and a query 8 to 10. "First" is the lowest
- * record. After 1 to 6 both buffers of a lowering are as they were, and after 8 to 10 the list of a query is. */
+/* The numbers. A lowering tries 18, then 1 to 7 in this order, each over all records before the next, and a query 8 to 10. "First" is the
+ * lowest record. After 18 and 1 to 6 both buffers of a lowering are as they were, and after 8 to 10 the list of a query is. */
 enum {
     /* The answer is there.
      * Of dl_lower: the log is written, and every word and byte of the buffers that is no part of it is 0. Returned: 0.
@@ -66,7 +66,9 @@ enum {
     /* The path is not empty, not "/", and not "/" before each of its nonempty components, as "a", "/a/" and "//" are not. Returned: 0. */
     DL_BAD_PATH = 9,
     /* There are more answers than the list holds. Returned: how many, so that a list of that length is enough. */
-    DL_LIST_TOO_SHORT = 10
+    DL_LIST_TOO_SHORT = 10,
+    /* The level of a lowering is neither 1 nor 2. Returned: 0. */
+    DL_NO_LEVEL = 18
 };
 
 /* ---- Descriptions: what lowering reads. A description is words, 8 to a record, and a text, where the texts of the records are: a start
@@ -270,11 +272,17 @@ enum {
 
 /* ---- Lowering. */
 
-/* Lowers the description in `words` and `text` into `out` and `bytes`: the log of its top items, then of the post checks. What the
+/* What expressions are reckoned with (request 10 of docs/02-change-requests.md). Level 1: signed 64-bit numbers, and code 24 for a result
+ * outside of them. Level 2: unsigned 64-bit numbers that wrap, with comparison, division, >> and literals unsigned; 19 and 24 never arise,
+ * and a cell of 32 bits or less takes a result that fits unsigned, or one whose upper bits are all ones and which fits signed. What has
+ * no expression cell (DL_IN_EXPRESSION) lowers alike at both. Any other level is DL_NO_LEVEL. */
+enum { DL_LEVEL_SIGNED = 1, DL_LEVEL_UNSIGNED = 2 };
+
+/* Lowers the description in `words` and `text` at a level into `out` and `bytes`: the log of its top items, then of the post checks. What the
  * buffers held before does not matter. `out` holds as many records as it has times 16 words, and DL_RECORDS_USED and DL_BYTES_USED of the
  * log say how much was needed. Words of `out` behind its last whole record are 0 then; leave them out where the log is lent to a query,
  * which asks for 16 times 1 or more. */
-struct DlAnswer dl_lower(const uint32_t *words, size_t words_len, const uint8_t *text, size_t text_len,
+struct DlAnswer dl_lower(const uint32_t *words, size_t words_len, const uint8_t *text, size_t text_len, uint32_t level,
                          uint32_t *out, size_t out_len, uint8_t *bytes, size_t bytes_len);
 
 /* ---- Queries. An answer is the number of a record of the chain that starts at DL_FIRST_DEFINITION. */

@@ -52,7 +52,7 @@ mod value;
 
 pub use diagnostic::Diagnostic;
 pub use error::QueryError;
-pub use lower::{Description, OwnedLog};
+pub use lower::{Description, Level, OwnedLog};
 pub use lower_error::LowerError;
 pub use read::{Binding, Definition, Extension, Kind};
 pub use tree::{Directive, Infix, InputKind, OwnedDescription, Prefix, Tree};

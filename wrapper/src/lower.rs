@@ -9,6 +9,56 @@ use crate::{
 /// How many times as large as the last ones the buffers are that a lowering is tried again with.
 const GROWTH: usize = 4;
 
+/// What the expressions of a description are reckoned with.
+///
+/// ```
+/// use definition_log::{Cell, Infix, InputKind, Level, OwnedDescription, Tree, Value};
+///
+/// // p = /bits/ 64 <(0 - 1 < 0)>
+/// let number = |text| Tree::of(InputKind::Number).text(text);
+/// let minus_one = Tree::of(InputKind::Infix(Infix::Subtract)).with([number("0"), number("1")]);
+/// let less = Tree::of(InputKind::Infix(Infix::Less)).with([minus_one, number("0")]);
+/// let list = Tree::of(InputKind::CellList).text("64").with([Tree::of(InputKind::Expression).with([less])]);
+/// let root = Tree::node([Tree::of(InputKind::Slash)], [Tree::property([Tree::name("p")], [list])]);
+/// let described = OwnedDescription::of(&[root]);
+/// let cell = |level| {
+///     let lowered = described.description().at_level(level).lower()?;
+///     let log = lowered.log();
+///     let p = log.definitions().last().expect("p").record;
+///     let Some(Value::CellList { record, .. }) = log.values(p).next() else { panic!("a list") };
+///     let Some(Cell::Number(number)) = log.cells(record).next() else { panic!("a number") };
+///     Ok(number)
+/// };
+/// assert_eq!(cell(Level::Signed)?, 1, "-1 is below 0");
+/// assert_eq!(cell(Level::Unsigned)?, 0, "2^64 - 1 is not");
+/// # Ok::<(), definition_log::LowerError>(())
+/// ```
+#[derive(Clone, Copy, Debug, Default, PartialEq, Eq, Hash)]
+pub enum Level {
+    /// Level 1: signed 64-bit numbers; a result outside of them is reported.
+    #[default]
+    Signed,
+    /// Level 2: unsigned 64-bit numbers that wrap, as dtc reckons.
+    Unsigned,
+}
+
+impl Level {
+    /// 02's number: 1 or 2.
+    ///
+    /// ```
+    /// use definition_log::Level;
+    ///
+    /// assert_eq!((Level::Signed.number(), Level::Unsigned.number()), (1, 2));
+    /// ```
+    #[must_use]
+    pub const fn number(self) -> u32 {
+        match self {
+            Level::Signed => 1,
+            Level::Unsigned => 2,
+        }
+    }
+}
+
 /// A description that someone holds: its words, 8 to a record, and its text. It may be broken; lowering
 /// tests it first.
 ///
@@ -29,10 +79,11 @@ const GROWTH: usize = 4;
 pub struct Description<'a> {
     words: &'a [u32],
     text: &'a [u8],
+    level: Level,
 }
 
 impl<'a> Description<'a> {
-    /// The description in these words and this text.
+    /// The description in these words and this text, at level 1.
     ///
     /// ```
     /// use definition_log::Description;
@@ -44,7 +95,34 @@ impl<'a> Description<'a> {
     /// ```
     #[must_use]
     pub const fn new(words: &'a [u32], text: &'a [u8]) -> Description<'a> {
-        Description { words, text }
+        Description { words, text, level: Level::Signed }
+    }
+
+    /// The same description at a level.
+    ///
+    /// ```
+    /// use definition_log::{Level, sample};
+    ///
+    /// let description = sample::description().at_level(Level::Unsigned);
+    /// assert_eq!(description.level(), Level::Unsigned);
+    /// assert_eq!(description.lower()?.log().definitions().count(), 8);
+    /// # Ok::<(), definition_log::LowerError>(())
+    /// ```
+    #[must_use]
+    pub const fn at_level(self, level: Level) -> Description<'a> {
+        Description { words: self.words, text: self.text, level }
+    }
+
+    /// Its level.
+    ///
+    /// ```
+    /// use definition_log::{Level, sample};
+    ///
+    /// assert_eq!(sample::description().level(), Level::Signed);
+    /// ```
+    #[must_use]
+    pub const fn level(&self) -> Level {
+        self.level
     }
 
     /// Its words.
@@ -134,7 +212,7 @@ impl<'a> Description<'a> {
     /// ```
     pub fn lower_into<'b>(&self, out: &'b mut [u32], bytes: &'b mut [u8]) -> Result<Log<'b>, LowerError> {
         let records = out.len() / RECORD_WORDS;
-        let answer = calls::lower(self.words, self.text, out, bytes);
+        let answer = calls::lower(self.words, self.text, self.level.number(), out, bytes);
         LowerError::or_lowered(answer, (self.words.len(), self.text.len()), (records, bytes.len()))?;
         Ok(Log::new(&out[..records * RECORD_WORDS], bytes))
     }

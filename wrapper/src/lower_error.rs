@@ -164,7 +164,8 @@ impl LowerError {
             5 => Err(LowerError::BadName { record }),
             6 => Err(LowerError::TooDeep { record }),
             7 => Err(LowerError::NoRoom { records: room.0, bytes: room.1 }),
-            number => unreachable!("the library answers 0 to 7, and this is {number}"),
+            // 18 is of a level that is none, and a `Level` is always one.
+            number => unreachable!("the library answers 0 to 7 at these levels, and this is {number}"),
         }
     }
 }

@@ -32,26 +32,28 @@ pub record LowerRun : Type 0 where
   pub left : AtExit (endedOf 4 ps r) lifetimes
   pub keeps : Learnt lifetimes lent answer left
 
--- its words and bytes, in the order of the parameters: words, text, out, bytes
+-- its words, level and bytes, in the order of the parameters: words, text, level, out, bytes
 abbrev pub runOf : LowerRun → Run
 runOf x =
     record {
+      level = x .lent .1 .1 .0;
       words = x .lent .0 .now;
       text = x .lent .1 .0 .now;
-      outBefore = x .lent .1 .1 .0 .now;
-      bytesBefore = x .lent .1 .1 .1 .0 .now;
+      outBefore = x .lent .1 .1 .1 .0 .now;
+      bytesBefore = x .lent .1 .1 .1 .1 .0 .now;
       answer = told (x .answer);
-      out = x .left .1 .1 .0 .now;
-      bytes = x .left .1 .1 .1 .0 .now;
+      out = x .left .1 .1 .1 .0 .now;
+      bytes = x .left .1 .1 .1 .1 .0 .now;
     }
 
 -- one that answers 0
 accepted-run : (x : LowerRun) → runOf x .answer .number ≡ 0 → AcceptedRun (runOf x)
 accepted-run x z = record { lowered = x .keeps .0; words32 = x .keeps .1; accepted = z }
 
--- run B's description is run A's with the two items more: a new subnode, then its deletion by name
+-- run B, at the same level, has a description that is run A's with the two items more: a new subnode, then its deletion by name
 pub every-two-runs : (new : List ℕ) (a b : LowerRun) → runOf a .answer .number ≡ 0 → runOf b .answer .number ≡ 0
-    → Inserted new [] start (description (runOf a .words) (runOf a .text)) (description (runOf b .words) (runOf b .text))
+    → runOf a .level ≡ runOf b .level
+    → Inserted (runOf b .level) new [] start (description (runOf a .words) (runOf a .text)) (description (runOf b .words) (runOf b .text))
     → AlikeRuns new (runOf a) (runOf b)
 unfolding WholeRuns
-every-two-runs new a b za zb i = whole-runs new (runOf a) (runOf b) (accepted-run a za) (accepted-run b zb) i
+every-two-runs new a b za zb l i = whole-runs new (runOf a) (runOf b) (accepted-run a za) (accepted-run b zb) l i

@@ -42,39 +42,39 @@ use Rattle.input.proofs.Input.{chain-none, chain-more}
 
 module _ (words text : List ℕ) (r : ℕ) where
   -- a record of a kind
-  pub cell-kind : (size : BitsSize) (k : ℕ) → kindAt words r ≡ k
-      → lowerCell size (tree k (textAt words text r) (numberAt words r) (spanAt words r) (chainAt words text (childAt words r))
+  pub cell-kind : (level : ℕ) (size : BitsSize) (k : ℕ) → kindAt words r ≡ k
+      → lowerCell level size (tree k (textAt words text r) (numberAt words r) (spanAt words r) (chainAt words text (childAt words r))
       (chainAt words text (secondAt words r)))
-      ≡ lowerCell size (recordAt words text r)
+      ≡ lowerCell level size (recordAt words text r)
   unfolding recordAt
-  cell-kind size k e = rw (sym e) refl
+  cell-kind level size k e = rw (sym e) refl
 
-  pub value-kind : (k : ℕ) → kindAt words r ≡ k
-      → lowerValue (tree k (textAt words text r) (numberAt words r) (spanAt words r) (chainAt words text (childAt words r))
+  pub value-kind : (level k : ℕ) → kindAt words r ≡ k
+      → lowerValue level (tree k (textAt words text r) (numberAt words r) (spanAt words r) (chainAt words text (childAt words r))
       (chainAt words text (secondAt words r)))
-      ≡ lowerValue (recordAt words text r)
+      ≡ lowerValue level (recordAt words text r)
   unfolding recordAt
-  value-kind k e = rw (sym e) refl
+  value-kind level k e = rw (sym e) refl
 
   -- a reference
-  pub cell-reference : (size : BitsSize) → kindAt words r ≡ referenceKind
-      → referenceCell size (spanAt words r) (lowerPhandle (recordAt words text r)) ≡ lowerCell size (recordAt words text r)
+  pub cell-reference : (level : ℕ) (size : BitsSize) → kindAt words r ≡ referenceKind
+      → referenceCell size (spanAt words r) (lowerPhandle (recordAt words text r)) ≡ lowerCell level size (recordAt words text r)
   unfolding lowerCell recordAt
-  cell-reference size e = rw e refl
+  cell-reference level size e = rw e refl
 
-  pub value-reference : kindAt words r ≡ referenceKind → referenceValue (lowerPhandle (recordAt words text r)) ≡ lowerValue
+  pub value-reference : (level : ℕ) → kindAt words r ≡ referenceKind → referenceValue (lowerPhandle (recordAt words text r)) ≡ lowerValue level
       (recordAt words text r)
   unfolding lowerValue recordAt
-  value-reference e = rw e refl
+  value-reference level e = rw e refl
 
   -- and of none of these kinds
-  pub cell-other : (size : BitsSize) → (kindAt words r ≡ numberKind → ⊥) → (kindAt words r ≡ characterKind → ⊥)
+  pub cell-other : (level : ℕ) (size : BitsSize) → (kindAt words r ≡ numberKind → ⊥) → (kindAt words r ≡ characterKind → ⊥)
       → (kindAt words r ≡ expressionKind → ⊥)
       → (kindAt words r ≡ referenceKind → ⊥) → (kindAt words r ≡ macroKind → ⊥) → (kindAt words r ≡ directiveKind → ⊥)
       → (kindAt words r ≡ preprocessorKind → ⊥)
-      → nothing [] ≡ lowerCell size (recordAt words text r)
+      → nothing [] ≡ lowerCell level size (recordAt words text r)
   unfolding lowerCell recordAt
-  cell-other size a b c d e f g =
+  cell-other level size a b c d e f g =
       simp (
         ne-eqb (kindAt words r) numberKind a,
         ne-eqb (kindAt words r) characterKind b,
@@ -85,12 +85,12 @@ module _ (words text : List ℕ) (r : ℕ) where
         ne-eqb (kindAt words r) preprocessorKind g,
       )
 
-  pub value-other : (kindAt words r ≡ stringKind → ⊥) → (kindAt words r ≡ cellListKind → ⊥) → (kindAt words r ≡ bytestringKind → ⊥)
+  pub value-other : (level : ℕ) → (kindAt words r ≡ stringKind → ⊥) → (kindAt words r ≡ cellListKind → ⊥) → (kindAt words r ≡ bytestringKind → ⊥)
       → (kindAt words r ≡ referenceKind → ⊥) → (kindAt words r ≡ macroKind → ⊥) → (kindAt words r ≡ directiveKind → ⊥)
       → (kindAt words r ≡ preprocessorKind → ⊥)
-      → nothing [] ≡ lowerValue (recordAt words text r)
+      → nothing [] ≡ lowerValue level (recordAt words text r)
   unfolding lowerValue recordAt
-  value-other a b c d e f g =
+  value-other level a b c d e f g =
       simp (
         ne-eqb (kindAt words r) stringKind a,
         ne-eqb (kindAt words r) cellListKind b,
@@ -108,11 +108,11 @@ cell-coded span (C.Number n) h = absurd (⊎-elim (λ e. omega arith) (λ e. ome
 cell-coded span C.CharTooLarge h = refl
 cell-coded span C.ExprOutside h = refl
 
-pub size-coded : (span : Span) (cells : Trees) (size : SizeRead) → OneOf (1 ∷ 2 ∷ []) (tagOf Size.the-type size)
-    → nothing (report (sizeCode size) [] span ∷ []) ≡ sizedList span cells (sizeTold size)
-size-coded span cells (S.Size s) h = absurd (⊎-elim (λ e. omega arith) (λ e. omega arith) h)
-size-coded span cells S.Unsupported h = refl
-size-coded span cells (S.Failed e) h = refl
+pub size-coded : (level : ℕ) (span : Span) (cells : Trees) (size : SizeRead) → OneOf (1 ∷ 2 ∷ []) (tagOf Size.the-type size)
+    → nothing (report (sizeCode size) [] span ∷ []) ≡ sizedList level span cells (sizeTold size)
+size-coded level span cells (S.Size s) h = absurd (⊎-elim (λ e. omega arith) (λ e. omega arith) h)
+size-coded level span cells S.Unsupported h = refl
+size-coded level span cells (S.Failed e) h = refl
 
 -- a bytestring that was counted has an even count of digits
 pub counted-some : (span : Span) (t : List ℕ) (n : ByteCount) (m : ℕ) → n ≡ B.Bytes m → countTold n ≡ countOf t
@@ -136,25 +136,25 @@ plain-reports words text r (P.Phandle k) = refl
 
 -- the values and the cells of a chain: none from no record on, else those of its first record and those from its next
 module _ (words text : List ℕ) (r : ℕ) where
-  pub values-end : r ≡ 0 → nothing [] ≡ lowerValues (chainAt words text r)
+  pub values-end : (level : ℕ) → r ≡ 0 → nothing [] ≡ lowerValues level (chainAt words text r)
   unfolding lowerValues
-  values-end e = rw (e, chain-none words text) refl
+  values-end level e = rw (e, chain-none words text) refl
 
-  pub cells-end : (size : BitsSize) → r ≡ 0 → nothing [] ≡ lowerCells size (chainAt words text r)
+  pub cells-end : (level : ℕ) (size : BitsSize) → r ≡ 0 → nothing [] ≡ lowerCells level size (chainAt words text r)
   unfolding lowerCells
-  cells-end size e = rw (e, chain-none words text) refl
+  cells-end level size e = rw (e, chain-none words text) refl
 
   module _ (l : Linked words) (n : r ≡ 0 → ⊥) (a : r < recordCount words) where
-    pub values-more : andThen (lowerValue (recordAt words text r)) (lowerValues (chainAt words text (nextAt words r))) ≡ lowerValues
+    pub values-more : (level : ℕ) → andThen (lowerValue level (recordAt words text r)) (lowerValues level (chainAt words text (nextAt words r))) ≡ lowerValues level
         (chainAt words text r)
     unfolding lowerValues
-    values-more = rw (chain-more words l text r n a) refl
+    values-more level = rw (chain-more words l text r n a) refl
 
-    pub cells-more : (size : BitsSize)
-        → andThen (lowerCell size (recordAt words text r)) (lowerCells size (chainAt words text (nextAt words r))) ≡ lowerCells size
+    pub cells-more : (level : ℕ) (size : BitsSize)
+        → andThen (lowerCell level size (recordAt words text r)) (lowerCells level size (chainAt words text (nextAt words r))) ≡ lowerCells level size
         (chainAt words text r)
     unfolding lowerCells
-    cells-more size = rw (chain-more words l text r n a) refl
+    cells-more level size = rw (chain-more words l text r n a) refl
 
 -- a number by its two words
 pub number-whole : (n : ℕ) → n % 4294967296 + n / 4294967296 * 2 ^ 32 ≡ n

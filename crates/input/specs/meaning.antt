@@ -5,6 +5,7 @@ pub mod Report
 pub mod Name
 pub mod Phandle
 pub mod Expr
+pub mod NeverGiven
 pub mod Property
 pub mod Input
 pub mod Place

@@ -6,9 +6,9 @@ ghost use Prim.Native.Nat.{ℕ, _<_};
 ghost use Rattle.paths_numbers.specs.meaning.Bytestring.{countOf, countTold};
 ghost use Rattle.paths_numbers.specs.meaning.Number.{intTold};
 ghost use Rattle.paths_numbers.specs.meaning.Cell.{sizeTold, cellTold};
-ghost use Rattle.input.specs.meaning.Expr.{firstOperand, evals};
-ghost use Rattle.input.specs.meaning.Property.{numberCell, outcomeCell, referenceCell, lowerCell, sizedList};
-ghost use Rattle.input.specs.meaning.Property.{countedBytes, referenceValue, lowerValue};
+ghost use Rattle.levels.specs.meaning.Rules.{signedRules};
+ghost use Rattle.input.specs.meaning.Property.{numberCell, outcomeCell, expressionCell, referenceCell, lowerCell};
+ghost use Rattle.input.specs.meaning.Property.{sizedList, countedBytes, referenceValue, lowerValue};
 ghost use Rattle.input.specs.meaning.Input.{recordCount, spanAt, textAt, partsAt};
 ghost use Rattle.input.specs.machine.At.{recordAt};
 ghost use Rattle.input.specs.machine.Linked.{Linked, RecordIn};
@@ -81,16 +81,23 @@ pub enum TargetRead {
 }
 
 // The cell of a width at a record.
-pub fn read_cell(words: &[u32], text: &[u8], r: u32, size: BitsSize, nesting: u32) -> CellRead
+pub fn read_cell(
+    words: &[u32],
+    text: &[u8],
+    r: u32,
+    size: BitsSize,
+    nesting: u32,
+    level: u32,
+) -> CellRead
     requires { ⌜ Linked (now words) ⌝ }
     requires { ⌜ RecordIn (now words) (now text) r nesting ⌝ }
-    ensures { λ v. ⌜ cellMade (now (words .entry)) (now (text .entry)) r v ≡ lowerCell size
+    ensures { λ v. ⌜ cellMade (now (words .entry)) (now (text .entry)) r v ≡ lowerCell level size
         (recordAt (now (words .entry)) (now (text .entry)) r) ⌝ }
 {
     match kind_at(words, r) {
         NUMBER => number_cell(r, parse_int_tok(text_at(words, text, r), size)),
         CHARACTER => fitted_cell(r, char_cell(number_at(words, r), size)),
-        EXPRESSION => expression_cell(words, text, r, size, nesting),
+        EXPRESSION => expression_cell(words, text, r, size, nesting, level),
         REFERENCE => reference_cell(r, size, target_read(lower_phandle(words, text, r))),
         MACRO => CellRead::Failed(Report::Macro(r)),
         DIRECTIVE => CellRead::Failed(Report::Code(codes::DIRECTIVE_AS_CELL, r)),
@@ -120,11 +127,18 @@ fn fitted_cell(r: u32, cell: Cell) -> CellRead
 }
 
 // The cell of a width at an expression record.
-fn expression_cell(words: &[u32], text: &[u8], r: u32, size: BitsSize, nesting: u32) -> CellRead
+fn expression_cell(
+    words: &[u32],
+    text: &[u8],
+    r: u32,
+    size: BitsSize,
+    nesting: u32,
+    level: u32,
+) -> CellRead
     requires { ⌜ Linked (now words) ⌝ }
     requires { ⌜ RecordIn (now words) (now text) r nesting ⌝ }
-    ensures { λ v. ⌜ cellMade (now (words .entry)) (now (text .entry)) r v ≡ outcomeCell size (spanAt (now (words .entry)) r)
-        (firstOperand (evals (partsAt (now (words .entry)) (now (text .entry)) r))) ⌝ }
+    ensures { λ v. ⌜ cellMade (now (words .entry)) (now (text .entry)) r v ≡ expressionCell level size (spanAt (now (words .entry)) r)
+        (partsAt (now (words .entry)) (now (text .entry)) r) ⌝ }
 {
     if nesting == 0 {
         return CellRead::Failed(Report::Nothing);
@@ -132,13 +146,14 @@ fn expression_cell(words: &[u32], text: &[u8], r: u32, size: BitsSize, nesting: 
     outcome_cell(
         r,
         size,
-        eval_first(words, text, child_at(words, r), nesting - 1),
+        eval_first(words, text, child_at(words, r), nesting - 1, level),
     )
 }
 
 // An expression's value or failure, at record r.
 fn outcome_cell(r: u32, size: BitsSize, e: Evaluation) -> CellRead
-    ensures { λ v. ⌜ ((words text : List ℕ) → cellMade words text r v ≡ outcomeCell size (spanAt words r) (outcomeOf words text e)) ⌝ }
+    ensures { λ v. ⌜ ((words text : List ℕ) → cellMade words text r v ≡ outcomeCell signedRules size (spanAt words r)
+        (outcomeOf words text e)) ⌝ }
 {
     match e {
         Evaluation::Value(z) => fitted_cell(r, expr_cell(z, size)),
@@ -180,8 +195,8 @@ fn target_read(k: PhandleRead) -> TargetRead
 pub fn read_value(words: &[u32], text: &[u8], r: u32) -> ValueRead
     requires { ⌜ Linked (now words) ⌝ }
     requires { ⌜ r < recordCount (now words) ⌝ }
-    ensures { λ v. ⌜ valueMade (now (words .entry)) (now (text .entry)) r v ≡ lowerValue
-        (recordAt (now (words .entry)) (now (text .entry)) r) ⌝ }
+    ensures { λ v. ⌜ ((level : ℕ) → valueMade (now (words .entry)) (now (text .entry)) r level v ≡ lowerValue level
+        (recordAt (now (words .entry)) (now (text .entry)) r)) ⌝ }
 {
     match kind_at(words, r) {
         STRING => ValueRead::Plain(PlainValue::String),
@@ -197,8 +212,8 @@ pub fn read_value(words: &[u32], text: &[u8], r: u32) -> ValueRead
 
 // A cell list of a width that was read, at record r.
 fn sized_list(r: u32, size: SizeRead) -> ValueRead
-    ensures { λ v. ⌜ ((words text : List ℕ) → valueMade words text r v ≡ sizedList (spanAt words r) (partsAt words text r)
-        (sizeTold size)) ⌝ }
+    ensures { λ v. ⌜ ((level : ℕ) (words text : List ℕ) → valueMade words text r level v ≡ sizedList level (spanAt words r)
+        (partsAt words text r) (sizeTold size)) ⌝ }
 {
     match size {
         SizeRead::Size(s) => ValueRead::CellList(s),
@@ -208,8 +223,8 @@ fn sized_list(r: u32, size: SizeRead) -> ValueRead
 
 // A bytestring whose bytes were counted, at record r.
 fn counted_bytes(r: u32, n: ByteCount) -> ValueRead
-    ensures { λ v. ⌜ ((words text : List ℕ) → countTold n ≡ countOf (textAt words text r)
-        → valueMade words text r v ≡ countedBytes (spanAt words r) (textAt words text r) (countTold n)) ⌝ }
+    ensures { λ v. ⌜ ((level : ℕ) (words text : List ℕ) → countTold n ≡ countOf (textAt words text r)
+        → valueMade words text r level v ≡ countedBytes (spanAt words r) (textAt words text r) (countTold n)) ⌝ }
 {
     match n {
         ByteCount::Bytes(_) => ValueRead::Plain(PlainValue::Bytestring),
@@ -219,7 +234,7 @@ fn counted_bytes(r: u32, n: ByteCount) -> ValueRead
 
 // A reference as a value.
 fn reference_value(t: TargetRead) -> ValueRead
-    ensures { λ v. ⌜ ((words text : List ℕ) (r : ℕ) → valueMade words text r v ≡ referenceValue (targetGot words text r t)) ⌝ }
+    ensures { λ v. ⌜ ((level : ℕ) (words text : List ℕ) (r : ℕ) → valueMade words text r level v ≡ referenceValue (targetGot words text r t)) ⌝ }
 {
     match t {
         TargetRead::Failed(report) => ValueRead::Failed(report),

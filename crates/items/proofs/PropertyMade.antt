@@ -116,20 +116,20 @@ pub property-dropped-at : (words text : List ℕ) (r : ℕ) (f : FullName) (keep
 property-dropped-at words text r f keep e = record { lowers = λ k p s q. rw e q }
 
 -- counts never fall
-named-grows : (p : List ℕ) (parts values : Trees) (span : Span) (o : Option (List ℕ)) → Grows (namedProperty p parts values span o)
-named-grows p parts values span none = record { records = λ s. omega arith; bytes = λ s. omega arith }
-named-grows p parts values span (some n) = define-grows _
+named-grows : (level : ℕ) (p : List ℕ) (parts values : Trees) (span : Span) (o : Option (List ℕ)) → Grows (namedProperty level p parts values span o)
+named-grows level p parts values span none = record { records = λ s. omega arith; bytes = λ s. omega arith }
+named-grows level p parts values span (some n) = define-grows _
 
-pub property-grows : (p : List ℕ) (parts values : Trees) (span : Span) → Grows (lowerProperty p parts values span)
+pub property-grows : (level : ℕ) (p : List ℕ) (parts values : Trees) (span : Span) → Grows (lowerProperty level p parts values span)
 unfolding lowerProperty
-property-grows p parts values span =
+property-grows level p parts values span =
     record {
       records = λ s.
           by-test (isEmpty p) (λ e. rw e (emit-grows _ .records s))
           (λ e. rw e (omega (
             arith,
             emit-grows (reports) .records s,
-            named-grows p parts values span (fullName parts .result) .records
+            named-grows level p parts values span (fullName parts .result) .records
                 (emit reports s),
           )));
       bytes = λ s.
@@ -137,44 +137,44 @@ property-grows p parts values span =
           (λ e. rw e (omega (
             arith,
             emit-grows (reports) .bytes s,
-            named-grows p parts values span (fullName parts .result) .bytes
+            named-grows level p parts values span (fullName parts .result) .bytes
                 (emit reports s),
           )));
     }
   where
     reports : List Diag
-    reports = lowerValues values .reports ++ fullName parts .reports
+    reports = lowerValues level values .reports ++ fullName parts .reports
 
 -- outside a node
-pub property-outside : (p : List ℕ) (parts values : Trees) (span : Span) (s : State) → isEmpty p ≡ true
-    → emit (report 7 [] span ∷ []) s ≡ lowerProperty p parts values span s
+pub property-outside : (level : ℕ) (p : List ℕ) (parts values : Trees) (span : Span) (s : State) → isEmpty p ≡ true
+    → emit (report 7 [] span ∷ []) s ≡ lowerProperty level p parts values span s
 unfolding lowerProperty
-property-outside p parts values span s e = rw e refl
+property-outside level p parts values span s e = rw e refl
 
 -- of a property that is not kept only reports are made
 dropped-as : (m : Made Value) (ds : List Diag) (s : State) → emit ds (filled addValues false m s) ≡ emit (m .reports ++ ds) s
 unfolding filled
 dropped-as m ds s = emit-then (m .reports) ds s
 
-module _ (parts values : Trees) (span : Span) {parent : PathAt} {c : LowerCtx} {ws bs : List ℕ} where
+module _ (level : ℕ) (parts values : Trees) (span : Span) {parent : PathAt} {c : LowerCtx} {ws bs : List ℕ} where
   pub property-top : {d : LowerCtx} {w b : List ℕ} → c .short ≡ false → isTop parent ≡ true
       → Lowers c d ws bs w b (emit (report 7 [] span ∷ []))
-      → LowersAt parent c d ws bs w b (λ p s. lowerProperty p parts values span s)
+      → LowersAt parent c d ws bs w b (λ p s. lowerProperty level p parts values span s)
   property-top z t h = record {
-    lowers = λ k p s q. rw (sym (property-outside p parts values span s (top-empty q z ∙ t)))
+    lowers = λ k p s q. rw (sym (property-outside level p parts values span s (top-empty q z ∙ t)))
         (h .lowers _ s q);
   }
 
   -- in a state that ran short
-  pub property-short : c .short ≡ true → LowersAt parent c c ws bs ws bs (λ p s. lowerProperty p parts values span s)
+  pub property-short : c .short ≡ true → LowersAt parent c c ws bs ws bs (λ p s. lowerProperty level p parts values span s)
   property-short z =
       record {
         lowers = λ k p s q.
-            let g = property-grows p parts values span in
-            stays-over (lowerProperty p parts values span s) (λ e. (e, refl, refl)) z (g .records s) (g .bytes s) q;
+            let g = property-grows level p parts values span in
+            stays-over (lowerProperty level p parts values span s) (λ e. (e, refl, refl)) z (g .records s) (g .bytes s) q;
       }
 
-module _ (words text : List ℕ) (r : ℕ) (f : FullName) (h : FullNameRead words (childAt words r) f)
+module _ (level : ℕ) (words text : List ℕ) (r : ℕ) (f : FullName) (h : FullNameRead words (childAt words r) f)
     (good : goodNamesIn (chainAt words text (childAt words r)) ≡ true) where
   abbrev parts : Trees
   parts = chainAt words text (childAt words r)
@@ -186,24 +186,24 @@ module _ (words text : List ℕ) (r : ℕ) (f : FullName) (h : FullNameRead word
   same-name = h .read text
 
   kept-as : (keep : Bool) (o : Option (List ℕ)) → fullName parts .result ≡ o → keep ≡ isThere o → (p : List ℕ) (s : State)
-      → emit (fullName parts .reports) (filled addValues keep (lowerValues values) (cond keep (define (propertyAt words text r f p) s) s))
-      ≡ namedProperty p parts values (spanAt words r) o (emit (lowerValues values .reports ++ fullName parts .reports) s)
+      → emit (fullName parts .reports) (filled addValues keep (lowerValues level values) (cond keep (define (propertyAt words text r f p) s) s))
+      ≡ namedProperty level p parts values (spanAt words r) o (emit (lowerValues level values .reports ++ fullName parts .reports) s)
   unfolding propertyAt
   kept-as true (some n) e k p s =
       property-filled (joined p (nameText words text (f .name)) (nameText words text (f .unit))) (spanAt words r)
-      (propertyNameSpan parts (spanAt words r)) (lowerValues values) (fullName parts .reports) s
-      ∙ ap (λ (q : List ℕ). define (propertyDef q (spanAt words r) (propertyNameSpan parts (spanAt words r)) (lowerValues values .made))
-      (emit (lowerValues values .reports ++ fullName parts .reports) s))
+      (propertyNameSpan parts (spanAt words r)) (lowerValues level values) (fullName parts .reports) s
+      ∙ ap (λ (q : List ℕ). define (propertyDef q (spanAt words r) (propertyNameSpan parts (spanAt words r)) (lowerValues level values .made))
+      (emit (lowerValues level values .reports ++ fullName parts .reports) s))
       (sym (full-joined words text (childAt words r) f h good p n e))
   kept-as true none e k p s = absurd (not-both {t = true} refl k)
   kept-as false (some n) e k p s = absurd (not-both {t = false} k refl)
-  kept-as false none e k p s = dropped-as (lowerValues values) (fullName parts .reports) s
+  kept-as false none e k p s = dropped-as (lowerValues level values) (fullName parts .reports) s
 
   -- inside a node
   pub property-is : (keep : Bool) → keep ≡ isThere (fullRead words text f .result) → (p : List ℕ) → isEmpty p ≡ false → (s : State)
-      → emit (fullRead words text f .reports) (filled addValues keep (lowerValues values)
+      → emit (fullRead words text f .reports) (filled addValues keep (lowerValues level values)
       (cond keep (define (propertyAt words text r f p) s) s))
-      ≡ lowerProperty p parts values (spanAt words r) s
+      ≡ lowerProperty level p parts values (spanAt words r) s
   unfolding lowerProperty
   property-is keep k p e s = rw (e, same-name) (kept-as keep (fullName parts .result) refl (rw same-name at k) p s)
 
@@ -214,20 +214,20 @@ module _ (words text : List ℕ) (r : ℕ) (f : FullName) (h : FullNameRead word
   property-kept false p s e = absurd (not-both {t = false} e refl)
 
 -- the whole, from its steps
-module _ {c d e g : LowerCtx} {ws bs w b v u x y : List ℕ} {parent : PathAt} (words text : List ℕ) (r : ℕ) (f : FullName)
+module _ {c d e g : LowerCtx} {ws bs w b v u x y : List ℕ} {parent : PathAt} (level : ℕ) (words text : List ℕ) (r : ℕ) (f : FullName)
     (h : FullNameRead words (childAt words r) f)
     (good : goodNamesIn (chainAt words text (childAt words r)) ≡ true) (keep : Bool) (k : keep ≡ isThere (fullRead words text f .result))
   where
     pub property-lowers : LowersAt parent c d ws bs w b (λ p s. cond keep (define (propertyAt words text r f p) s) s)
-        → Fills inProperty addValues keep d e w b v u (lowerValues (chainAt words text (secondAt words r)))
+        → Fills inProperty addValues keep d e w b v u (lowerValues level (chainAt words text (secondAt words r)))
         → Lowers e g v u x y (emit (fullRead words text f .reports))
         → c .short ≡ false → isTop parent ≡ false
-        → LowersAt parent c g ws bs x y (λ p s. lowerProperty p (chainAt words text (childAt words r))
+        → LowersAt parent c g ws bs x y (λ p s. lowerProperty level p (chainAt words text (childAt words r))
         (chainAt words text (secondAt words r)) (spanAt words r) s)
     property-lowers a m n z t =
         record {
           lowers = λ k₀ p s q.
               subst (λ (o : State). Represents (withPlace (record { at = parent; path = p }) k₀) g x y o)
-              (property-is words text r f h good keep k p (top-empty q z ∙ t) s)
-              (n .lowers _ _ (m .fills _ _ (a .lowers k₀ p s q) (property-kept words text r f h good keep p s)));
+              (property-is level words text r f h good keep k p (top-empty q z ∙ t) s)
+              (n .lowers _ _ (m .fills _ _ (a .lowers k₀ p s q) (property-kept level words text r f h good keep p s)));
         }

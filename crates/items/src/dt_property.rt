@@ -57,12 +57,13 @@ pub fn lower_dt_property(
     out: &mut [u32],
     bytes: &mut [u8],
     ctx: LowerCtx,
+    level: u32,
 ) -> LowerCtx
     requires { ⌜ Linked (now words) ⌝ }
     requires { ⌜ RecordIn (now words) (now text) r nesting ⌝ }
     requires { ⌜ goodNamesIn (partsAt (now words) (now text) r) ≡ true ⌝ }
     ensures { λ d. ⌜ LowersAt parent ctx d (now (out .entry)) (now (bytes .entry)) (now (out .exit)) (now (bytes .exit))
-        (λ p s. lowerProperty p (partsAt (now (words .entry)) (now (text .entry)) r) (contentsAt (now (words .entry)) (now (text .entry)) r)
+        (λ p s. lowerProperty level p (partsAt (now (words .entry)) (now (text .entry)) r) (contentsAt (now (words .entry)) (now (text .entry)) r)
         (spanAt (now (words .entry)) r) s) ⌝ }
 {
     if ctx.short {
@@ -83,6 +84,7 @@ pub fn lower_dt_property(
         out,
         bytes,
         made,
+        level,
     );
     emit_name(words, text, name, out, bytes, filled)
 }
@@ -143,16 +145,17 @@ fn lower_prop_values(
     out: &mut [u32],
     bytes: &mut [u8],
     ctx: LowerCtx,
+    level: u32,
 ) -> LowerCtx
     requires { ⌜ Linked (now words) ⌝ }
     requires { ⌜ ChainIn (now words) (now text) first nesting ⌝ }
     ensures { λ d. ⌜ FillsProperty keep ctx d (now (out .entry)) (now (bytes .entry)) (now (out .exit)) (now (bytes .exit))
-        (lowerValues (chainAt (now (words .entry)) (now (text .entry)) first)) ⌝ }
+        (lowerValues level (chainAt (now (words .entry)) (now (text .entry)) first)) ⌝ }
 {
     let mut r = first;
     let mut next = ctx;
     while r != 0 {
-        next = lower_prop_value(words, text, r, keep, nesting, out, bytes, next);
+        next = lower_prop_value(words, text, r, keep, nesting, out, bytes, next, level);
         r = next_at(words, r);
     }
     next
@@ -168,11 +171,12 @@ fn lower_prop_value(
     out: &mut [u32],
     bytes: &mut [u8],
     ctx: LowerCtx,
+    level: u32,
 ) -> LowerCtx
     requires { ⌜ Linked (now words) ⌝ }
     requires { ⌜ RecordIn (now words) (now text) r nesting ⌝ }
     ensures { λ d. ⌜ FillsProperty keep ctx d (now (out .entry)) (now (bytes .entry)) (now (out .exit)) (now (bytes .exit))
-        (lowerValue (recordAt (now (words .entry)) (now (text .entry)) r)) ⌝ }
+        (lowerValue level (recordAt (now (words .entry)) (now (text .entry)) r)) ⌝ }
 {
     match read_value(words, text, r) {
         ValueRead::Plain(value) => push_value(words, text, r, value, keep, out, bytes, ctx),
@@ -186,6 +190,7 @@ fn lower_prop_value(
             out,
             bytes,
             ctx,
+            level,
         ),
         ValueRead::Failed(report) => emit_report(words, text, report, out, bytes, ctx),
     }
@@ -232,11 +237,12 @@ fn lower_cell_list(
     out: &mut [u32],
     bytes: &mut [u8],
     ctx: LowerCtx,
+    level: u32,
 ) -> LowerCtx
     requires { ⌜ Linked (now words) ⌝ }
     requires { ⌜ RecordIn (now words) (now text) r nesting ⌝ }
     ensures { λ d. ⌜ FillsProperty keep ctx d (now (out .entry)) (now (bytes .entry)) (now (out .exit)) (now (bytes .exit))
-        (sizedList (spanAt (now (words .entry)) r) (partsAt (now (words .entry)) (now (text .entry)) r) (R.value size)) ⌝ }
+        (sizedList level (spanAt (now (words .entry)) r) (partsAt (now (words .entry)) (now (text .entry)) r) (R.value size)) ⌝ }
 {
     let made = push_cell_list(size, keep, out, bytes, ctx);
     lower_cells(
@@ -249,6 +255,7 @@ fn lower_cell_list(
         out,
         bytes,
         made,
+        level,
     )
 }
 
@@ -280,16 +287,17 @@ fn lower_cells(
     out: &mut [u32],
     bytes: &mut [u8],
     ctx: LowerCtx,
+    level: u32,
 ) -> LowerCtx
     requires { ⌜ Linked (now words) ⌝ }
     requires { ⌜ ChainIn (now words) (now text) first nesting ⌝ }
     ensures { λ d. ⌜ FillsCells keep ctx d (now (out .entry)) (now (bytes .entry)) (now (out .exit)) (now (bytes .exit))
-        (lowerCells size (chainAt (now (words .entry)) (now (text .entry)) first)) ⌝ }
+        (lowerCells level size (chainAt (now (words .entry)) (now (text .entry)) first)) ⌝ }
 {
     let mut r = first;
     let mut next = ctx;
     while r != 0 {
-        next = lower_cell(words, text, r, size, keep, nesting, out, bytes, next);
+        next = lower_cell(words, text, r, size, keep, nesting, out, bytes, next, level);
         r = next_at(words, r);
     }
     next
@@ -306,13 +314,14 @@ fn lower_cell(
     out: &mut [u32],
     bytes: &mut [u8],
     ctx: LowerCtx,
+    level: u32,
 ) -> LowerCtx
     requires { ⌜ Linked (now words) ⌝ }
     requires { ⌜ RecordIn (now words) (now text) r nesting ⌝ }
     ensures { λ d. ⌜ FillsCells keep ctx d (now (out .entry)) (now (bytes .entry)) (now (out .exit)) (now (bytes .exit))
-        (lowerCell size (recordAt (now (words .entry)) (now (text .entry)) r)) ⌝ }
+        (lowerCell level size (recordAt (now (words .entry)) (now (text .entry)) r)) ⌝ }
 {
-    match read_cell(words, text, r, size, nesting) {
+    match read_cell(words, text, r, size, nesting, level) {
         CellRead::Number(n) => push_number(n, keep, out, bytes, ctx),
         CellRead::Phandle(kind) => push_reference(words, text, r, kind, keep, out, bytes, ctx),
         CellRead::Failed(report) => emit_report(words, text, report, out, bytes, ctx),

@@ -2,12 +2,14 @@
 use Prim.Native.Nat.{ℕ}
 use mathlib.Core.Path.{_≡_, refl, sym, _∙_}
 use mathlib.Core.List.{List}
+use native.Mathlib.Omega.{arith}
 use borrow.Author.Tests.{ne-eqb}
 use lib.ListN.{length, replicate, length-replicate}
+use Rattle.levels.specs.meaning.Rules.{signedLevel, isLevel}
 use Rattle.log.specs.meaning.ReadBack.{readLog}
 use Rattle.making.specs.meaning.State.{State}
 use Rattle.log.specs.meaning.Answer.{Answered}
-use Rattle.lowering.specs.meaning.Lowered.{fitsIn, meaning, Lowered, turnedDown, short, done}
+use Rattle.lowering.specs.meaning.Lowered.{fitsIn, meaning, Lowered, noLevel, turnedDown, short, done}
 use Rattle.input.proofs.Refusals.{refusal-number}
 use Rattle.listing.specs.meaning.Program.{outLength, bytesLength, listed}
 use Rattle.listing.specs.machine.Page.{answerText}
@@ -22,9 +24,10 @@ fits-empty : (s : State) (o b : List ℕ) → length o ≡ outLength → length 
 fits-empty s o b e f = fits-by-lengths s o _ b _ (e ∙ sym (length-replicate {A = ℕ} outLength 0))
     (f ∙ sym (length-replicate {A = ℕ} bytesLength 0))
 
-pub answer-listed : {w t o b p d : List ℕ} {a : Answered} → Lowered w t o b a p d → length o ≡ outLength → length b ≡ bytesLength
+pub answer-listed : {w t o b p d : List ℕ} {a : Answered} → Lowered signedLevel w t o b a p d → length o ≡ outLength → length b ≡ bytesLength
     → answerText (a .number) (a .returned) (readLog p d) ≡ listed w t
-unfolding listed
-answer-listed {w} {t} {o} {b} (turnedDown {number = n} v e x y) l m = rw (e, v, ne-eqb n 0 (refusal-number w t v)) refl
-answer-listed {w} {t} {o} {b} (short v f e x y) l m = rw (e, v, ← fits-empty (meaning w t) o b l m, f) refl
-answer-listed {w} {t} {o} {b} (done v f e x y r) l m = rw (e, v, ← fits-empty (meaning w t) o b l m, f, r .reads) refl
+unfolding listed isLevel
+answer-listed {w} {t} {o} {b} (noLevel n e x y) l m = let z : _≡_ {A = ℕ} 0 1 = cc in absurd (omega arith)
+answer-listed {w} {t} {o} {b} (turnedDown {number = n} k v e x y) l m = rw (e, v, ne-eqb n 0 (refusal-number w t v)) refl
+answer-listed {w} {t} {o} {b} (short k v f e x y) l m = rw (e, v, ← fits-empty (meaning signedLevel w t) o b l m, f) refl
+answer-listed {w} {t} {o} {b} (done k v f e x y r) l m = rw (e, v, ← fits-empty (meaning signedLevel w t) o b l m, f, r .reads) refl

@@ -145,16 +145,16 @@ module _ (parts : Trees) (span : Span) (body : List ℕ → State → State) (b 
   node-counted parent s = then-counted (emit-counted _ s) (placed-counted (placeOf parent parts span s .place) _)
 
 -- properties and directives
-named-counted : (parent : List ℕ) (parts values : Trees) (span : Span) (n : Option (List ℕ)) (s : State)
-    → Counted s (namedProperty parent parts values span n s)
-named-counted parent parts values span (some n) s = define-counted _ s
-named-counted parent parts values span none s = nothing-more s
+named-counted : (level : ℕ) (parent : List ℕ) (parts values : Trees) (span : Span) (n : Option (List ℕ)) (s : State)
+    → Counted s (namedProperty level parent parts values span n s)
+named-counted level parent parts values span (some n) s = define-counted _ s
+named-counted level parent parts values span none s = nothing-more s
 
-property-counted : (parent : List ℕ) (parts values : Trees) (span : Span) (s : State) → Counted s (lowerProperty parent parts values span s)
+property-counted : (level : ℕ) (parent : List ℕ) (parts values : Trees) (span : Span) (s : State) → Counted s (lowerProperty level parent parts values span s)
 unfolding lowerProperty
-property-counted parent parts values span s =
+property-counted level parent parts values span s =
     counted-if (isEmpty parent) (emit-counted _ s) (then-counted (emit-counted _ s)
-    (named-counted parent parts values span (fullName parts .result) _))
+    (named-counted level parent parts values span (fullName parts .result) _))
 
 delete-counted : (p : List ℕ) (span : Span) (s : State) → Counted s (deleteNode p span s)
 unfolding deleteNode
@@ -191,12 +191,12 @@ directive-counted w parent parts span s =
     (counted-if (eqb w 5) (property-deletion-counted parent span (firstOf nameKind parts) s)
     (nothing-more s)))))
 
-as-counted : (k w : ℕ) (span : Span) (parts second : Trees) (body : List ℕ → State → State)
+as-counted : (level k w : ℕ) (span : Span) (parts second : Trees) (body : List ℕ → State → State)
     → ((p : List ℕ) (s : State) → Counted s (body p s)) → (parent : List ℕ) (s : State)
-    → Counted s (lowerAs k w span parts second body parent s)
-as-counted k w span parts second body b parent s =
+    → Counted s (lowerAs level k w span parts second body parent s)
+as-counted level k w span parts second body b parent s =
     counted-if (eqb k nodeKind) (node-counted parts span body b parent s)
-    (counted-if (eqb k propertyKind) (property-counted parent parts second span s)
+    (counted-if (eqb k propertyKind) (property-counted level parent parts second span s)
     (counted-if (eqb k directiveKind) (directive-counted w parent parts span s)
     (counted-if (eqb k preprocessorKind) (emit-counted _ s)
     (nothing-more s))))
@@ -205,19 +205,19 @@ as-counted k w span parts second body b parent s =
 mutual
   unfolding lowerItem lowerItems
 
-  item-counted : (t : Tree) (p : List ℕ) (s : State) → Counted s (lowerItem t p s)
-  item-counted (tree k text w span parts second) p s = as-counted k w span parts second (λ q u. lowerItems second q u)
-      (λ q u. items-counted second q u) p s
+  item-counted : (level : ℕ) (t : Tree) (p : List ℕ) (s : State) → Counted s (lowerItem level t p s)
+  item-counted level (tree k text w span parts second) p s = as-counted level k w span parts second (λ q u. lowerItems level second q u)
+      (λ q u. items-counted level second q u) p s
 
-  items-counted : (ts : Trees) (p : List ℕ) (s : State) → Counted s (lowerItems ts p s)
-  items-counted empty p s = nothing-more s
-  items-counted (more t ts) p s = then-counted (item-counted t p s) (items-counted ts p (lowerItem t p s))
+  items-counted : (level : ℕ) (ts : Trees) (p : List ℕ) (s : State) → Counted s (lowerItems level ts p s)
+  items-counted level empty p s = nothing-more s
+  items-counted level (more t ts) p s = then-counted (item-counted level t p s) (items-counted level ts p (lowerItem level t p s))
 
 -- a whole description: record 0 is counted and not held
-pub lowered-records : (items : Trees) → 1 + heldRecords (lowered items) ≤ lowered items .records
+pub lowered-records : (level : ℕ) (items : Trees) → 1 + heldRecords (lowered level items) ≤ lowered level items .records
 unfolding lowered defsRecords
-lowered-records items = omega (arith, items-counted items [] start .records)
+lowered-records level items = omega (arith, items-counted level items [] start .records)
 
-pub lowered-bytes : (items : Trees) → heldBytes (lowered items) ≤ lowered items .bytes
+pub lowered-bytes : (level : ℕ) (items : Trees) → heldBytes (lowered level items) ≤ lowered level items .bytes
 unfolding lowered defsBytes bindingsBytes diagsBytes
-lowered-bytes items = omega (arith, items-counted items [] start .bytes)
+lowered-bytes level items = omega (arith, items-counted level items [] start .bytes)

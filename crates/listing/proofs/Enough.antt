@@ -8,6 +8,7 @@ use borrow.Author.Tests.{leb-true}
 use lib.Dec.{leb, ltb}
 use lib.ListN.{length, replicate, length-append, length-replicate}
 use Rattle.paths_numbers.proofs.Texts.{by-test, both}
+use Rattle.levels.specs.meaning.Rules.{signedLevel}
 use Rattle.log.specs.meaning.Contents.{Span, DefValue, node, property, deletedNode, deletedProperty, version, plugin, Def, Binding, Diag}
 use Rattle.log.specs.meaning.Record.{outCount}
 use Rattle.making.specs.meaning.State.{State, partRecords, partBytes, textsBytes, bindingsBytes}
@@ -118,15 +119,15 @@ fits-most s o b e f h =
 -- words and a text
 listed-most : (w t : List ℕ) → length (listed w t) ≤ mostPrinted
 unfolding listed recordsMade bytesMade
-listed-most w t = go (verdict w t) (fitsIn (meaning w t) (replicate outLength 0) (replicate bytesLength 0)) refl
+listed-most w t = go (verdict w t) (fitsIn (meaning signedLevel w t) (replicate outLength 0) (replicate bytesLength 0)) refl
   where
-    go : (v : Verdict) (f : Bool) → fitsIn (meaning w t) (replicate outLength 0) (replicate bytesLength 0) ≡ f
-        → length (listedBy v f (logOf (meaning w t))) ≤ mostPrinted
+    go : (v : Verdict) (f : Bool) → fitsIn (meaning signedLevel w t) (replicate outLength 0) (replicate bytesLength 0) ≡ f
+        → length (listedBy v f (logOf (meaning signedLevel w t))) ≤ mostPrinted
     go (refused n r) f e = omega (arith, refusal-most n r)
     go accepted true e =
-        let h = fits-most (meaning w t) (replicate outLength 0) (replicate bytesLength 0) (length-replicate {A = ℕ} outLength 0)
+        let h = fits-most (meaning signedLevel w t) (replicate outLength 0) (replicate bytesLength 0) (length-replicate {A = ℕ} outLength 0)
         (length-replicate {A = ℕ} bytesLength 0) e in
-        omega (arith, h .0, h .1, listing-most (meaning w t), lowered-records (description w t), lowered-bytes (description w t))
+        omega (arith, h .0, h .1, listing-most (meaning signedLevel w t), lowered-records signedLevel (description w t), lowered-bytes signedLevel (description w t))
     go accepted false e = omega (arith, refusal-most 7 0)
 
 -- an input

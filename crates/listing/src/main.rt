@@ -16,6 +16,7 @@ mod reading;
 use input::layout::RECORD_WORDS;
 use input::limits::MOST_RECORDS;
 use input::limits::MOST_TEXT;
+use levels::level::SIGNED;
 use listing::list_answer;
 use listing::list_refusal;
 use log::answer::REFUSED_SIZE;
@@ -115,6 +116,6 @@ fn list_lowered(
     requires { ⌜ length (now bytes) ≡ bytesLength ⌝ }
     ensures { λ n. ⌜ pageAt (now (page .exit)) n ≡ filled (now (page .entry)) (listed (now (words .entry)) (now (text .entry))) ⌝ }
 {
-    let answer = lower(words, text, out, bytes);
+    let answer = lower(words, text, SIGNED, out, bytes);
     list_answer(answer.number, answer.returned, out, bytes, page)
 }

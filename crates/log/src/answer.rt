@@ -25,9 +25,12 @@ pub const REFUSED_DEPTH: u32 = 6;
 // row 7, of the buffers;
 pub const REFUSED_ROOM: u32 = 7;
 
-// rows 8 to 10, of a query: the log, the path, the list.
+// rows 8 to 10, of a query: the log, the path, the list;
 pub const REFUSED_LOG: u32 = 8;
 
 pub const REFUSED_PATH: u32 = 9;
 
 pub const REFUSED_LIST: u32 = 10;
+
+// of a description's level (02, request 10).
+pub const REFUSED_LEVEL: u32 = 18;

@@ -72,16 +72,16 @@ module _ (parts : Trees) (span : Span) (body : List ℕ → State → State) (b 
   node-above parent s = then-above (emit-above _ s) (placed-above (placeOf parent parts span s .place) _)
 
 -- properties and directives
-named-above : (parent : List ℕ) (parts values : Trees) (span : Span) (n : Option (List ℕ)) (s : State)
-    → Above s (namedProperty parent parts values span n s)
-named-above parent parts values span (some n) s = by-growth (define-grows _) s
-named-above parent parts values span none s = same-counts s
+named-above : (level : ℕ) (parent : List ℕ) (parts values : Trees) (span : Span) (n : Option (List ℕ)) (s : State)
+    → Above s (namedProperty level parent parts values span n s)
+named-above level parent parts values span (some n) s = by-growth (define-grows _) s
+named-above level parent parts values span none s = same-counts s
 
-pub property-above : (parent : List ℕ) (parts values : Trees) (span : Span) (s : State) → Above s (lowerProperty parent parts values span s)
+pub property-above : (level : ℕ) (parent : List ℕ) (parts values : Trees) (span : Span) (s : State) → Above s (lowerProperty level parent parts values span s)
 unfolding lowerProperty
-property-above parent parts values span s =
+property-above level parent parts values span s =
     above-if (isEmpty parent) (emit-above _ s) (then-above (emit-above _ s)
-    (named-above parent parts values span (fullName parts .result) _))
+    (named-above level parent parts values span (fullName parts .result) _))
 
 delete-above : (p : List ℕ) (span : Span) (s : State) → Above s (deleteNode p span s)
 unfolding deleteNode unbind define
@@ -118,12 +118,12 @@ directive-above w parent parts span s =
     (above-if (eqb w 5) (property-deletion-above parent span (firstOf nameKind parts) s)
     (same-counts s)))))
 
-pub as-above : (k w : ℕ) (span : Span) (parts second : Trees) (body : List ℕ → State → State)
+pub as-above : (level k w : ℕ) (span : Span) (parts second : Trees) (body : List ℕ → State → State)
     → ((p : List ℕ) (s : State) → Above s (body p s)) → (parent : List ℕ) (s : State)
-    → Above s (lowerAs k w span parts second body parent s)
-as-above k w span parts second body b parent s =
+    → Above s (lowerAs level k w span parts second body parent s)
+as-above level k w span parts second body b parent s =
     above-if (eqb k nodeKind) (node-above parts span body b parent s)
-    (above-if (eqb k propertyKind) (property-above parent parts second span s)
+    (above-if (eqb k propertyKind) (property-above level parent parts second span s)
     (above-if (eqb k directiveKind) (directive-above w parent parts span s)
     (above-if (eqb k preprocessorKind) (emit-above _ s)
     (same-counts s))))
@@ -132,24 +132,24 @@ as-above k w span parts second body b parent s =
 mutual
   unfolding lowerItem lowerItems
 
-  item-above : (t : Tree) (p : List ℕ) (s : State) → Above s (lowerItem t p s)
-  item-above (tree k text w span parts second) p s = as-above k w span parts second (λ q u. lowerItems second q u)
-      (λ q u. items-above second q u) p s
+  item-above : (level : ℕ) (t : Tree) (p : List ℕ) (s : State) → Above s (lowerItem level t p s)
+  item-above level (tree k text w span parts second) p s = as-above level k w span parts second (λ q u. lowerItems level second q u)
+      (λ q u. items-above level second q u) p s
 
-  items-above : (ts : Trees) (p : List ℕ) (s : State) → Above s (lowerItems ts p s)
-  items-above empty p s = same-counts s
-  items-above (more t ts) p s = then-above (item-above t p s) (items-above ts p (lowerItem t p s))
+  items-above : (level : ℕ) (ts : Trees) (p : List ℕ) (s : State) → Above s (lowerItems level ts p s)
+  items-above level empty p s = same-counts s
+  items-above level (more t ts) p s = then-above (item-above level t p s) (items-above level ts p (lowerItem level t p s))
 
-pub item-grows : (t : Tree) (p : List ℕ) → Grows (lowerItem t p)
-item-grows t p = record { records = λ s. item-above t p s .records; bytes = λ s. item-above t p s .bytes }
+pub item-grows : (level : ℕ) (t : Tree) (p : List ℕ) → Grows (lowerItem level t p)
+item-grows level t p = record { records = λ s. item-above level t p s .records; bytes = λ s. item-above level t p s .bytes }
 
-pub items-grow : (ts : Trees) (p : List ℕ) → Grows (lowerItems ts p)
-items-grow ts p = record { records = λ s. items-above ts p s .records; bytes = λ s. items-above ts p s .bytes }
+pub items-grow : (level : ℕ) (ts : Trees) (p : List ℕ) → Grows (lowerItems level ts p)
+items-grow level ts p = record { records = λ s. items-above level ts p s .records; bytes = λ s. items-above level ts p s .bytes }
 
-pub node-grows : (parts second : Trees) (span : Span) (p : List ℕ)
-    → Grows (λ (s : State). lowerNode p parts span (λ (q : List ℕ) (u : State). lowerItems second q u) s)
-node-grows parts second span p =
+pub node-grows : (level : ℕ) (parts second : Trees) (span : Span) (p : List ℕ)
+    → Grows (λ (s : State). lowerNode p parts span (λ (q : List ℕ) (u : State). lowerItems level second q u) s)
+node-grows level parts second span p =
     record {
-      records = λ s. node-above parts span (λ q u. lowerItems second q u) (λ q u. items-above second q u) p s .records;
-      bytes = λ s. node-above parts span (λ q u. lowerItems second q u) (λ q u. items-above second q u) p s .bytes;
+      records = λ s. node-above parts span (λ q u. lowerItems level second q u) (λ q u. items-above level second q u) p s .records;
+      bytes = λ s. node-above parts span (λ q u. lowerItems level second q u) (λ q u. items-above level second q u) p s .bytes;
     }

@@ -80,20 +80,20 @@ module _ {s : State} (g : GoodState s) (parent : List ℕ) (f : goodPath parent 
   delete-property none q = g
 
   -- a property defined
-  named-good : (values : Trees) (o : Option (List ℕ)) → fullName parts .result ≡ o → GoodState (namedProperty parent parts values span o s)
-  named-good values (some name) q =
+  named-good : (level : ℕ) (values : Trees) (o : Option (List ℕ)) → fullName parts .result ≡ o → GoodState (namedProperty level parent parts values span o s)
+  named-good level values (some name) q =
       good-define g _ (good-def _ e (property-span parts span (t .spans) e) (name-path parent name f (full-plain parts name (t .names) q)))
-  named-good values none q = g
+  named-good level values none q = g
 
 module _ {s : State} (g : GoodState s) (parent : List ℕ) (f : goodPath parent ≡ true) (parts : Trees) (t : GoodTrees parts) (span : Span)
     (e : inOrder span ≡ true) where
-  property-good : (values : Trees) → spansIn values ≡ true → GoodState (lowerProperty parent parts values span s)
+  property-good : (level : ℕ) (values : Trees) → spansIn values ≡ true → GoodState (lowerProperty level parent parts values span s)
   unfolding lowerProperty
-  property-good values v =
-      let reports = all-append goodDiag (lowerValues values .reports) (fullName parts .reports) (value-reports values v)
+  property-good level values v =
+      let reports = all-append goodDiag (lowerValues level values .reports) (fullName parts .reports) (value-reports level values v)
       (full-reports parts (t .spans)) in
       cond-in GoodState (isEmpty parent) (good-emit g (report 7 [] span ∷ []) (good-report 7 [] span e))
-      (named-good (good-emit g _ reports) parent f parts t span e values (fullName parts .result) refl)
+      (named-good (good-emit g _ reports) parent f parts t span e level values (fullName parts .result) refl)
 
   directive-good : (w : ℕ) → GoodState (lowerDirective w parent parts span s)
   unfolding lowerDirective lowerDeleteNode
@@ -107,11 +107,11 @@ module _ {s : State} (g : GoodState s) (parent : List ℕ) (f : goodPath parent 
       (cond-in GoodState (eqb w 5) (delete-property g parent f parts t span e (firstOf nameKind parts) refl)
       g))))
 
-  as-good : (k w : ℕ) (second : Trees) → spansIn second ≡ true → (body : List ℕ → State → State) → KeepsGood body
-      → GoodState (lowerAs k w span parts second body parent s)
-  as-good k w second v body h =
+  as-good : (level k w : ℕ) (second : Trees) → spansIn second ≡ true → (body : List ℕ → State → State) → KeepsGood body
+      → GoodState (lowerAs level k w span parts second body parent s)
+  as-good level k w second v body h =
       cond-in GoodState (eqb k nodeKind) (node-good parts t span e g body h parent f)
-      (cond-in GoodState (eqb k propertyKind) (property-good second v)
+      (cond-in GoodState (eqb k propertyKind) (property-good level second v)
       (cond-in GoodState (eqb k directiveKind) (directive-good w)
       (cond-in GoodState (eqb k preprocessorKind) (good-emit g (report 1 [] span ∷ []) (good-report 1 [] span e))
       g)))
@@ -120,32 +120,32 @@ module _ {s : State} (g : GoodState s) (parent : List ℕ) (f : goodPath parent 
 mutual
   unfolding lowerItem lowerItems goodNamesIn
 
-  item-good : (i : Tree) (parent : List ℕ) (s : State) → goodNames i ≡ true → spans i ≡ true → goodPath parent ≡ true → GoodState s
-      → GoodState (lowerItem i parent s)
-  item-good (tree k text w span parts second) parent s n v f g =
+  item-good : (level : ℕ) (i : Tree) (parent : List ℕ) (s : State) → goodNames i ≡ true → spans i ≡ true → goodPath parent ≡ true → GoodState s
+      → GoodState (lowerItem level i parent s)
+  item-good level (tree k text w span parts second) parent s n v f g =
       let i = tree k text w span parts second in
       let names = good-second k text w span parts second n in
       let t : GoodTrees parts = record { names = good-parts k text w span parts second n; spans = child-spans i v } in
-      as-good g parent f parts t span (own-span i v) k w second (second-spans i v) (λ p u. lowerItems second p u)
-      (λ p u x y. items-good second p u names (second-spans i v) x y)
+      as-good g parent f parts t span (own-span i v) level k w second (second-spans i v) (λ p u. lowerItems level second p u)
+      (λ p u x y. items-good level second p u names (second-spans i v) x y)
 
-  items-good : (is : Trees) (parent : List ℕ) (s : State) → goodNamesIn is ≡ true → spansIn is ≡ true → goodPath parent ≡ true → GoodState s
-      → GoodState (lowerItems is parent s)
-  items-good empty parent s n v f g = g
-  items-good (more i is) parent s n v f g =
+  items-good : (level : ℕ) (is : Trees) (parent : List ℕ) (s : State) → goodNamesIn is ≡ true → spansIn is ≡ true → goodPath parent ≡ true → GoodState s
+      → GoodState (lowerItems level is parent s)
+  items-good level empty parent s n v f g = g
+  items-good level (more i is) parent s n v f g =
       let a = both (goodNames i) (goodNamesIn is) n in
       let b = chain-spans i is v in
-      items-good is parent _ (a .1) (b .1) f (item-good i parent s (a .0) (b .0) f g)
+      items-good level is parent _ (a .1) (b .1) f (item-good level i parent s (a .0) (b .0) f g)
 
 -- the log of a good state
 log-good : {s : State} → GoodState s → goodLog (logOf s) ≡ true
 unfolding goodLog logOf
 log-good g = rw (g .defs, g .exts, g .binds, g .diags) (post-good g)
 
-pub accepted-good : (words text : List ℕ) → verdict words text ≡ accepted → goodLog (logOf (meaning words text)) ≡ true
+pub accepted-good : (level : ℕ) (words text : List ℕ) → verdict words text ≡ accepted → goodLog (logOf (meaning level words text)) ≡ true
 unfolding lowered goodPath isEmpty
-accepted-good words text e =
+accepted-good level words text e =
     log-good
-    (items-good (description words text) [] _ (accepted-names words text e)
+    (items-good level (description words text) [] _ (accepted-names words text e)
     (fits-spans (description words text) items (accepted-places words text e)) refl
     good-start)

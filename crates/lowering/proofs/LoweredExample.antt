@@ -3,6 +3,7 @@ use mathlib.Core.Bool.{true}
 use mathlib.Core.Path.{_≡_, refl, sym}
 use Rattle.paths_numbers.specs.meaning.Text.{same, isEmpty, begins, startsWith}
 use Rattle.paths_numbers.specs.meaning.Path.{join, atOrUnder, strip}
+use Rattle.levels.specs.meaning.Rules.{signedLevel, isLevel}
 use Rattle.log.specs.meaning.ReadBack.{readLog}
 use Rattle.log.specs.examples.RecordExample.{listing, listingBytes, listing-reads}
 use Rattle.log.proofs.WrittenExample.{listing-written}
@@ -20,30 +21,31 @@ use Rattle.lowering.specs.examples.Example.{items}
 use Rattle.lowering.specs.examples.InputExample.{listingWords, listingText, listing-accepted, listing-read}
 
 -- what the definitions make of the tree, all that is written among it
-made-log : logOf (lowered items) ≡ readLog listing listingBytes
+made-log : logOf (lowered signedLevel items) ≡ readLog listing listingBytes
 unfolding logOf lowered lowerItem lowerItems lowerNode lowerDirective placeOf opened labelTexts define bind emit labelsOf nameOrMacro
     fullName nodeNameSpan firstOf has join same isEmpty postChecks checkDirectives directivesFrom checkReferences checkDefs duplicateLabels
     duplicatesOf any setsOverlay live isLive gone atOrUnder strip begins startsWith
 made-log = sym listing-reads
 
-made-records : recordsMade (lowered items) ≡ 6
+made-records : recordsMade (lowered signedLevel items) ≡ 6
 unfolding recordsMade lowered lowerItem lowerItems lowerNode lowerDirective placeOf opened labelTexts define bind emit labelsOf nameOrMacro
     fullName nodeNameSpan firstOf has join same isEmpty postChecks checkDirectives directivesFrom checkReferences checkDefs duplicateLabels
     duplicatesOf any setsOverlay live isLive gone atOrUnder strip begins startsWith
 made-records = refl
 
-made-bytes : bytesMade (lowered items) ≡ 7
+made-bytes : bytesMade (lowered signedLevel items) ≡ 7
 unfolding bytesMade lowered lowerItem lowerItems lowerNode lowerDirective placeOf opened labelTexts define bind emit bindingsBytes
     diagsBytes textsBytes labelsOf nameOrMacro fullName nodeNameSpan firstOf has join same isEmpty postChecks checkDirectives directivesFrom
     checkReferences checkDefs duplicateLabels duplicatesOf any setsOverlay live isLive gone atOrUnder strip begins startsWith
 made-bytes = refl
 
-fits : fitsIn (lowered items) listing listingBytes ≡ true
+fits : fitsIn (lowered signedLevel items) listing listingBytes ≡ true
 unfolding fitsIn
 fits = rw (made-records, made-bytes) refl
 
 -- lowered into buffers that held the same before
-pub listing-lowered : Lowered listingWords listingText listing listingBytes (record { number = 0; returned = 0 }) listing listingBytes
+pub listing-lowered : Lowered signedLevel listingWords listingText listing listingBytes (record { number = 0; returned = 0 }) listing listingBytes
+unfolding isLevel
 listing-lowered =
-    done listing-accepted (rw listing-read fits) refl refl refl
+    done refl listing-accepted (rw listing-read fits) refl refl refl
     (rw (listing-read, made-records, made-bytes, made-log) listing-written)

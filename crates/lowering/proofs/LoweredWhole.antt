@@ -6,6 +6,7 @@ use mathlib.Core.List.{List, []}
 use lib.ListN.{length, replicate}
 use Rattle.making.specs.declared.ctx.LowerCtx.{LowerCtx}
 use Rattle.making.specs.declared.place.PathAt.{PathAt}
+use Rattle.levels.specs.meaning.Rules.{isLevel}
 use Rattle.log.specs.meaning.Contents.{Diag}
 use Rattle.making.specs.meaning.State.{State, start, emit}
 use Rattle.making.specs.machine.Represents.{Place, Represents, atStart, inChecks, checking, StartsChecks, Finishes}
@@ -25,11 +26,11 @@ use Rattle.lowering.proofs.Fits.{fits, fits-not}
 abbrev top : PathAt
 top = record { root = false; start = 0; size = 0 }
 
-pub top-lowered : (words text : List ℕ) {c d : LowerCtx} {out bytes w b : List ℕ} → Represents atStart c out bytes start
-    → LowersAt top c d out bytes w b (λ p s. lowerItems (chainAt words text (childAt words 0)) p s)
-    → Represents atStart d w b (meaning words text)
+pub top-lowered : (level : ℕ) (words text : List ℕ) {c d : LowerCtx} {out bytes w b : List ℕ} → Represents atStart c out bytes start
+    → LowersAt top c d out bytes w b (λ p s. lowerItems level (chainAt words text (childAt words 0)) p s)
+    → Represents atStart d w b (meaning level words text)
 unfolding description lowered
-top-lowered words text h l =
+top-lowered level words text h l =
     let p : Place = record { at = top; path = [] } in
     forget-place (l .lowers atStart [] start (top-place p refl refl refl refl h))
 
@@ -38,11 +39,11 @@ checks-alike : (s : State) → postChecks (checking s) ≡ postChecks s
 unfolding postChecks
 checks-alike s = rw (references-alike (checking s) s refl refl) refl
 
-module _ (words text : List ℕ) {c d e : LowerCtx} {out bytes w b : List ℕ} (made : Represents atStart c out bytes (meaning words text))
+module _ (level : ℕ) (words text : List ℕ) {c d e : LowerCtx} {out bytes w b : List ℕ} (made : Represents atStart c out bytes (meaning level words text))
     (starts : StartsChecks c d)
     (checks : Lowers d e out bytes w b (λ (s : State). emit (postChecks s) s)) where
   abbrev all : State
-  all = meaning words text
+  all = meaning level words text
 
   checked : Represents (inChecks c all) e w b (emit (postChecks all) (checking all))
   checked =
@@ -50,19 +51,19 @@ module _ (words text : List ℕ) {c d e : LowerCtx} {out bytes w b : List ℕ} (
       (checks .lowers (inChecks c all) (checking all) (starts .checks out bytes all made))
 
   -- the end, in buffers as long as those that were lent
-  module _ (v : verdict words text ≡ accepted) {out₀ bytes₀ : List ℕ} (lo : length w ≡ length out₀) (lb : length b ≡ length bytes₀)
+  module _ (l₀ : isLevel level ≡ true) (v : verdict words text ≡ accepted) {out₀ bytes₀ : List ℕ} (lo : length w ≡ length out₀) (lb : length b ≡ length bytes₀)
       (answer : Answered) where
     -- zeros, where the log ran short
     pub lowered-short : {x y : List ℕ} → e .short ≡ true → answer ≡ record { number = 7; returned = 0 } → x ≡ replicate (length w) 0
         → y ≡ replicate (length b) 0
-        → Lowered words text out₀ bytes₀ answer x y
+        → Lowered level words text out₀ bytes₀ answer x y
     lowered-short n q x y =
-        short v (fits-not all out₀ bytes₀ lo lb checked n) q (x ∙ ap (λ (i : ℕ). replicate i 0) lo) (y ∙ ap (λ (i : ℕ). replicate i 0) lb)
+        short l₀ v (fits-not all out₀ bytes₀ lo lb checked n) q (x ∙ ap (λ (i : ℕ). replicate i 0) lo) (y ∙ ap (λ (i : ℕ). replicate i 0) lb)
 
     -- the log, where it did not
     pub lowered-done : {x : List ℕ} → e .short ≡ false → answer ≡ record { number = 0; returned = 0 } → Finishes e w x (c .diags .first)
-        → Lowered words text out₀ bytes₀ answer x b
+        → Lowered level words text out₀ bytes₀ answer x b
     unfolding emit logOf recordsMade bytesMade
     lowered-done n q f =
-        done v (fits all out₀ bytes₀ lo lb checked n) q (f .sameLength ∙ lo) lb
-        (f .finishes (inChecks c all) b (emit (postChecks all) (checking all)) refl refl refl checked n (accepted-good words text v))
+        done l₀ v (fits all out₀ bytes₀ lo lb checked n) q (f .sameLength ∙ lo) lb
+        (f .finishes (inChecks c all) b (emit (postChecks all) (checking all)) refl refl refl checked n (accepted-good level words text v))

@@ -1,6 +1,8 @@
-// The whole of lowering (lower_item of item.rs over the top items, then check_mir_post): rows 1 to 7
-// of 01's table, and the log that is written where none of them refuses.
+// The whole of lowering (lower_item of item.rs over the top items, then check_mir_post): the level, rows 1
+// to 7 of 01's table, and the log that is written where none of them refuses.
 ghost use mathlib.Core.Path.{_≡_};
+ghost use mathlib.Core.Bool.{true};
+ghost use Rattle.levels.specs.meaning.Rules.{isLevel};
 ghost use Rattle.log.specs.meaning.Alike.{Words32};
 ghost use Rattle.making.specs.machine.Represents.{Represents, atStart};
 ghost use Rattle.log.specs.meaning.Answer.{told};
@@ -11,7 +13,9 @@ use input::limits::MOST_LINKS;
 use input::record::child_at;
 use input::refusal::Checked;
 use input::refusal::check_input;
+use levels::level::is_level;
 use log::answer::Answer;
+use log::answer::REFUSED_LEVEL;
 use log::answer::REFUSED_ROOM;
 use log::answer::SUCCESS;
 use making::ctx::LowerCtx;
@@ -20,29 +24,42 @@ use making::start::clear;
 use making::start::start;
 use post_checks::check_mir_post::check_mir_post;
 
-// Lowers an input into the buffers that are lent: any words, any text, any buffers. That words are
-// u32 is the slice's type; it is promised too since demand 3 compares words.
-pub fn lower(words: &[u32], text: &[u8], out: &mut [u32], bytes: &mut [u8]) -> Answer
-    ensures { λ r. ⌜ Lowered (now (words .entry)) (now (text .entry)) (now (out .entry)) (now (bytes .entry)) (told r) (now (out .exit))
+// Lowers an input at a level into the buffers that are lent: any words, any text, any level, any buffers.
+// That words are u32 is the slice's type; it is promised too since demand 3 compares words.
+pub fn lower(words: &[u32], text: &[u8], level: u32, out: &mut [u32], bytes: &mut [u8]) -> Answer
+    ensures { λ r. ⌜ Lowered level (now (words .entry)) (now (text .entry)) (now (out .entry)) (now (bytes .entry)) (told r) (now (out .exit))
         (now (bytes .exit)) ⌝ }
     ensures { λ _. ⌜ Words32 (now (out .exit)) ⌝ }
 {
+    if !is_level(level) {
+        return Answer {
+            number: REFUSED_LEVEL,
+            returned: 0,
+        };
+    }
     match check_input(words, text) {
         Checked::Refused(cause, r) => Answer {
             number: cause,
             returned: r,
         },
-        Checked::Accepted => lower_accepted(words, text, out, bytes),
+        Checked::Accepted => lower_accepted(words, text, level, out, bytes),
     }
 }
 
 // Lowers an accepted input. A log that does not fit is cleared away, by row 7.
-fn lower_accepted(words: &[u32], text: &[u8], out: &mut [u32], bytes: &mut [u8]) -> Answer
+fn lower_accepted(
+    words: &[u32],
+    text: &[u8],
+    level: u32,
+    out: &mut [u32],
+    bytes: &mut [u8],
+) -> Answer
+    requires { ⌜ isLevel level ≡ true ⌝ }
     requires { ⌜ verdict (now words) (now text) ≡ accepted ⌝ }
-    ensures { λ r. ⌜ Lowered (now (words .entry)) (now (text .entry)) (now (out .entry)) (now (bytes .entry)) (told r) (now (out .exit))
+    ensures { λ r. ⌜ Lowered level (now (words .entry)) (now (text .entry)) (now (out .entry)) (now (bytes .entry)) (told r) (now (out .exit))
         (now (bytes .exit)) ⌝ }
 {
-    let lowered = lower_top(words, text, out, bytes);
+    let lowered = lower_top(words, text, level, out, bytes);
     let reported = lowered.diags.first;
     let checked = check_mir_post(out, bytes, lowered.start_checks());
     if checked.short {
@@ -60,9 +77,10 @@ fn lower_accepted(words: &[u32], text: &[u8], out: &mut [u32], bytes: &mut [u8])
 }
 
 // Lowers the top items of an accepted input, whose parent path is empty, from an empty log on.
-fn lower_top(words: &[u32], text: &[u8], out: &mut [u32], bytes: &mut [u8]) -> LowerCtx
+fn lower_top(words: &[u32], text: &[u8], level: u32, out: &mut [u32], bytes: &mut [u8]) -> LowerCtx
     requires { ⌜ verdict (now words) (now text) ≡ accepted ⌝ }
-    ensures { λ c. ⌜ Represents atStart c (now (out .exit)) (now (bytes .exit)) (meaning (now (words .entry)) (now (text .entry))) ⌝ }
+    ensures { λ c. ⌜ Represents atStart c (now (out .exit)) (now (bytes .exit)) (meaning level (now (words .entry))
+        (now (text .entry))) ⌝ }
 {
     let ctx = start(out, bytes);
     let first = child_at(words, 0);
@@ -71,5 +89,5 @@ fn lower_top(words: &[u32], text: &[u8], out: &mut [u32], bytes: &mut [u8]) -> L
         start: 0,
         size: 0,
     };
-    lower_items(words, text, first, top, MOST_LINKS, out, bytes, ctx)
+    lower_items(words, text, first, top, MOST_LINKS, out, bytes, ctx, level)
 }

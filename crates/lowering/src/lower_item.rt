@@ -39,17 +39,18 @@ pub fn lower_items(
     out: &mut [u32],
     bytes: &mut [u8],
     ctx: LowerCtx,
+    level: u32,
 ) -> LowerCtx
     requires { ⌜ Linked (now words) ⌝ }
     requires { ⌜ ChainIn (now words) (now text) first nesting ⌝ }
     requires { ⌜ goodNamesIn (chainAt (now words) (now text) first) ≡ true ⌝ }
     ensures { λ d. ⌜ LowersAt parent ctx d (now (out .entry)) (now (bytes .entry)) (now (out .exit)) (now (bytes .exit))
-        (λ p s. lowerItems (chainAt (now (words .entry)) (now (text .entry)) first) p s) ⌝ }
+        (λ p s. lowerItems level (chainAt (now (words .entry)) (now (text .entry)) first) p s) ⌝ }
 {
     let mut state = ctx;
     let mut r = first;
     while r != 0 {
-        state = lower_item(words, text, r, parent, nesting, out, bytes, state);
+        state = lower_item(words, text, r, parent, nesting, out, bytes, state, level);
         r = next_at(words, r);
     }
     state
@@ -65,19 +66,20 @@ fn lower_item(
     out: &mut [u32],
     bytes: &mut [u8],
     ctx: LowerCtx,
+    level: u32,
 ) -> LowerCtx
     requires { ⌜ Linked (now words) ⌝ }
     requires { ⌜ RecordIn (now words) (now text) r nesting ⌝ }
     requires { ⌜ goodNames (recordAt (now words) (now text) r) ≡ true ⌝ }
     ensures { λ d. ⌜ LowersAt parent ctx d (now (out .entry)) (now (bytes .entry)) (now (out .exit)) (now (bytes .exit))
-        (λ p s. lowerItem (recordAt (now (words .entry)) (now (text .entry)) r) p s) ⌝ }
+        (λ p s. lowerItem level (recordAt (now (words .entry)) (now (text .entry)) r) p s) ⌝ }
 {
     let kind = kind_at(words, r);
     if kind == NODE {
-        return lower_dt_node(words, text, r, parent, nesting, out, bytes, ctx);
+        return lower_dt_node(words, text, r, parent, nesting, out, bytes, ctx, level);
     }
     if kind == PROPERTY {
-        return lower_dt_property(words, text, r, parent, nesting, out, bytes, ctx);
+        return lower_dt_property(words, text, r, parent, nesting, out, bytes, ctx, level);
     }
     if kind == DIRECTIVE {
         return handle_dts_directive(words, text, r, parent, out, bytes, ctx);
@@ -98,13 +100,14 @@ fn lower_dt_node(
     out: &mut [u32],
     bytes: &mut [u8],
     ctx: LowerCtx,
+    level: u32,
 ) -> LowerCtx
     requires { ⌜ Linked (now words) ⌝ }
     requires { ⌜ RecordIn (now words) (now text) r nesting ⌝ }
     requires { ⌜ goodNames (recordAt (now words) (now text) r) ≡ true ⌝ }
     ensures { λ d. ⌜ LowersAt parent ctx d (now (out .entry)) (now (bytes .entry)) (now (out .exit)) (now (bytes .exit))
         (λ p s. lowerNode p (partsAt (now (words .entry)) (now (text .entry)) r) (spanAt (now (words .entry)) r)
-        (λ (q : List ℕ) (u : State). lowerItems (contentsAt (now (words .entry)) (now (text .entry)) r) q u) s) ⌝ }
+        (λ (q : List ℕ) (u : State). lowerItems level (contentsAt (now (words .entry)) (now (text .entry)) r) q u) s) ⌝ }
 {
     if ctx.short {
         return ctx;
@@ -115,14 +118,24 @@ fn lower_dt_node(
     match node {
         NodePlace::At(place) => {
             let first = second_at(words, r);
-            lower_items(words, text, first, place, nesting - 1, out, bytes, made)
+            lower_items(
+                words,
+                text,
+                first,
+                place,
+                nesting - 1,
+                out,
+                bytes,
+                made,
+                level,
+            )
         }
         NodePlace::Aside(phandle, kind, keeps) => {
-            let body = lower_apart(words, text, r, keeps, nesting - 1, out, bytes, made);
+            let body = lower_apart(words, text, r, keeps, nesting - 1, out, bytes, made, level);
             settle_aside(words, text, r, phandle, kind, keeps, out, bytes, body, made)
         }
         NodePlace::Discarded => {
-            let body = lower_apart(words, text, r, false, nesting - 1, out, bytes, made);
+            let body = lower_apart(words, text, r, false, nesting - 1, out, bytes, made, level);
             body.leave_dropped(out, bytes, made)
         }
         NodePlace::Nowhere => made,
@@ -139,12 +152,13 @@ fn lower_apart(
     out: &mut [u32],
     bytes: &mut [u8],
     ctx: LowerCtx,
+    level: u32,
 ) -> LowerCtx
     requires { ⌜ Linked (now words) ⌝ }
     requires { ⌜ ChainIn (now words) (now text) (secondAt (now words) r) nesting ⌝ }
     requires { ⌜ goodNamesIn (contentsAt (now words) (now text) r) ≡ true ⌝ }
     ensures { λ d. ⌜ LowersApart ctx d keeps (now (out .entry)) (now (bytes .entry)) (now (out .exit)) (now (bytes .exit))
-        (λ (q : List ℕ) (u : State). lowerItems (contentsAt (now (words .entry)) (now (text .entry)) r) q u) ⌝ }
+        (λ (q : List ℕ) (u : State). lowerItems level (contentsAt (now (words .entry)) (now (text .entry)) r) q u) ⌝ }
 {
     let inner = ctx.enter(keeps);
     let first = second_at(words, r);
@@ -153,5 +167,5 @@ fn lower_apart(
         start: 0,
         size: 0,
     };
-    lower_items(words, text, first, root, nesting, out, bytes, inner)
+    lower_items(words, text, first, root, nesting, out, bytes, inner, level)
 }

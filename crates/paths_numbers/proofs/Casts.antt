@@ -44,10 +44,10 @@ below-zero (negsuc n) t = tt
 -- bits k that are read as z
 module _ (k : ℕ) (z : ℤ) (e : toZ w64 k ≡ z) (f : SFits w64 z) where
   -- -1 minus z fits, and is read as it is
-  minus-fits : SFits w64 (negsuc 0 -ℤ toZ w64 k)
+  pub minus-fits : SFits w64 (negsuc 0 -ℤ toZ w64 k)
   minus-fits = rw (e, minus-one) (flip-fits z f)
 
-  minus-is : toZ w64 (ofZ w64 (negsuc 0 -ℤ toZ w64 k)) ≡ flip z
+  pub minus-is : toZ w64 (ofZ w64 (negsuc 0 -ℤ toZ w64 k)) ≡ flip z
   minus-is = toZ-ofZ w64 _ minus-fits ∙ rw e (minus-one z)
 
   -- where z is not below 0, an unsigned type holds it as it is

@@ -42,7 +42,7 @@ pub width-none : (n : ℕ) → (n ≡ 8 → ⊥) → (n ≡ 16 → ⊥) → (n �
 width-none n a b c d = simp (ne-eqb _ _ a, ne-eqb _ _ b, ne-eqb _ _ c, ne-eqb _ _ d)
 
 -- a width's numbers are twice those of one bit less
-half : (bits : ℕ) → 1 ≤ bits → 2 ^ bits ≡ 2 ^ (bits - 1) + 2 ^ (bits - 1)
+pub half : (bits : ℕ) → 1 ≤ bits → 2 ^ bits ≡ 2 ^ (bits - 1) + 2 ^ (bits - 1)
 half bits h =
     let e : bits ≡ suc (bits - 1) = omega arith in
     ap (λ (k : ℕ). 2 ^ k) e ∙ two-pow-succ (bits - 1)

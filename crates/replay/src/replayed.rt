@@ -6,6 +6,7 @@ use crate::recorded::after_text;
 use crate::recorded::read_numbers;
 use crate::recorded::text_at;
 use crate::tally::Tally;
+use levels::level::SIGNED;
 use log::answer::Answer;
 use log::answer::REFUSED_ROOM;
 use log::layout::RECORD_WORDS;
@@ -254,7 +255,7 @@ fn lowered(sample: &[u8], answer: Answer, out: &[u32], bytes: &[u8], t: Tally) -
 
 // Lowers an input.
 fn lower_case(words: &[u32], text: &[u8], out: &mut [u32], bytes: &mut [u8]) -> Answer {
-    lower(words, text, out, bytes)
+    lower(words, text, SIGNED, out, bytes)
 }
 
 // Whether all words are zero.

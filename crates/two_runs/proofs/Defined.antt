@@ -64,10 +64,10 @@ module _ (s : State) (h : Defined s) where
   still-placed discarded parts span body k = still-dropped (body root (apart s))
   still-placed nowhere parts span body k = h
 
-  still-named : (parent : List ℕ) (parts values : Trees) (span : Span) (o : Option (List ℕ))
-      → Defined (namedProperty parent parts values span o s)
-  still-named parent parts values span (some name) = still-define _
-  still-named parent parts values span none = h
+  still-named : (level : ℕ) (parent : List ℕ) (parts values : Trees) (span : Span) (o : Option (List ℕ))
+      → Defined (namedProperty level parent parts values span o s)
+  still-named level parent parts values span (some name) = still-define _
+  still-named level parent parts values span none = h
 
   still-resolved : (r : Tree) (span : Span) (o : Resolution) → Defined (deleteResolved r span o s)
   still-resolved r span (reaches p) = still-delete p span
@@ -103,15 +103,15 @@ module _ (s : State) (h : Defined s) where
       (cond-in Is (eqb w 5) (still-deleted-property s h parent span (firstOf nameKind parts))
       h))))
 
-  still-as : (k w : ℕ) (span : Span) (parts second : Trees) (body : List ℕ → State → State)
+  still-as : (level k w : ℕ) (span : Span) (parts second : Trees) (body : List ℕ → State → State)
       → ((p : List ℕ) (t : State) → Defined t → Defined (body p t)) → (parent : List ℕ)
-      → Defined (lowerAs k w span parts second body parent s)
+      → Defined (lowerAs level k w span parts second body parent s)
   unfolding lowerNode lowerProperty
-  still-as k w span parts second body b parent =
+  still-as level k w span parts second body b parent =
       cond-in Is (eqb k nodeKind) (still-placed _ (still-emit s h (placeOf parent parts span s .reports))
       (placeOf parent parts span s .place) parts span body b)
       (cond-in Is (eqb k propertyKind) (cond-in Is (isEmpty parent) (still-emit s h _)
-      (still-named _ (still-emit s h _) parent parts second span (fullName parts .result)))
+      (still-named _ (still-emit s h _) level parent parts second span (fullName parts .result)))
       (cond-in Is (eqb k directiveKind) (still-directive w parent parts span)
       (cond-in Is (eqb k preprocessorKind) (still-emit s h _)
       h)))
@@ -119,13 +119,13 @@ module _ (s : State) (h : Defined s) where
 mutual
   unfolding lowerItem lowerItems
 
-  pub still : (i : Tree) (parent : List ℕ) (s : State) → Defined s → Defined (lowerItem i parent s)
-  still (tree k text w span parts second) parent s h =
-      still-as s h k w span parts second (λ p u. lowerItems second p u) (λ p t d. stills second p t d) parent
+  pub still : (level : ℕ) (i : Tree) (parent : List ℕ) (s : State) → Defined s → Defined (lowerItem level i parent s)
+  still level (tree k text w span parts second) parent s h =
+      still-as s h level k w span parts second (λ p u. lowerItems level second p u) (λ p t d. stills level second p t d) parent
 
-  stills : (is : Trees) (parent : List ℕ) (s : State) → Defined s → Defined (lowerItems is parent s)
-  stills empty parent s h = h
-  stills (more i is) parent s h = stills is parent _ (still i parent s h)
+  stills : (level : ℕ) (is : Trees) (parent : List ℕ) (s : State) → Defined s → Defined (lowerItems level is parent s)
+  stills level empty parent s h = h
+  stills level (more i is) parent s h = stills level is parent _ (still level i parent s h)
 
 -- a node's definition is one
 pub opened-defined : (p : List ℕ) (parts : Trees) (span : Span) (s : State) → Defined (opened p parts span s)

@@ -61,12 +61,12 @@ module _ (new : List ℕ) (s : State) (free : any (λ (b : Binding). atOrUnder (
       (h (join parent (n .0)) (join-filled parent (n .0)) u _ (grown-opened (grown-emit g (fullName parts .reports)) (join parent (n .0)) u
       parts span))
 
-  grow-property : (parts values : Trees) (span : Span) → goodNamesIn parts ≡ true → Grown new s (lowerProperty parent parts values span t)
+  grow-property : (level : ℕ) (parts values : Trees) (span : Span) → goodNamesIn parts ≡ true → Grown new s (lowerProperty level parent parts values span t)
   unfolding lowerProperty
-  grow-property parts values span good = rw inBody (go (fullName parts .result) refl)
+  grow-property level parts values span good = rw inBody (go (fullName parts .result) refl)
     where
       go : (o : Option (List ℕ)) → fullName parts .result ≡ o → Grown new s
-          (namedProperty parent parts values span o (emit (lowerValues values .reports ++ fullName parts .reports) t))
+          (namedProperty level parent parts values span o (emit (lowerValues level values .reports ++ fullName parts .reports) t))
       go (some name) e = grown-define (grown-emit g _) _ (full-under new parent parts name good e under) refl refl
       go none e = grown-emit g _
 
@@ -104,13 +104,13 @@ module _ (new : List ℕ) (s : State) (free : any (λ (b : Binding). atOrUnder (
 
 -- an item of the subnode's body, and a chain of them
 module _ (new : List ℕ) (s : State) (free : any (λ (b : Binding). atOrUnder (b .path) new) (s .binds) ≡ false) where
-  grow-as : (k w : ℕ) (span : Span) (text : List ℕ) (parts second : Trees) (body : List ℕ → State → State)
+  grow-as : (level k w : ℕ) (span : Span) (text : List ℕ) (parts second : Trees) (body : List ℕ → State → State)
       → goodNames (tree k text w span parts second) ≡ true → quiet (tree k text w span parts second) ≡ true
       → (eqb k nodeKind ≡ true → quietIn second ≡ true → Grows new s body)
       → (parent : List ℕ) → isEmpty parent ≡ false → atOrUnder parent new ≡ true → (t : State) → Grown new s t
-      → Grown new s (lowerAs k w span parts second body parent t)
+      → Grown new s (lowerAs level k w span parts second body parent t)
   unfolding quiet
-  grow-as k w span text parts second body good q h parent inBody under t g =
+  grow-as level k w span text parts second body good q h parent inBody under t g =
       let gp = good-parts k text w span parts second good in
       by-test (eqb k nodeKind)
       (λ e.
@@ -118,7 +118,7 @@ module _ (new : List ℕ) (s : State) (free : any (λ (b : Binding). atOrUnder (
       rw e (grow-node new s free parent inBody under t g body (h e (b .1)) parts span gp (b .0)))
       (λ e.
       rw e
-      (cond-in (λ (x : State). Grown new s x) (eqb k propertyKind) (grow-property new s free parent inBody under t g parts second span gp)
+      (cond-in (λ (x : State). Grown new s x) (eqb k propertyKind) (grow-property new s free parent inBody under t g level parts second span gp)
       (by-test (eqb k directiveKind)
       (λ f. rw f (grow-directive new s free parent inBody under t g w parts span gp (rw (e, f) at q)))
       (λ f. rw f (cond-in (λ (x : State). Grown new s x) (eqb k preprocessorKind) (grown-emit g _) g)))))
@@ -126,42 +126,42 @@ module _ (new : List ℕ) (s : State) (free : any (λ (b : Binding). atOrUnder (
 mutual
   unfolding lowerItem lowerItems goodNamesIn quietIn
 
-  grow : (i : Tree) (new : List ℕ) (s : State) → any (λ (b : Binding). atOrUnder (b .path) new) (s .binds) ≡ false → goodNames i ≡ true
+  grow : (level : ℕ) (i : Tree) (new : List ℕ) (s : State) → any (λ (b : Binding). atOrUnder (b .path) new) (s .binds) ≡ false → goodNames i ≡ true
       → quiet i ≡ true
       → (parent : List ℕ) → isEmpty parent ≡ false → atOrUnder parent new ≡ true → (t : State) → Grown new s t
-      → Grown new s (lowerItem i parent t)
-  grow (tree k text w span parts second) new s free good q parent inBody under t g =
-      grow-as new s free k w span text parts second (λ p u. lowerItems second p u) good q
-      (λ e qs p f u x y. grows second new s free (good-second k text w span parts second good) qs p f u x y)
+      → Grown new s (lowerItem level i parent t)
+  grow level (tree k text w span parts second) new s free good q parent inBody under t g =
+      grow-as new s free level k w span text parts second (λ p u. lowerItems level second p u) good q
+      (λ e qs p f u x y. grows level second new s free (good-second k text w span parts second good) qs p f u x y)
       parent inBody under t g
 
-  grows : (is : Trees) (new : List ℕ) (s : State) → any (λ (b : Binding). atOrUnder (b .path) new) (s .binds) ≡ false
+  grows : (level : ℕ) (is : Trees) (new : List ℕ) (s : State) → any (λ (b : Binding). atOrUnder (b .path) new) (s .binds) ≡ false
       → goodNamesIn is ≡ true → quietIn is ≡ true
       → (parent : List ℕ) → isEmpty parent ≡ false → atOrUnder parent new ≡ true → (t : State) → Grown new s t
-      → Grown new s (lowerItems is parent t)
-  grows empty new s free good q parent inBody under t g = g
-  grows (more i is) new s free good q parent inBody under t g =
+      → Grown new s (lowerItems level is parent t)
+  grows level empty new s free good q parent inBody under t g = g
+  grows level (more i is) new s free good q parent inBody under t g =
       let a = both (goodNames i) (goodNamesIn is) good in
       let b = both (quiet i) (quietIn is) q in
-      grows is new s free (a .1) (b .1) parent inBody under _ (grow i new s free (a .0) (b .0) parent inBody under t g)
+      grows level is new s free (a .1) (b .1) parent inBody under _ (grow level i new s free (a .0) (b .0) parent inBody under t g)
 
 -- the deletion of the new path, by name
-deletion-is : (d : Tree) (new parent : List ℕ) → kindOf d ≡ directiveKind → wOf d ≡ 4 → Names parent d new → (t : State)
-    → lowerItem d parent t ≡ deleteNode new (spanOf d) (emit (fullName (childrenOf d) .reports) t)
+deletion-is : (level : ℕ) (d : Tree) (new parent : List ℕ) → kindOf d ≡ directiveKind → wOf d ≡ 4 → Names parent d new → (t : State)
+    → lowerItem level d parent t ≡ deleteNode new (spanOf d) (emit (fullName (childrenOf d) .reports) t)
 unfolding lowerItem lowerDirective lowerDeleteNode
-deletion-is (tree k text w span parts second) new parent e f m t = rw (e, f, m .named, m .path) refl
+deletion-is level (tree k text w span parts second) new parent e f m t = rw (e, f, m .named, m .path) refl
 
 -- the subnode grows the state
-subnode-grows : (n : Tree) (new parent : List ℕ) (s : State) → kindOf n ≡ nodeKind → Names parent n new → isEmpty parent ≡ false
+subnode-grows : (level : ℕ) (n : Tree) (new parent : List ℕ) (s : State) → kindOf n ≡ nodeKind → Names parent n new → isEmpty parent ≡ false
     → goodNames n ≡ true → quiet n ≡ true → any (λ (b : Binding). atOrUnder (b .path) new) (s .binds) ≡ false
-    → Grown new s (lowerItem n parent s)
+    → Grown new s (lowerItem level n parent s)
 unfolding lowerItem quiet
-subnode-grows (tree k text w span parts second) new parent s e m inBody good q free =
+subnode-grows level (tree k text w span parts second) new parent s e m inBody good q free =
     let b = both (plainName parts) (quietIn second) (rw (eq-eqb k nodeKind e) at q) in
     let gp = good-parts k text w span parts second good in
     let filled : isEmpty new ≡ false = rw (m .path) at (join-filled parent (m .name)) in
-    rw (eq-eqb k nodeKind e, node-is parent parts span s inBody gp (b .0) (λ p u. lowerItems second p u) (m .name) (m .named), m .path)
-    (grows second new s free (good-second k text w span parts second good) (b .1) new filled (under-refl new) _
+    rw (eq-eqb k nodeKind e, node-is parent parts span s inBody gp (b .0) (λ p u. lowerItems level second p u) (m .name) (m .named), m .path)
+    (grows level second new s free (good-second k text w span parts second good) (b .1) new filled (under-refl new) _
     (grown-opened (grown-emit (grown-none new s) (fullName parts .reports)) new (under-refl new) parts span))
 
 -- the two together leave a gap
@@ -182,12 +182,12 @@ pair-gap {new} {s} {t} g dead defined span =
       defined = defined;
     }
 
-pub pair-sim : {new parent : List ℕ} {s : State} {n d : Tree} → Pair new parent s n d → goodNames n ≡ true
-    → any (λ (x : Def). not (isDirective (x .value))) (s .defs) ≡ true → Sim new true s (lowerItem d parent (lowerItem n parent s))
+pub pair-sim : {level : ℕ} {new parent : List ℕ} {s : State} {n d : Tree} → Pair level new parent s n d → goodNames n ≡ true
+    → any (λ (x : Def). not (isDirective (x .value))) (s .defs) ≡ true → Sim new true s (lowerItem level d parent (lowerItem level n parent s))
 unfolding deleteNode define unbind emit
-pair-sim {new} {parent} {s} {n} {d} p good defined =
-    let g = subnode-grows n new parent s (p .subnode) (p .newPath) (p .inBody) good (p .quietNode) (p .nothingBound) in
-    let e = deletion-is d new parent (p .deletion) (p .deletesNode) (p .samePath) (lowerItem n parent s) in
+pair-sim {level} {new} {parent} {s} {n} {d} p good defined =
+    let g = subnode-grows level n new parent s (p .subnode) (p .newPath) (p .inBody) good (p .quietNode) (p .nothingBound) in
+    let e = deletion-is level d new parent (p .deletion) (p .deletesNode) (p .samePath) (lowerItem level n parent s) in
     record {
       logs = rw e (gap (pair-gap g (p .nothingLive) defined (spanOf d)));
       exts = rw e (sym (g .exts));

@@ -8,6 +8,7 @@ use native.Mathlib.Omega.{arith}
 use borrow.Author.Tests.{leb-false}
 use lib.Dec.{leb}
 use lib.ListN.{getD}
+use Rattle.levels.specs.meaning.Rules.{unsignedLevel, isLevel}
 use Rattle.paths_numbers.specs.meaning.Text.{same, isEmpty, startsWith}
 use Rattle.paths_numbers.specs.meaning.Path.{goodPath, components}
 use Rattle.paths_numbers.specs.meaning.Lists.{any}
@@ -45,15 +46,15 @@ unfolding writtenTest allOf allBelow restTest reachedTest keptTest zeroOrNamed s
 tested = (refl, refl)
 
 -- it says what the definitions make of the descriptions
-logs : (logOf (lowered (rootWith empty)) ≡ readLog (runA .out) (runA .bytes))
-    × (logOf (lowered (rootWith theTwo)) ≡ readLog (runB .out) (runB .bytes))
+logs : (logOf (lowered unsignedLevel (rootWith empty)) ≡ readLog (runA .out) (runA .bytes))
+    × (logOf (lowered unsignedLevel (rootWith theTwo)) ≡ readLog (runB .out) (runB .bytes))
 unfolding computedState logOf postChecks checkDirectives directivesFrom checkReferences checkDefs duplicateLabels readLog readDefs readExts
     readBindings readDiags defAt defValueAt readLabels diagAt chainOf chainFrom logCount outField
 logs = (refl, refl)
 
 -- and row 7's counts are these
-counts : (recordsMade (lowered (rootWith empty)) ≡ 3) × (bytesMade (lowered (rootWith empty)) ≡ 1)
-    × (recordsMade (lowered (rootWith theTwo)) ≡ 5) × (bytesMade (lowered (rootWith theTwo)) ≡ 5)
+counts : (recordsMade (lowered unsignedLevel (rootWith empty)) ≡ 3) × (bytesMade (lowered unsignedLevel (rootWith empty)) ≡ 1)
+    × (recordsMade (lowered unsignedLevel (rootWith theTwo)) ≡ 5) × (bytesMade (lowered unsignedLevel (rootWith theTwo)) ≡ 5)
 unfolding computedState recordsMade bytesMade postChecks checkDirectives directivesFrom checkReferences checkDefs duplicateLabels diagsBytes
     textsBytes bindingsBytes
 counts = (refl, refl, refl, refl)
@@ -67,22 +68,22 @@ all-below (x ∷ w) e (suc i) = by-test (leb (2 ^ 32) x) (λ t. absurd (not-both
 
 -- so both are accepted runs
 pub run-a : AcceptedRun runA
-unfolding fitsIn any outField
+unfolding fitsIn any outField isLevel
 run-a =
     record {
       lowered =
-          done accepted-a (rw (read-a, counts .0, counts .1) refl) refl refl refl
+          done refl accepted-a (rw (read-a, counts .0, counts .1) refl) refl refl refl
           (rw (read-a, counts .0, counts .1, logs .0) (written-by-test (runA .out) (runA .bytes) (kept .0) (tested .0)));
       words32 = record { below = all-below (runA .out) refl };
       accepted = refl;
     }
 
 pub run-b : AcceptedRun runB
-unfolding fitsIn any outField
+unfolding fitsIn any outField isLevel
 run-b =
     record {
       lowered =
-          done accepted-b (rw (read-b, counts .2, counts .3) refl) refl refl refl
+          done refl accepted-b (rw (read-b, counts .2, counts .3) refl) refl refl refl
           (rw (read-b, counts .2, counts .3, logs .1)
           (written-by-test (runB .out) (runB .bytes) (kept .1) (tested .1)));
       words32 = record { below = all-below (runB .out) refl };
@@ -90,10 +91,10 @@ run-b =
     }
 
 -- run B's description is run A's with the two put in
-pub put-in : Inserted newPath [] start (description (runA .words) (runA .text)) (description (runB .words) (runB .text))
+pub put-in : Inserted unsignedLevel newPath [] start (description (runA .words) (runA .text)) (description (runB .words) (runB .text))
 put-in = rw (read-a, read-b) root-inserted
 
 -- and the theorem applies
 pub runs-met : AlikeRuns newPath runA runB
 unfolding WholeRuns
-runs-met = whole-runs newPath runA runB run-a run-b put-in
+runs-met = whole-runs newPath runA runB run-a run-b refl put-in

@@ -202,10 +202,10 @@ module _ {new : List ℕ} {t : Bool} {a b : State} (s : Sim new t a b) where
   sim-delete-property parent span none = s
 
   -- a property
-  sim-named : (parent : List ℕ) (parts values : Trees) (span : Span) (o : Option (List ℕ))
-      → Sim new t (namedProperty parent parts values span o a) (namedProperty parent parts values span o b)
-  sim-named parent parts values span (some name) = sim-define s _
-  sim-named parent parts values span none = s
+  sim-named : (level : ℕ) (parent : List ℕ) (parts values : Trees) (span : Span) (o : Option (List ℕ))
+      → Sim new t (namedProperty level parent parts values span o a) (namedProperty level parent parts values span o b)
+  sim-named level parent parts values span (some name) = sim-define s _
+  sim-named level parent parts values span none = s
 
 module _ {new : List ℕ} {t : Bool} {a b : State} (s : Sim new t a b) where
   pub sim-node : (body : List ℕ → State → State) → Keeps new body → (parent : List ℕ) (parts : Trees) (span : Span)
@@ -215,12 +215,12 @@ module _ {new : List ℕ} {t : Bool} {a b : State} (s : Sim new t a b) where
       rw (same-place s parent parts span)
       (sim-placed (sim-emit s (placeOf parent parts span b .reports)) body k (placeOf parent parts span b .place) parts span)
 
-  sim-property : (parent : List ℕ) (parts values : Trees) (span : Span)
-      → Sim new t (lowerProperty parent parts values span a) (lowerProperty parent parts values span b)
+  sim-property : (level : ℕ) (parent : List ℕ) (parts values : Trees) (span : Span)
+      → Sim new t (lowerProperty level parent parts values span a) (lowerProperty level parent parts values span b)
   unfolding lowerProperty
-  sim-property parent parts values span =
+  sim-property level parent parts values span =
       sim-cond (isEmpty parent) (sim-emit s (report 7 [] span ∷ []))
-      (sim-named (sim-emit s (lowerValues values .reports ++ fullName parts .reports)) parent parts values span (fullName parts .result))
+      (sim-named (sim-emit s (lowerValues level values .reports ++ fullName parts .reports)) level parent parts values span (fullName parts .result))
 
   sim-directive : (w : ℕ) (parent : List ℕ) (parts : Trees) (span : Span)
       → Sim new t (lowerDirective w parent parts span a) (lowerDirective w parent parts span b)
@@ -233,11 +233,11 @@ module _ {new : List ℕ} {t : Bool} {a b : State} (s : Sim new t a b) where
       (sim-cond (eqb w 5) (sim-delete-property s parent span (firstOf nameKind parts))
       s))))
 
-  sim-as : (k w : ℕ) (span : Span) (parts second : Trees) (body : List ℕ → State → State) → Keeps new body → (parent : List ℕ)
-      → Sim new t (lowerAs k w span parts second body parent a) (lowerAs k w span parts second body parent b)
-  sim-as k w span parts second body h parent =
+  sim-as : (level k w : ℕ) (span : Span) (parts second : Trees) (body : List ℕ → State → State) → Keeps new body → (parent : List ℕ)
+      → Sim new t (lowerAs level k w span parts second body parent a) (lowerAs level k w span parts second body parent b)
+  sim-as level k w span parts second body h parent =
       sim-cond (eqb k nodeKind) (sim-node body h parent parts span)
-      (sim-cond (eqb k propertyKind) (sim-property parent parts second span)
+      (sim-cond (eqb k propertyKind) (sim-property level parent parts second span)
       (sim-cond (eqb k directiveKind) (sim-directive w parent parts span)
       (sim-cond (eqb k preprocessorKind) (sim-emit s (report 1 [] span ∷ []))
       s)))
@@ -246,12 +246,12 @@ module _ {new : List ℕ} {t : Bool} {a b : State} (s : Sim new t a b) where
 mutual
   unfolding lowerItem lowerItems
 
-  pub keep : (i : Tree) (new parent : List ℕ) (t : Bool) (a b : State) → Sim new t a b
-      → Sim new t (lowerItem i parent a) (lowerItem i parent b)
-  keep (tree k text w span parts second) new parent t a b s =
-      sim-as s k w span parts second (λ p u. lowerItems second p u) (λ p t' x y r. keeps second new p t' x y r) parent
+  pub keep : (level : ℕ) (i : Tree) (new parent : List ℕ) (t : Bool) (a b : State) → Sim new t a b
+      → Sim new t (lowerItem level i parent a) (lowerItem level i parent b)
+  keep level (tree k text w span parts second) new parent t a b s =
+      sim-as s level k w span parts second (λ p u. lowerItems level second p u) (λ p t' x y r. keeps level second new p t' x y r) parent
 
-  pub keeps : (is : Trees) (new parent : List ℕ) (t : Bool) (a b : State) → Sim new t a b
-      → Sim new t (lowerItems is parent a) (lowerItems is parent b)
-  keeps empty new parent t a b s = s
-  keeps (more i is) new parent t a b s = keeps is new parent t _ _ (keep i new parent t a b s)
+  pub keeps : (level : ℕ) (is : Trees) (new parent : List ℕ) (t : Bool) (a b : State) → Sim new t a b
+      → Sim new t (lowerItems level is parent a) (lowerItems level is parent b)
+  keeps level empty new parent t a b s = s
+  keeps level (more i is) new parent t a b s = keeps level is new parent t _ _ (keep level i new parent t a b s)

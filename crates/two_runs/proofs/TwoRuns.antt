@@ -27,43 +27,43 @@ use Rattle.two_runs.proofs.Pair.{pair-sim}
 use Rattle.two_runs.proofs.Defined.{Defined, still, opened-defined, directives-same}
 
 -- a node that is placed at a path, as a whole
-node-at : (parent : List ℕ) (s : State) (text : List ℕ) (w : ℕ) (span : Span) (parts body : Trees) (p : List ℕ)
+node-at : (level : ℕ) (parent : List ℕ) (s : State) (text : List ℕ) (w : ℕ) (span : Span) (parts body : Trees) (p : List ℕ)
     → placeOf parent parts span s .place ≡ at p
-    → lowerItem (tree nodeKind text w span parts body) parent s ≡ lowerItems body p
+    → lowerItem level (tree nodeKind text w span parts body) parent s ≡ lowerItems level body p
     (opened p parts span (emit (placeOf parent parts span s .reports) s))
 unfolding lowerItem lowerNode
-node-at parent s text w span parts body p e = rw e refl
+node-at level parent s text w span parts body p e = rw e refl
 
 -- a node whose body is not lowered, whatever the body
-node-nowhere : (parent : List ℕ) (s : State) (text : List ℕ) (w : ℕ) (span : Span) (parts body : Trees)
+node-nowhere : (level : ℕ) (parent : List ℕ) (s : State) (text : List ℕ) (w : ℕ) (span : Span) (parts body : Trees)
     → placeOf parent parts span s .place ≡ nowhere
-    → lowerItem (tree nodeKind text w span parts body) parent s ≡ emit (placeOf parent parts span s .reports) s
+    → lowerItem level (tree nodeKind text w span parts body) parent s ≡ emit (placeOf parent parts span s .reports) s
 unfolding lowerItem lowerNode
-node-nowhere parent s text w span parts body e = rw e refl
+node-nowhere level parent s text w span parts body e = rw e refl
 
 -- two runs that part by the gap of the log in hand, or by nothing
 abbrev Part : List ℕ → State → State → Type 0
 Part new a b = (t : Bool) × Sim new t a b
 
-part-keeps : (rest : Trees) (new parent : List ℕ) {a b : State} → Part new a b
-    → Part new (lowerItems rest parent a) (lowerItems rest parent b)
-part-keeps rest new parent (t, s) = (t, keeps rest new parent t _ _ s)
+part-keeps : (level : ℕ) (rest : Trees) (new parent : List ℕ) {a b : State} → Part new a b
+    → Part new (lowerItems level rest parent a) (lowerItems level rest parent b)
+part-keeps level rest new parent (t, s) = (t, keeps level rest new parent t _ _ s)
 
 -- where the two are put in, the runs part so
-sims : {new parent : List ℕ} {s : State} {a b : Trees} → Inserted new parent s a b → goodNamesIn b ≡ true
-    → (isEmpty parent ≡ false → Defined s) → Part new (lowerItems a parent s) (lowerItems b parent s)
+sims : {level : ℕ} {new parent : List ℕ} {s : State} {a b : Trees} → Inserted level new parent s a b → goodNamesIn b ≡ true
+    → (isEmpty parent ≡ false → Defined s) → Part new (lowerItems level a parent s) (lowerItems level b parent s)
 unfolding lowerItems goodNamesIn
-sims {new} {parent} {s} (here {n = n} {d} {rest} p) good h =
-    part-keeps rest new parent (true, pair-sim p (both (goodNames n) _ good .0) (h (p .inBody)))
-sims {new} {parent} {s} (after {t = t} i) good h = sims i (both (goodNames t) _ good .1) (λ e. still t parent s (h e))
-sims {new} {parent} {s} (within {text = text} {w} {span} {parts} {body} {body'} {rest} {p} e i) good h =
-    part-keeps rest new parent
-    (rw (node-at parent s text w span parts body p e, node-at parent s text w span parts body' p e)
+sims {level} {new} {parent} {s} (here {n = n} {d} {rest} p) good h =
+    part-keeps level rest new parent (true, pair-sim p (both (goodNames n) _ good .0) (h (p .inBody)))
+sims {level} {new} {parent} {s} (after {t = t} i) good h = sims i (both (goodNames t) _ good .1) (λ e. still level t parent s (h e))
+sims {level} {new} {parent} {s} (within {text = text} {w} {span} {parts} {body} {body'} {rest} {p} e i) good h =
+    part-keeps level rest new parent
+    (rw (node-at level parent s text w span parts body p e, node-at level parent s text w span parts body' p e)
     (sims i (good-second nodeKind text w span parts body' (both (goodNames (tree nodeKind text w span parts body')) _ good .0))
     (λ f. opened-defined p parts span (emit (placeOf parent parts span s .reports) s))))
-sims {new} {parent} {s} (unlowered {text = text} {w} {span} {parts} {body} {body'} {rest} e) good h =
-    part-keeps rest new parent
-    (rw (node-nowhere parent s text w span parts body e, node-nowhere parent s text w span parts body' e)
+sims {level} {new} {parent} {s} (unlowered {text = text} {w} {span} {parts} {body} {body'} {rest} e) good h =
+    part-keeps level rest new parent
+    (rw (node-nowhere level parent s text w span parts body e, node-nowhere level parent s text w span parts body' e)
     (false, sim-refl new (emit (placeOf parent parts span s .reports) s)))
 
 -- post checks of references
@@ -137,4 +137,4 @@ module _ {new : List ℕ} {t : Bool} {a b : State} (s : Sim new t a b) where
 
 pub two-runs : TwoRuns
 unfolding TwoRuns lowered isEmpty
-two-runs new a b good i = sim-alike (sims i good (λ e. absurd (not-both {t = true} refl e)) .1)
+two-runs level new a b good i = sim-alike (sims i good (λ e. absurd (not-both {t = true} refl e)) .1)

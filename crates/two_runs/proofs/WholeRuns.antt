@@ -25,7 +25,7 @@ use Rattle.making.specs.meaning.State.{start}
 use Rattle.items.specs.meaning.Lower.{lowered}
 use Rattle.input.specs.meaning.Input.{description}
 use Rattle.input.specs.meaning.Rows.{accepted, verdict}
-use Rattle.lowering.specs.meaning.Lowered.{logOf, recordsMade, bytesMade, meaning, Lowered, turnedDown, short, done}
+use Rattle.lowering.specs.meaning.Lowered.{logOf, recordsMade, bytesMade, meaning, Lowered, noLevel, turnedDown, short, done}
 use Rattle.two_runs.specs.meaning.TwoRuns.{Inserted, Alike, TwoRuns}
 use Rattle.two_runs.specs.meaning.WholeRuns.{Run, AcceptedRun, AlikeRuns, WholeRuns}
 use Rattle.input.proofs.Rows.{accepted-names}
@@ -35,16 +35,17 @@ use Rattle.two_runs.proofs.TwoRuns.{two-runs}
 -- an accepted run's input is accepted, and what its description lowers to is written
 record Wrote (r : Run) : Type 0 where
   verdictIs : verdict (r .words) (r .text) ≡ accepted
-  log : Written (r .out) (r .bytes) (recordsMade (meaning (r .words) (r .text))) (bytesMade (meaning (r .words) (r .text)))
-      (logOf (meaning (r .words) (r .text)))
+  log : Written (r .out) (r .bytes) (recordsMade (meaning (r .level) (r .words) (r .text))) (bytesMade (meaning (r .level) (r .words) (r .text)))
+      (logOf (meaning (r .level) (r .words) (r .text)))
 
 wrote : (r : Run) → AcceptedRun r → Wrote r
 wrote r a = go (a .lowered)
   where
-    go : Lowered (r .words) (r .text) (r .outBefore) (r .bytesBefore) (r .answer) (r .out) (r .bytes) → Wrote r
-    go (turnedDown v e o b) = absurd (refusal-number (r .words) (r .text) v (sym (ap (λ (x : Answered). x .number) e) ∙ a .accepted))
-    go (short v f e o b) = let q : _≡_ {A = ℕ} 7 0 = sym (ap (λ (x : Answered). x .number) e) ∙ a .accepted in absurd (omega arith)
-    go (done v f e o b w) = record { verdictIs = v; log = w }
+    go : Lowered (r .level) (r .words) (r .text) (r .outBefore) (r .bytesBefore) (r .answer) (r .out) (r .bytes) → Wrote r
+    go (noLevel n e o b) = let q : _≡_ {A = ℕ} 18 0 = sym (ap (λ (x : Answered). x .number) e) ∙ a .accepted in absurd (omega arith)
+    go (turnedDown n v e o b) = absurd (refusal-number (r .words) (r .text) v (sym (ap (λ (x : Answered). x .number) e) ∙ a .accepted))
+    go (short n v f e o b) = let q : _≡_ {A = ℕ} 7 0 = sym (ap (λ (x : Answered). x .number) e) ∙ a .accepted in absurd (omega arith)
+    go (done n v f e o b w) = record { verdictIs = v; log = w }
 
 -- the answers of the two queries stand in the main chain
 all-both : {w : List ℕ} {p : Place} {x y : List ℕ} → AllStand w p x → AllStand w p y → AllStand w p (x ++ y)
@@ -100,25 +101,25 @@ history-named def path (r ∷ l) defined =
     ) refl
 
 -- what both runs read back, for two runs of which the second has the two items more
-module _ (new : List ℕ) (a b : Run) (ra : AcceptedRun a) (rb : AcceptedRun b)
-    (i : Inserted new [] start (description (a .words) (a .text)) (description (b .words) (b .text))) where
+module _ (new : List ℕ) (a b : Run) (ra : AcceptedRun a) (rb : AcceptedRun b) (l : a .level ≡ b .level)
+    (i : Inserted (b .level) new [] start (description (a .words) (a .text)) (description (b .words) (b .text))) where
   wa : Wrote a
   wa = wrote a ra
 
   wb : Wrote b
   wb = wrote b rb
 
-  same-states : Alike new (meaning (a .words) (a .text)) (meaning (b .words) (b .text))
+  same-states : Alike new (meaning (a .level) (a .words) (a .text)) (meaning (b .level) (b .words) (b .text))
   unfolding TwoRuns
-  same-states = two-runs new (description (a .words) (a .text)) (description (b .words) (b .text))
-      (accepted-names (b .words) (b .text) (wb .verdictIs)) i
+  same-states = rw l (two-runs (b .level) new (description (a .words) (a .text)) (description (b .words) (b .text))
+      (accepted-names (b .words) (b .text) (wb .verdictIs)) i)
 
   -- the definitions of the main chain
-  reads-a : map (defAt (a .out) (a .bytes)) (chainOf (a .out) (firstDef (a .out))) ≡ meaning (a .words) (a .text) .defs
+  reads-a : map (defAt (a .out) (a .bytes)) (chainOf (a .out) (firstDef (a .out))) ≡ meaning (a .level) (a .words) (a .text) .defs
   unfolding readLog readDefs logOf
   reads-a = ap (λ (l : Log). l .defs) (wa .log .reads)
 
-  reads-b : map (defAt (b .out) (b .bytes)) (chainOf (b .out) (firstDef (b .out))) ≡ meaning (b .words) (b .text) .defs
+  reads-b : map (defAt (b .out) (b .bytes)) (chainOf (b .out) (firstDef (b .out))) ≡ meaning (b .level) (b .words) (b .text) .defs
   unfolding readLog readDefs logOf
   reads-b = ap (λ (l : Log). l .defs) (wb .log .reads)
 
@@ -212,4 +213,4 @@ module _ (new : List ℕ) (a b : Run) (ra : AcceptedRun a) (rb : AcceptedRun b)
 
 pub whole-runs : WholeRuns
 unfolding WholeRuns
-whole-runs new a b ra rb i = alike-runs new a b ra rb i
+whole-runs new a b ra rb l i = alike-runs new a b ra rb l i

@@ -32,7 +32,7 @@ fn read(answer: DlAnswer) -> (u32, u32) {
 
 fn library() -> Library {
     Library {
-        lower: |records, words, bytes| read(dl_lower(&records.words, &records.text, words, bytes)),
+        lower: |records, words, bytes| read(dl_lower(&records.words, &records.text, 1, words, bytes)),
         queries: Queries {
             live: |words, bytes, base, list| read(dl_iter_live_defs_under(words, bytes, base, list)),
             history: |words, bytes, path, list| read(dl_history(words, bytes, path, list)),

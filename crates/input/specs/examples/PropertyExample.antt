@@ -21,11 +21,11 @@ threeCells =
     more (tree 13 [] 0 (span 0 9) (more (tree 15 (49 ∷ []) 0 (span 1 2) empty empty)
     (more (tree 15 (122 ∷ []) 0 (span 3 4) empty empty) (more (tree 15 (50 ∷ []) 0 (span 5 6) empty empty) empty))) empty) empty
 
-pub neighbours-stay : lowerValues threeCells ≡ record {
+pub neighbours-stay : (level : ℕ) → lowerValues level threeCells ≡ record {
   made = cellList 32 (number 1 ∷ number 2 ∷ [])
       ∷ [];
   reports = report 17 [] (span 3 4) ∷ [];
 }
 unfolding lowerValues lowerValue lowerCells lowerCell sizeOf isEmpty unsignedNumber unsigned digits behindSign behindPrefix baseOf hasPrefix
     isPrefixLetter trimmed isSuffix digitOf
-neighbours-stay = refl
+neighbours-stay level = refl

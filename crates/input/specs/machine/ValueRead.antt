@@ -39,8 +39,8 @@ module _ (words text : List ℕ) (r : ℕ) where
   plainMade P.Bytestring = cond (isOdd (textAt words text r)) (nothing []) (one (bytestring (bytesOf (textAt words text r))))
   plainMade (P.Phandle k) = one (phandle (targetMade k (labelAt words text r) (pathAt words text r)))
 
-  -- a value at record r
-  abbrev pub valueMade : ValueRead → Made Value
-  valueMade (Read.Plain v) = plainMade v
-  valueMade (Read.CellList size) = sizedList (spanAt words r) (partsAt words text r) (R.value size)
-  valueMade (Read.Failed d) = nothing (reportsOf words text d)
+  -- a value at record r, at a level
+  abbrev pub valueMade : ℕ → ValueRead → Made Value
+  valueMade level (Read.Plain v) = plainMade v
+  valueMade level (Read.CellList size) = sizedList level (spanAt words r) (partsAt words text r) (R.value size)
+  valueMade level (Read.Failed d) = nothing (reportsOf words text d)

@@ -1,4 +1,5 @@
--- 01, "Nodes and items": lowering the items of a description (lower_item, lower_dt_node, handle_dts_directive, emit_delete_directive).
+-- 01, "Nodes and items": lowering the items of a description (lower_item, lower_dt_node, handle_dts_directive, emit_delete_directive), at the
+-- level of the description (02, request 10), which only the values of properties ask for.
 use Prim.Native.Nat.{ℕ}
 use mathlib.Core.Bool.{cond}
 use mathlib.Core.List.{List, [], _∷_, _++_}
@@ -104,23 +105,23 @@ lowerNode parent parts span body s =
     lowerPlaced (placeOf parent parts span s .place) parts span body (emit (placeOf parent parts span s .reports) s)
 
 -- a property: its values first, then its name; without a name it is dropped
-abbrev pub namedProperty : List ℕ → Trees → Trees → Span → Option (List ℕ) → State → State
-namedProperty parent parts values span (some name) s =
+abbrev pub namedProperty : ℕ → List ℕ → Trees → Trees → Span → Option (List ℕ) → State → State
+namedProperty level parent parts values span (some name) s =
     define
     (record {
       path = join parent name;
-      value = property (lowerValues values .made);
+      value = property (lowerValues level values .made);
       span = span;
       nameSpan = propertyNameSpan parts span;
     })
     s
-namedProperty parent parts values span none s = s
+namedProperty level parent parts values span none s = s
 
-unfoldable pub lowerProperty : List ℕ → Trees → Trees → Span → State → State
-lowerProperty parent parts values span s =
+unfoldable pub lowerProperty : ℕ → List ℕ → Trees → Trees → Span → State → State
+lowerProperty level parent parts values span s =
     cond (isEmpty parent) (emit (report propertyOutside [] span ∷ []) s)
-    (namedProperty parent parts values span (fullName parts .result)
-    (emit (lowerValues values .reports ++ fullName parts .reports) s))
+    (namedProperty level parent parts values span (fullName parts .result)
+    (emit (lowerValues level values .reports ++ fullName parts .reports) s))
 
 -- a definition that is a directive or a deletion: its name span is its span
 abbrev pub bare : List ℕ → DefValue → Span → Def
@@ -182,24 +183,24 @@ lowerDirective w parent parts span s =
     (cond (eqb w deletePropertyDirective) (deletePropertyNamed parent span (firstOf nameKind parts) s)
     s))))
 
--- an item of this kind, W, span, parts and second chain, with a way to lower the second chain as a body
-abbrev pub lowerAs : ℕ → ℕ → Span → Trees → Trees → (List ℕ → State → State) → List ℕ → State → State
-lowerAs k w span parts second body parent s =
+-- an item of this kind, W, span, parts and second chain at a level, with a way to lower the second chain as a body
+abbrev pub lowerAs : ℕ → ℕ → ℕ → Span → Trees → Trees → (List ℕ → State → State) → List ℕ → State → State
+lowerAs level k w span parts second body parent s =
     cond (eqb k nodeKind) (lowerNode parent parts span body s)
-    (cond (eqb k propertyKind) (lowerProperty parent parts second span s)
+    (cond (eqb k propertyKind) (lowerProperty level parent parts second span s)
     (cond (eqb k directiveKind) (lowerDirective w parent parts span s)
     (cond (eqb k preprocessorKind) (emit (report preprocessor [] span ∷ []) s)
     s)))
 
 unfoldable mutual
-  pub lowerItem : Tree → List ℕ → State → State
-  lowerItem (tree k text w span parts second) parent s =
-      lowerAs k w span parts second (λ p u. lowerItems second p u) parent s
+  pub lowerItem : ℕ → Tree → List ℕ → State → State
+  lowerItem level (tree k text w span parts second) parent s =
+      lowerAs level k w span parts second (λ p u. lowerItems level second p u) parent s
 
-  pub lowerItems : Trees → List ℕ → State → State
-  lowerItems empty parent s = s
-  lowerItems (more t ts) parent s = lowerItems ts parent (lowerItem t parent s)
+  pub lowerItems : ℕ → Trees → List ℕ → State → State
+  lowerItems level empty parent s = s
+  lowerItems level (more t ts) parent s = lowerItems level ts parent (lowerItem level t parent s)
 
 -- a whole description: its top items, parent path empty
-unfoldable pub lowered : Trees → State
-lowered items = lowerItems items [] start
+unfoldable pub lowered : ℕ → Trees → State
+lowered level items = lowerItems level items [] start

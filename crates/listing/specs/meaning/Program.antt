@@ -6,6 +6,7 @@ use mathlib.Core.Path.{_≡_}
 use mathlib.Core.List.{List, [], _∷_}
 use lib.Dec.{ltb}
 use lib.ListN.{length, getD, take, drop, replicate}
+use Rattle.levels.specs.meaning.Rules.{signedLevel}
 use Rattle.log.specs.meaning.ReadBack.{Log}
 use Rattle.input.specs.meaning.Rows.{Verdict, accepted, refused, verdict, mostRecords, mostText}
 use Rattle.lowering.specs.meaning.Lowered.{logOf, fitsIn, meaning}
@@ -59,15 +60,15 @@ outLength = 16384
 abbrev pub bytesLength : ℕ
 bytesLength = 65536
 
--- what is printed of words and a text: by rows 1 to 6, by row 7, and else the log
+-- what is printed of words and a text, "the listing program stays at 1": by rows 1 to 6, by row 7, and else the log
 abbrev pub listedBy : Verdict → Bool → Log → List ℕ
 listedBy (refused number returned) fits log = refusalLine number returned
 listedBy accepted fits log = cond fits (listing log) (refusalLine 7 0)
 
 unfoldable pub listed : List ℕ → List ℕ → List ℕ
 listed words text =
-    listedBy (verdict words text) (fitsIn (meaning words text) (replicate outLength 0) (replicate bytesLength 0))
-    (logOf (meaning words text))
+    listedBy (verdict words text) (fitsIn (meaning signedLevel words text) (replicate outLength 0) (replicate bytesLength 0))
+    (logOf (meaning signedLevel words text))
 
 -- "records cut short are cause 1"
 unfoldable pub printed : List ℕ → List ℕ

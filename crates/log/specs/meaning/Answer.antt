@@ -49,6 +49,10 @@ refusedPath = 9
 abbrev pub refusedList : ℕ
 refusedList = 10
 
+-- 02, request 10: "A level other than 1 and 2 is refused with 18"
+abbrev pub refusedLevel : ℕ
+refusedLevel = 18
+
 -- a success that returns 0, also what the rows that are tried first say where none of them refuses
 abbrev pub passed : Answered
 passed = record { number = success; returned = 0 }

@@ -5,6 +5,7 @@ use mathlib.Core.Path.{_≡_, refl}
 use mathlib.Core.List.{List, [], _∷_}
 use Rattle.paths_numbers.specs.meaning.Text.{same, isEmpty, begins, startsWith}
 use Rattle.paths_numbers.specs.meaning.Path.{join, atOrUnder, strip}
+use Rattle.levels.specs.meaning.Rules.{signedLevel}
 use Rattle.log.specs.meaning.Contents.{Span, node, version}
 use Rattle.queries.specs.meaning.Kind.{setsOverlay}
 use Rattle.paths_numbers.specs.meaning.Lists.{any}
@@ -34,7 +35,7 @@ items =
     empty))
     empty)
 
-pub listed : lowered items .defs ≡
+pub listed : lowered signedLevel items .defs ≡
     record { path = []; value = version; span = span 0 9; nameSpan = span 0 9 }
     ∷ record { path = 47 ∷ []; value = node [] false; span = span 10 26; nameSpan = span 10 11 }
     ∷ record { path = 47 ∷ 98 ∷ []; value = node ((97 ∷ []) ∷ []) false; span = span 14 23; nameSpan = span 17 18 }
@@ -43,12 +44,12 @@ unfolding lowered lowerItem lowerItems lowerNode lowerDirective placeOf opened l
     nodeNameSpan firstOf has join same isEmpty
 listed = refl
 
-pub bound : lowered items .binds ≡ record { label = 97 ∷ []; path = 47 ∷ 98 ∷ []; span = span 14 16 } ∷ []
+pub bound : lowered signedLevel items .binds ≡ record { label = 97 ∷ []; path = 47 ∷ 98 ∷ []; span = span 14 16 } ∷ []
 unfolding lowered lowerItem lowerItems lowerNode lowerDirective placeOf opened labelTexts define bind emit labelsOf nameOrMacro fullName
     nodeNameSpan firstOf has join same isEmpty
 bound = refl
 
-pub checked : postChecks (lowered items) ≡ []
+pub checked : postChecks (lowered signedLevel items) ≡ []
 unfolding lowered lowerItem lowerItems lowerNode lowerDirective placeOf opened labelTexts define bind emit labelsOf nameOrMacro fullName
     nodeNameSpan firstOf has join same isEmpty postChecks checkDirectives directivesFrom checkReferences checkDefs duplicateLabels
     duplicatesOf any setsOverlay live isLive gone atOrUnder strip begins startsWith

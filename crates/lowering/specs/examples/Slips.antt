@@ -5,6 +5,7 @@ use mathlib.Core.Path.{_≡_, refl}
 use mathlib.Core.List.{List, [], _∷_}
 use Rattle.paths_numbers.specs.meaning.Text.{same, isEmpty, begins, startsWith}
 use Rattle.paths_numbers.specs.meaning.Path.{join, atOrUnder, strip}
+use Rattle.levels.specs.meaning.Rules.{signedLevel}
 use Rattle.log.specs.meaning.Contents.{Def, node, deletedNode}
 use Rattle.queries.specs.meaning.Kind.{setsOverlay}
 use Rattle.paths_numbers.specs.meaning.Lists.{any}
@@ -34,7 +35,7 @@ twoLabels =
     (more (labelled 97 empty) (more (labelled 98 empty) (more (tree 3 [] 4 (span 5 6) (part 5 (97 ∷ []) 5 6 empty empty) empty) empty))))
     empty
 
-pub other-binding-stays : lowered twoLabels .binds ≡ record { label = 108 ∷ []; path = 47 ∷ 98 ∷ []; span = span 1 2 } ∷ []
+pub other-binding-stays : lowered signedLevel twoLabels .binds ≡ record { label = 108 ∷ []; path = 47 ∷ 98 ∷ []; span = span 1 2 } ∷ []
 unfolding lowered lowerItem lowerItems lowerNode lowerDirective lowerDeleteNode deleteNode placeOf opened labelTexts define bind emit unbind
     without labelsOf nameOrMacro fullName nodeNameSpan firstOf has join same isEmpty live isLive gone atOrUnder strip begins startsWith any
 other-binding-stays = refl
@@ -49,7 +50,7 @@ nested =
     (more (tree 1 [] 0 (span 4 8) (part 8 (121 ∷ []) 4 5 empty empty) empty) empty))
     empty)
 
-pub body-is-no-overlay : lowered nested .diags ≡ report 3 (121 ∷ []) (span 4 5) ∷ []
+pub body-is-no-overlay : lowered signedLevel nested .diags ≡ report 3 (121 ∷ []) (span 4 5) ∷ []
 unfolding lowered lowerItem lowerItems lowerNode lowerDirective placeOf opened labelTexts define bind emit apart dropped extended labelsOf
     nameOrMacro fullName nodeNameSpan firstOf has join same isEmpty lowerPhandle resolve firstBinding any setsOverlay
 body-is-no-overlay = refl

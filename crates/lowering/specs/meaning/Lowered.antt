@@ -1,4 +1,4 @@
--- What a lowering answers and leaves for any input and any buffers, by 01's table: the contract of lowering.
+-- What a lowering answers and leaves for any input, level and buffers, by 01's table and 02's numbers: the contract of lowering.
 use Prim.Native.Nat.{ℕ, _+_}
 use mathlib.Core.Bool.{Bool, true, false, cond}
 use mathlib.Core.Path.{_≡_}
@@ -8,7 +8,8 @@ use lib.ListN.{length, replicate}
 use Rattle.log.specs.meaning.ReadBack.{Log}
 use Rattle.log.specs.meaning.Record.{outCount, mostRecords, mostBytes}
 use Rattle.log.specs.meaning.Written.{Written}
-use Rattle.log.specs.meaning.Answer.{Answered, success, refusedRoom}
+use Rattle.log.specs.meaning.Answer.{Answered, success, refusedRoom, refusedLevel}
+use Rattle.levels.specs.meaning.Rules.{isLevel}
 use Rattle.making.specs.meaning.State.{State, diagsBytes}
 use Rattle.items.specs.meaning.Lower.{lowered}
 use Rattle.post_checks.specs.meaning.Post.{postChecks}
@@ -35,22 +36,26 @@ fitsIn s out bytes =
     false)
     false
 
--- what the description of an input lowers to
-abbrev pub meaning : List ℕ → List ℕ → State
-meaning words text = lowered (description words text)
+-- what the description of an input lowers to at a level
+abbrev pub meaning : ℕ → List ℕ → List ℕ → State
+meaning level words text = lowered level (description words text)
 
--- lowering `words` and `text` into buffers that held `out₀` and `bytes₀` answers `answer` and leaves `out` and `bytes`
-pub data Lowered (words text out₀ bytes₀ : List ℕ) (answer : Answered) (out bytes : List ℕ) : Type 0 where
+-- lowering `words` and `text` at `level` into buffers that held `out₀` and `bytes₀` answers `answer` and leaves `out` and `bytes`
+pub data Lowered (level : ℕ) (words text out₀ bytes₀ : List ℕ) (answer : Answered) (out bytes : List ℕ) : Type 0 where
+  -- 02, request 10: "A level other than 1 and 2 is refused with 18 and 0, before 1": all is left
+  noLevel : isLevel level ≡ false → answer ≡ record { number = refusedLevel; returned = 0 } → out ≡ out₀ → bytes ≡ bytes₀
+      → Lowered level words text out₀ bytes₀ answer out bytes
   -- rows 1 to 6: all is left
-  turnedDown : {number returned : ℕ} → verdict words text ≡ refused number returned
+  turnedDown : {number returned : ℕ} → isLevel level ≡ true → verdict words text ≡ refused number returned
       → answer ≡ record { number = number; returned = returned } → out ≡ out₀ → bytes ≡ bytes₀
-      → Lowered words text out₀ bytes₀ answer out bytes
+      → Lowered level words text out₀ bytes₀ answer out bytes
   -- row 7: zeros, in every word and byte that was lent
-  short : verdict words text ≡ accepted → fitsIn (meaning words text) out₀ bytes₀ ≡ false
+  short : isLevel level ≡ true → verdict words text ≡ accepted → fitsIn (meaning level words text) out₀ bytes₀ ≡ false
       → answer ≡ record { number = refusedRoom; returned = 0 } → out ≡ replicate (length out₀) 0 → bytes ≡ replicate (length bytes₀) 0
-      → Lowered words text out₀ bytes₀ answer out bytes
+      → Lowered level words text out₀ bytes₀ answer out bytes
   -- number 0: the log is written
-  done : verdict words text ≡ accepted → fitsIn (meaning words text) out₀ bytes₀ ≡ true
+  done : isLevel level ≡ true → verdict words text ≡ accepted → fitsIn (meaning level words text) out₀ bytes₀ ≡ true
       → answer ≡ record { number = success; returned = 0 } → length out ≡ length out₀ → length bytes ≡ length bytes₀
-      → Written out bytes (recordsMade (meaning words text)) (bytesMade (meaning words text)) (logOf (meaning words text))
-      → Lowered words text out₀ bytes₀ answer out bytes
+      → Written out bytes (recordsMade (meaning level words text)) (bytesMade (meaning level words text))
+      (logOf (meaning level words text))
+      → Lowered level words text out₀ bytes₀ answer out bytes

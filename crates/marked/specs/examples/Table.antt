@@ -16,6 +16,7 @@ use Rattle.paths_numbers.specs.meaning.Expression.{evalInfix, quotient, shiftLe
 use Rattle.paths_numbers.specs.meaning.Cell.{exprCell, largest}
 use Rattle.paths_numbers.specs.meaning.Bytestring.{countOf, nibbles, pairs}
 use Rattle.paths_numbers.specs.meaning.Reference.{target, isBraced, innerText, inBraces, hasSlash, beforeSlash, behindSlash, labelPath}
+use Rattle.levels.specs.meaning.Rules.{signedRules}
 use Rattle.log.specs.meaning.Contents.{Def, Binding}
 use Rattle.queries.specs.meaning.Live.{containsNode}
 use Rattle.input.specs.meaning.Tree.{tree, empty, more}
@@ -66,7 +67,7 @@ leading-zero = refl
 
 -- 0 && 1/0 is 0: an infix record && with the number 0 and an infix record / with the numbers 1 and 0
 pub and-decides-early :
-    eval
+    eval signedRules
     (tree 20 [] 11 noSpan
     (more (tree 15 (48 ∷ []) 0 noSpan empty empty)
     (more (tree 20 [] 4 noSpan (more (tree 15 (49 ∷ []) 0 noSpan empty empty) (more (tree 15 (48 ∷ []) 0 noSpan empty empty) empty)) empty)

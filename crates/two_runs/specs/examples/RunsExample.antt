@@ -4,6 +4,7 @@ use Prim.Native.Nat.{ℕ}
 use mathlib.Core.Path.{_≡_, refl}
 use mathlib.Core.List.{List, [], _∷_, _++_}
 use lib.ListN.{replicate}
+use Rattle.levels.specs.meaning.Rules.{unsignedLevel}
 use Rattle.log.specs.meaning.Answer.{success}
 use Rattle.making.specs.meaning.State.{State, start, emit}
 use Rattle.input.specs.meaning.Tree.{Trees, tree, empty, more}
@@ -20,6 +21,7 @@ use Rattle.two_runs.specs.examples.TwoRunsExample.{nodeNamed, deletionOf
 abbrev pub runA : Run
 runA =
     record {
+      level = unsignedLevel;
       words = head ++ words8 1 0 2 0 0 0 10 60 ++ words8 10 0 0 0 0 0 10 11;
       text = [];
       outBefore = replicate 48 0;
@@ -38,6 +40,7 @@ runA =
 abbrev pub runB : Run
 runB =
     record {
+      level = unsignedLevel;
       words =
           head
           ++ words8 1 0 2 0 0 3 10 60
@@ -93,7 +96,7 @@ newPath = 47 ∷ 98 ∷ []
 abbrev before : State
 before = opened (47 ∷ []) (part 10 [] 10 11 empty empty) (span 10 60) (emit [] start)
 
-pair : Pair newPath (47 ∷ []) before (nodeNamed 98 empty empty) (deletionOf 98)
+pair : Pair unsignedLevel newPath (47 ∷ []) before (nodeNamed 98 empty empty) (deletionOf 98)
 unfolding computedState quiet quietIn plainName quietDirective
 pair =
     record {
@@ -110,6 +113,6 @@ pair =
       nothingBound = refl;
     }
 
-pub root-inserted : Inserted newPath [] start (rootWith empty) (rootWith theTwo)
+pub root-inserted : Inserted unsignedLevel newPath [] start (rootWith empty) (rootWith theTwo)
 unfolding computedState
 root-inserted = within {p = 47 ∷ []} refl (here pair)

@@ -5,6 +5,7 @@ use Prim.Native.Nat.{ℕ}
 use mathlib.Core.Bool.{true}
 use mathlib.Core.Path.{_≡_, refl}
 use mathlib.Core.List.{List, [], _∷_}
+use Rattle.levels.specs.meaning.Rules.{signedLevel}
 use Rattle.paths_numbers.specs.meaning.Text.{same, isEmpty, begins, startsWith}
 use Rattle.paths_numbers.specs.meaning.Path.{join, atOrUnder, strip}
 use Rattle.queries.specs.meaning.Kind.{setsOverlay}
@@ -25,11 +26,11 @@ use Rattle.input.specs.meaning.GoodName.{goodNames, goodNamesIn}
 use Rattle.lowering.specs.examples.Example.{span, part}
 
 -- what lowering makes of a description, with all that it computes through: the examples unfold this one
-unfoldable pub computedState : Trees → State
+unfoldable pub computedState : ℕ → Trees → State
 unfolding lowered lowerItem lowerItems lowerNode lowerProperty lowerDirective lowerDeleteNode deleteNode placeOf opened labelTexts define
     bind emit unbind without labelsOf nameOrMacro fullName nodeNameSpan propertyNameSpan firstOf has join same isEmpty lowerPhandle resolve
     firstBinding lowerValues live isLive gone atOrUnder strip begins startsWith any setsOverlay
-computedState items = lowered items
+computedState level items = lowered level items
 
 -- a node of this name and label with these items
 abbrev pub nodeNamed : ℕ → Trees → Trees → Tree
@@ -71,10 +72,10 @@ newPath = 47 ∷ 120 ∷ 47 ∷ 98 ∷ []
 -- the state in which run B comes to the two
 abbrev pub before : State
 before = opened (47 ∷ 120 ∷ []) (part 8 (120 ∷ []) 10 12 empty empty) (span 10 60)
-    (emit [] (lowerItem (tree 1 [] 0 (span 0 9) (part 10 [] 0 1 empty empty)
+    (emit [] (lowerItem signedLevel (tree 1 [] 0 (span 0 9) (part 10 [] 0 1 empty empty)
     (more (nodeNamed 120 (part 7 [] 3 5 (part 5 (120 ∷ []) 3 4 empty empty) empty) empty) empty)) [] start))
 
-pair : Pair newPath (47 ∷ 120 ∷ []) before subnode deletion
+pair : Pair signedLevel newPath (47 ∷ 120 ∷ []) before subnode deletion
 unfolding computedState quiet quietIn plainName quietDirective
 pair =
     record {
@@ -91,7 +92,7 @@ pair =
       nothingBound = refl;
     }
 
-pub inserted : Inserted newPath [] start (whole rest) (whole (more subnode (more deletion rest)))
+pub inserted : Inserted signedLevel newPath [] start (whole rest) (whole (more subnode (more deletion rest)))
 unfolding computedState
 inserted = after (within {p = 47 ∷ 120 ∷ []} refl (here pair))
 
@@ -100,7 +101,7 @@ unfolding goodNames goodNamesIn any
 good = refl
 
 -- the two in a body that is not lowered: a node with a name at the top, code 5
-pub inserted-nowhere : Inserted newPath [] start (more (nodeNamed 120 empty empty) empty)
+pub inserted-nowhere : Inserted signedLevel newPath [] start (more (nodeNamed 120 empty empty) empty)
     (more (nodeNamed 120 empty (more subnode (more deletion empty))) empty)
 unfolding computedState
 inserted-nowhere = unlowered refl

@@ -1,4 +1,5 @@
--- Demand 3 over trees and states: run B's description is run A's with two adjacent items more, a new subnode and its deletion by name. Each
+-- Demand 3 over trees and states: run B's description is run A's with two adjacent items more, a new subnode and its deletion by name, and
+-- both are "told the same otherwise": the same level. Each
 -- premise of the demand is a definition of its own here, in 01's "Words of demand 3"; the claim about what both runs write is built on this
 -- one.
 use Prim.Native.Nat.{ℕ}
@@ -60,8 +61,8 @@ pub record Names (parent : List ℕ) (t : Tree) (new : List ℕ) : Type 0 where
   pub named : fullName (childrenOf t) .result ≡ some name
   pub path : join parent name ≡ new
 
--- the two items n and d, of a body under the path parent, where run B has come to the state s
-pub record Pair (new parent : List ℕ) (s : State) (n d : Tree) : Type 0 where
+-- the two items n and d, of a body under the path parent, where run B, at a level, has come to the state s
+pub record Pair (level : ℕ) (new parent : List ℕ) (s : State) (n d : Tree) : Type 0 where
   -- they stand in a node's body: the top's parent path is empty
   pub inBody : isEmpty parent ≡ false
   -- a subnode, and "The new path is the subnode's"
@@ -75,7 +76,7 @@ pub record Pair (new parent : List ℕ) (s : State) (n d : Tree) : Type 0 where
   pub quietNode : quiet n ≡ true
   pub quietDeletion : quiet d ≡ true
   -- they "raise no diagnostic"
-  pub silent : lowerItem d parent (lowerItem n parent s) .diags ≡ s .diags
+  pub silent : lowerItem level d parent (lowerItem level n parent s) .diags ≡ s .diags
   -- "before them, nothing live and no binding lies at or under the new path"
   pub nothingLive : live new (s .defs) ≡ []
   pub nothingBound : any (λ (b : Binding). atOrUnder (b .path) new) (s .binds) ≡ false
@@ -86,18 +87,18 @@ pub record Pair (new parent : List ℕ) (s : State) (n d : Tree) : Type 0 where
 -- A body that is not lowered at all (codes 5 and 6, a reference that cannot be read) is neither dropped nor lowered into a log of its own,
 -- so that 01 can be read to have it enter the main log. `unlowered` covers that reading too, and asks nothing of the two: whatever the body
 -- is in one run and in the other, nothing of it is written
-pub data Inserted (new : List ℕ) : List ℕ → State → Trees → Trees → Type 0 where
-  here : {parent : List ℕ} {s : State} {n d : Tree} {rest : Trees} → Pair new parent s n d
-      → Inserted new parent s rest (more n (more d rest))
-  after : {parent : List ℕ} {s : State} {t : Tree} {a b : Trees} → Inserted new parent (lowerItem t parent s) a b
-      → Inserted new parent s (more t a) (more t b)
+pub data Inserted (level : ℕ) (new : List ℕ) : List ℕ → State → Trees → Trees → Type 0 where
+  here : {parent : List ℕ} {s : State} {n d : Tree} {rest : Trees} → Pair level new parent s n d
+      → Inserted level new parent s rest (more n (more d rest))
+  after : {parent : List ℕ} {s : State} {t : Tree} {a b : Trees} → Inserted level new parent (lowerItem level t parent s) a b
+      → Inserted level new parent s (more t a) (more t b)
   within : {parent : List ℕ} {s : State} {text : List ℕ} {w : ℕ} {span : Span} {parts body body' rest : Trees} {p : List ℕ}
       → placeOf parent parts span s .place ≡ at p
-      → Inserted new p (opened p parts span (emit (placeOf parent parts span s .reports) s)) body body'
-      → Inserted new parent s (more (tree nodeKind text w span parts body) rest) (more (tree nodeKind text w span parts body') rest)
+      → Inserted level new p (opened p parts span (emit (placeOf parent parts span s .reports) s)) body body'
+      → Inserted level new parent s (more (tree nodeKind text w span parts body) rest) (more (tree nodeKind text w span parts body') rest)
   unlowered : {parent : List ℕ} {s : State} {text : List ℕ} {w : ℕ} {span : Span} {parts body body' rest : Trees}
       → placeOf parent parts span s .place ≡ nowhere
-      → Inserted new parent s (more (tree nodeKind text w span parts body) rest) (more (tree nodeKind text w span parts body') rest)
+      → Inserted level new parent s (more (tree nodeKind text w span parts body) rest) (more (tree nodeKind text w span parts body') rest)
 
 -- two results alike in all that the four parts read
 pub record Alike (new : List ℕ) (a b : State) : Type 0 where
@@ -111,4 +112,6 @@ pub record Alike (new : List ℕ) (a b : State) : Type 0 where
 -- the claim: no premise but those of the pair. That post checks report nothing at the two's definitions, and that no version or plugin
 -- directive comes next, is not needed: a node is defined before the two.
 unfoldable pub TwoRuns : Type 0
-TwoRuns = (new : List ℕ) (a b : Trees) → goodNamesIn b ≡ true → Inserted new [] start a b → Alike new (lowered a) (lowered b)
+TwoRuns =
+    (level : ℕ) (new : List ℕ) (a b : Trees) → goodNamesIn b ≡ true → Inserted level new [] start a b
+    → Alike new (lowered level a) (lowered level b)

@@ -2,6 +2,9 @@
 
 use crate::library::{Library, Queries};
 
+/// The level that keeps 01's signed rule.
+const SIGNED: u32 = 1;
+
 #[repr(C)]
 struct Answer {
     number: u32,
@@ -15,7 +18,9 @@ unsafe extern "C" {
         l: *mut u32, ll: usize) -> Answer;
     fn dl_history(w: *const u32, wl: usize, b: *const u8, bl: usize, p: *const u8, pl: usize, l: *mut u32, ll: usize) -> Answer;
     fn dl_contains_node(w: *const u32, wl: usize, b: *const u8, bl: usize, p: *const u8, pl: usize) -> Answer;
-    fn dl_lower(w: *const u32, wl: usize, t: *const u8, tl: usize, o: *mut u32, ol: usize, b: *mut u8, bl: usize) -> Answer;
+    fn dl_lower(
+        w: *const u32, wl: usize, t: *const u8, tl: usize, level: u32, o: *mut u32, ol: usize, b: *mut u8, bl: usize,
+    ) -> Answer;
 }
 
 /// Where a slice starts; an empty one may be null.
@@ -53,7 +58,10 @@ const QUERIES: Queries = Queries {
 pub const LIBRARY: Library = Library {
     lower: |records, out, bytes| unsafe {
         let (words, text) = (&records.words, &records.text);
-        dl_lower(start(words), words.len(), start(text), text.len(), start_mut(out), out.len(), start_mut(bytes), bytes.len()).read()
+        dl_lower(
+            start(words), words.len(), start(text), text.len(), SIGNED, start_mut(out), out.len(), start_mut(bytes), bytes.len(),
+        )
+        .read()
     },
     queries: QUERIES,
 };

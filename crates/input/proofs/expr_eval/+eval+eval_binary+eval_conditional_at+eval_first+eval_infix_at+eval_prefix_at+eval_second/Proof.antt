@@ -6,13 +6,16 @@ use native.Mathlib.Omega.{arith}
 use Rattle.paths_numbers.proofs.Integers.{read}
 use Rattle.paths_numbers.proofs.Casts.{signed-is}
 use Rattle.paths_numbers.proofs.Relations.{read-truth}
+use Rattle.levels.specs.machine.Held.{rulesAt}
 use Rattle.input.specs.meaning.Input.{childAt, numberAt, spanAt, chainAt}
 use Rattle.input.specs.machine.At.{recordAt}
 use Rattle.input.specs.meaning.Expr.{evals}
 use Rattle.input.proofs.Read.{before-some, chain-first, chain-after, some-nesting, children-in}
-use Rattle.input.proofs.Evaluation.{prefix-missing, prefix-first, infix-missing, infix-short, conditional-short, decided, undecided}
+use Rattle.input.proofs.Evaluation.{prefix-missing, prefix-first, infix-missing, infix-short, conditional-short, decided}
+use Rattle.input.proofs.Evaluation.{second-decides, plain-infix}
 use Rattle.input.proofs.Evaluation.{no-first, first-is, eval-kind, eval-macro, eval-other, binary-fails, binary-value}
 use Rattle.input.proofs.Evaluation.{conditional-fails, conditional-value}
+use Rattle.input.proofs.Levels.{character-at}
 use borrow.Author.Needs.{needs}
 use Prim.Native.Nat.{ℕ, _+_, _*_, _<_}
 use borrow.Fn.Kinds.{In}
@@ -40,6 +43,8 @@ use Rattle.input.proofs.expr_eval.eval_second.Kinds as eval-second-kind
 use Rattle.input.proofs.expr_eval.+eval+eval_binary+eval_conditional_at+eval_first+eval_infix_at+eval_prefix_at+eval_second.Lts-eval_second as eval-second-lts
 use Rattle.input.proofs.expr_eval.first_decides.Reads as first-decides-reads
 use Rattle.input.proofs.expr_eval.infix_of.Reads as infix-of-reads
+use Rattle.input.proofs.expr_eval.is_logical.Reads as is-logical-reads
+use Rattle.input.proofs.expr_eval.truth_in.Reads as truth-in-reads
 use Rattle.input.proofs.expr_eval.literal_of.Reads as literal-of-reads
 use Rattle.input.proofs.expr_eval.prefix_of.Reads as prefix-of-reads
 use Rattle.input.proofs.record.after.Reads as after-reads
@@ -47,7 +52,7 @@ use Rattle.input.proofs.record.child_at.Reads as child-at-reads
 use Rattle.input.proofs.record.kind_at.Reads as kind-at-reads
 use Rattle.input.proofs.record.number_at.Reads as number-at-reads
 use Rattle.input.proofs.record.text_at.Reads as text-at-reads
-use Rattle.paths_numbers.proofs.expr_eval.parse_int_tok_i64.Reads as parse-int-tok-i64-reads
+use Rattle.levels.proofs.level.literal.Reads as literal-reads
 use Rattle.paths_numbers.proofs.operators.is_true.Reads as is-true-reads
 use Rattle.input.proofs.expr_eval.+eval+eval_binary+eval_conditional_at+eval_first+eval_infix_at+eval_prefix_at+eval_second.{
   statement,
@@ -157,8 +162,8 @@ eval-claims t = (
   kind-at-reads.Learnt,
   text-at-reads.Asked,
   text-at-reads.Learnt,
-  parse-int-tok-i64-reads.Asked,
-  parse-int-tok-i64-reads.Learnt,
+  literal-reads.Asked,
+  literal-reads.Learnt,
   literal-of-reads.Asked,
   literal-of-reads.Learnt,
   number-at-reads.Asked,
@@ -214,6 +219,10 @@ eval-second-claims t = (
   is-true-reads.Learnt,
   eval-below t,
   eval.Post,
+  is-logical-reads.Asked,
+  is-logical-reads.Learnt,
+  truth-in-reads.Asked,
+  truth-in-reads.Learnt,
   infix-of-reads.Asked,
   infix-of-reads.Learnt,
 )
@@ -233,8 +242,8 @@ eval-kind-at-requires t c κs = search needs
 eval-text-at-requires : (t : ℕ) → eval-lts.Need-text-at-requires (eval-claims t) (eval-at t) eval.Post
 eval-text-at-requires t c κs = search needs
 
-eval-parse-int-tok-i64-requires : (t : ℕ) → eval-lts.Need-parse-int-tok-i64-requires (eval-claims t) (eval-at t) eval.Post
-eval-parse-int-tok-i64-requires t c κs = search needs
+eval-literal-requires : (t : ℕ) → eval-lts.Need-literal-requires (eval-claims t) (eval-at t) eval.Post
+eval-literal-requires t c κs = search needs
 
 eval-literal-of-requires : (t : ℕ) → eval-lts.Need-literal-of-requires (eval-claims t) (eval-at t) eval.Post
 eval-literal-of-requires t c κs = search needs
@@ -242,8 +251,8 @@ eval-literal-of-requires t c κs = search needs
 eval-number-at-requires : (t : ℕ) → eval-lts.Need-number-at-requires (eval-claims t) (eval-at t) eval.Post
 eval-number-at-requires t c κs = search needs
 
-eval-cast-t11 : (t : ℕ) → eval-lts.Need-cast-t11 (eval-claims t) (eval-at t) eval.Post
-eval-cast-t11 t c = search needs
+eval-cast-t12 : (t : ℕ) → eval-lts.Need-cast-t12 (eval-claims t) (eval-at t) eval.Post
+eval-cast-t12 t c = search needs
 
 eval-sub-eval-prefix-at : (t : ℕ) → eval-lts.Need-sub-eval-prefix-at (eval-claims t) (eval-at t) eval.Post
 eval-sub-eval-prefix-at t c = search needs
@@ -289,7 +298,7 @@ eval-returns-2 t c =
     let s = c .before .before .before .before .before in
     let words = s .args .words .now in
     let text = s .args .text .now in
-    eval-macro words text (s .args .r) (sym (c .before .kind-at .ensures) ∙ c .match .keys1)
+    eval-macro (s .args .level) words text (s .args .r) (sym (c .before .kind-at .ensures) ∙ c .match .keys1)
 
 eval-returns-3 : (t : ℕ) → eval-lts.Need-returns-3 (eval-claims t) (eval-at t) eval.Post
 eval-returns-3 t c =
@@ -297,8 +306,8 @@ eval-returns-3 t c =
     let words = s .args .words .now in
     let text = s .args .text .now in
     c .literal-of .ensures words text
-    ∙ rw (c .before .parse-int-tok-i64 .ensures, c .before .before .text-at .ensures)
-    (eval-kind words text (s .args .r) 15 (sym (c .before .before .before .before .kind-at .ensures)
+    ∙ rw (c .before .literal .ensures, c .before .before .text-at .ensures)
+    (eval-kind (s .args .level) words text (s .args .r) 15 (sym (c .before .before .before .before .kind-at .ensures)
     ∙ c .before .before .before .match .keys2))
 
 eval-returns-4 : (t : ℕ) → eval-lts.Need-returns-4 (eval-claims t) (eval-at t) eval.Post
@@ -306,23 +315,23 @@ eval-returns-4 t c =
     let s = c .before .before .before .before .before .before in
     let words = s .args .words .now in
     let text = s .args .text .now in
-    ap value (signed-is (c .number-at .result) (search needs))
+    ap value (signed-is (c .number-at .result) (search needs) ∙ character-at (s .args .level) (c .number-at .result) (search needs))
     ∙ rw (c .number-at .ensures)
-    (eval-kind words text (s .args .r) 16 (sym (c .before .before .kind-at .ensures) ∙ c .before .match .keys3))
+    (eval-kind (s .args .level) words text (s .args .r) 16 (sym (c .before .before .kind-at .ensures) ∙ c .before .match .keys3))
 
 eval-returns-5 : (t : ℕ) → eval-lts.Need-returns-5 (eval-claims t) (eval-at t) eval.Post
 eval-returns-5 t c =
     let s = c .before .before .before .before .before .before in
     let words = s .args .words .now in
     let text = s .args .text .now in
-    c .eval-prefix-at .ensures ∙ eval-kind words text (s .args .r) 18 (sym (c .before .before .kind-at .ensures) ∙ c .before .match .keys4)
+    c .eval-prefix-at .ensures ∙ eval-kind (s .args .level) words text (s .args .r) 18 (sym (c .before .before .kind-at .ensures) ∙ c .before .match .keys4)
 
 eval-returns-6 : (t : ℕ) → eval-lts.Need-returns-6 (eval-claims t) (eval-at t) eval.Post
 eval-returns-6 t c =
     let s = c .before .before .before .before .before .before .before in
     let words = s .args .words .now in
     let text = s .args .text .now in
-    c .eval-first .ensures ∙ rw (c .before .child-at .ensures) (eval-kind words text (s .args .r) 19
+    c .eval-first .ensures ∙ rw (c .before .child-at .ensures) (eval-kind (s .args .level) words text (s .args .r) 19
     (sym (c .before .before .before .kind-at .ensures) ∙ c .before .before .match .keys5))
 
 eval-returns-7 : (t : ℕ) → eval-lts.Need-returns-7 (eval-claims t) (eval-at t) eval.Post
@@ -330,7 +339,7 @@ eval-returns-7 t c =
     let s = c .before .before .before .before .before .before in
     let words = s .args .words .now in
     let text = s .args .text .now in
-    c .eval-infix-at .ensures ∙ eval-kind words text (s .args .r) 20 (sym (c .before .before .kind-at .ensures) ∙ c .before .match .keys6)
+    c .eval-infix-at .ensures ∙ eval-kind (s .args .level) words text (s .args .r) 20 (sym (c .before .before .kind-at .ensures) ∙ c .before .match .keys6)
 
 eval-returns-8 : (t : ℕ) → eval-lts.Need-returns-8 (eval-claims t) (eval-at t) eval.Post
 eval-returns-8 t c =
@@ -339,7 +348,7 @@ eval-returns-8 t c =
     let text = s .args .text .now in
     let k = c .before .kind-at .ensures in
     let r = c .match .rest in
-    eval-other words text (s .args .r) (λ e. r .0 .0 .0 .0 .0 .1 (k ∙ e)) (λ e. r .0 .0 .0 .0 .1 (k ∙ e)) (λ e. r .0 .0 .0 .1 (k ∙ e))
+    eval-other (s .args .level) words text (s .args .r) (λ e. r .0 .0 .0 .0 .0 .1 (k ∙ e)) (λ e. r .0 .0 .0 .0 .1 (k ∙ e)) (λ e. r .0 .0 .0 .1 (k ∙ e))
     (λ e. r .0 .0 .1 (k ∙ e)) (λ e. r .0 .1 (k ∙ e)) (λ e. r .1 (k ∙ e))
 
 eval-binary-after-requires : (t : ℕ) → eval-binary-lts.Need-after-requires (eval-binary-claims t) (eval-binary-at t) eval-binary.Post
@@ -351,7 +360,7 @@ eval-binary-returns t c =
     let words = s .args .words .now in
     let text = s .args .text .now in
     let linked = s .pre .1 .0 in
-    infix-short words text linked (s .args .op) (spanAt words (s .args .r)) (s .args .x) _ (c .before .after .ensures) (s .pre .1 .1 .0 .at)
+    infix-short (s .args .level) words text linked (s .args .op) (spanAt words (s .args .r)) (s .args .x) _ (c .before .after .ensures) (s .pre .1 .1 .0 .at)
     (c .if1 .taken)
 
 eval-binary-eval-requires : (t : ℕ) → eval-binary-lts.Need-eval-requires (eval-binary-claims t) (eval-binary-at t) eval-binary.Post
@@ -379,7 +388,7 @@ eval-binary-returns-2 t c =
     let text = s .args .text .now in
     let linked = s .pre .1 .0 in
     let nesting = s .args .nesting in
-    binary-fails words text linked (spanAt words (s .args .r)) nesting (s .args .x) (s .pre .1 .1 .0) (c .before .eval .result)
+    binary-fails (s .args .level) words text linked (spanAt words (s .args .r)) nesting (s .args .x) (s .pre .1 .1 .0) (c .before .eval .result)
     (c .before .eval .ensures) _ (c .before .before .before .after .ensures) (s .args .op) (s .pre .1 .1 .1 .0) (s .pre .1 .1 .1 .1)
     (c .before .before .if1 .left) (c .match .keys2)
 
@@ -410,7 +419,7 @@ eval-binary-returns-3 t c =
     let nesting = s .args .nesting in
     c .eval-second .ensures
     ∙ rw (read (record { sfits = c .before .known-told .given .0 .1 }))
-    (binary-value words text linked (spanAt words (s .args .r)) nesting (s .args .x) (s .pre .1 .1 .0)
+    (binary-value (s .args .level) words text linked (spanAt words (s .args .r)) nesting (s .args .x) (s .pre .1 .1 .0)
     (c .before .before .before .before .eval .result) (c .before .before .before .before .eval .ensures) _
     (c .before .before .before .before .before .before .after .ensures) (s .args .op) (s .pre .1 .1 .1 .0) (s .pre .1 .1 .1 .1)
     (c .before .before .before .before .before .if1 .left) _ (c .before .before .e .given .1))
@@ -431,7 +440,7 @@ eval-conditional-at-returns t c =
     let text = s .args .text .now in
     let linked = s .pre .1 .0 in
     let nesting = s .args .nesting in
-    λ span. conditional-short words text linked span (s .args .x) _ _ (c .before .before .after .ensures) (c .before .after2 .ensures)
+    λ span. conditional-short (s .args .level) words text linked span (s .args .x) _ _ (c .before .before .after .ensures) (c .before .after2 .ensures)
     (s .pre .1 .1 .at) (chain-after words text (s .args .x) _ (c .before .before .after .ensures) linked nesting (s .pre .1 .1) .at)
     (c .if1 .taken)
 
@@ -465,7 +474,7 @@ eval-conditional-at-returns-2 t c =
     let text = s .args .text .now in
     let linked = s .pre .1 .0 in
     let nesting = s .args .nesting in
-    λ span. conditional-fails words text linked span nesting (s .args .x) (s .pre .1 .1) (c .before .eval .result)
+    λ span. conditional-fails (s .args .level) words text linked span nesting (s .args .x) (s .pre .1 .1) (c .before .eval .result)
     (c .before .eval .ensures)
     _ (c .before .before .before .before .after .ensures) _ (c .before .before .before .after2 .ensures) (c .before .before .if1 .left)
     (c .match .keys2)
@@ -505,7 +514,7 @@ eval-conditional-at-returns-3 t c =
     λ span. c .eval2 .ensures
     ∙ rw (rw (read (record { sfits = c .before .before .before .known-told .given .0 .1 })) at
     (sym (c .before .before .is-true .ensures) ∙ c .before .if2 .taken)) at
-    (conditional-value words text linked span nesting (s .args .x) (s .pre .1 .1) (e .result) (e .ensures) _
+    (conditional-value (s .args .level) words text linked span nesting (s .args .x) (s .pre .1 .1) (e .result) (e .ensures) _
     (c .before .before .before .before .before .before .before .before .before .after .ensures) _
     (c .before .before .before .before .before .before .before .before .after2 .ensures)
     (c .before .before .before .before .before .before .before .if1 .left) _ (c .before .before .before .before .e .given .1))
@@ -542,7 +551,7 @@ eval-conditional-at-returns-4 t c =
     λ span. c .eval3 .ensures
     ∙ rw (rw (read (record { sfits = c .before .before .before .known-told .given .0 .1 })) at
     (sym (c .before .before .is-true .ensures) ∙ c .before .if2 .left)) at
-    (conditional-value words text linked span nesting (s .args .x) (s .pre .1 .1) (e .result) (e .ensures) _
+    (conditional-value (s .args .level) words text linked span nesting (s .args .x) (s .pre .1 .1) (e .result) (e .ensures) _
     (c .before .before .before .before .before .before .before .before .before .after .ensures) _
     (c .before .before .before .before .before .before .before .before .after2 .ensures)
     (c .before .before .before .before .before .before .before .if1 .left) _ (c .before .before .before .before .e .given .1))
@@ -554,7 +563,7 @@ eval-first-returns t c =
     let s = c .before .before .before in
     let words = s .args .words .now in
     let text = s .args .text .now in
-    rw (c .if1 .taken) (no-first words text)
+    rw (c .if1 .taken) (no-first (s .args .level) words text)
 
 eval-first-eval-requires :
     (t : ℕ) →
@@ -575,7 +584,7 @@ eval-first-returns-2 t c =
     let words = s .args .words .now in
     let text = s .args .text .now in
     let linked = s .pre .1 .0 in
-    c .eval .ensures ∙ first-is words text linked (s .args .first) (c .before .if1 .left) (s .pre .1 .1 .at (c .before .if1 .left))
+    c .eval .ensures ∙ first-is (s .args .level) words text linked (s .args .first) (c .before .if1 .left) (s .pre .1 .1 .at (c .before .if1 .left))
 
 eval-infix-at-number-at-requires : (t : ℕ) → eval-infix-at-lts.Need-number-at-requires (eval-infix-at-claims t) (eval-infix-at-at t)
     eval-infix-at.Post
@@ -587,7 +596,7 @@ eval-infix-at-returns t c =
     let words = s .args .words .now in
     let text = s .args .text .now in
     rw (sym (c .before .number-at .ensures) ∙ c .if1 .taken)
-    (sym (infix-missing (spanAt words (s .args .r)) (evals (chainAt words text (childAt words (s .args .r))))))
+    (sym (infix-missing (s .args .level) (spanAt words (s .args .r)) (evals (rulesAt (s .args .level)) (chainAt words text (childAt words (s .args .r))))))
 
 eval-infix-at-child-at-requires : (t : ℕ) → eval-infix-at-lts.Need-child-at-requires (eval-infix-at-claims t) (eval-infix-at-at t)
     eval-infix-at.Post
@@ -631,7 +640,7 @@ eval-prefix-at-returns t c =
     let words = s .args .words .now in
     let text = s .args .text .now in
     rw (sym (c .before .number-at .ensures) ∙ c .if1 .taken)
-    (sym (prefix-missing (spanAt words (s .args .r)) (evals (chainAt words text (childAt words (s .args .r))))))
+    (sym (prefix-missing (s .args .level) (spanAt words (s .args .r)) (evals (rulesAt (s .args .level)) (chainAt words text (childAt words (s .args .r))))))
 
 eval-prefix-at-child-at-requires : (t : ℕ) → eval-prefix-at-lts.Need-child-at-requires (eval-prefix-at-claims t) (eval-prefix-at-at t)
     eval-prefix-at.Post
@@ -656,8 +665,8 @@ eval-prefix-at-returns-2 t c =
     let op = c .before .before .before .before .number-at in
     c .prefix-of .ensures words text
     ∙ rw (c .before .eval-first .ensures, c .before .before .child-at .ensures, op .ensures)
-    (prefix-first (numberAt words (s .args .r)) (λ q. c .before .before .before .if1 .left (op .ensures ∙ q)) (spanAt words (s .args .r))
-    (evals (chainAt words text (childAt words (s .args .r)))))
+    (prefix-first (s .args .level) (numberAt words (s .args .r)) (λ q. c .before .before .before .if1 .left (op .ensures ∙ q)) (spanAt words (s .args .r))
+    (evals (rulesAt (s .args .level)) (chainAt words text (childAt words (s .args .r)))))
 
 eval-second-first-decides-requires : (t : ℕ) → eval-second-lts.Need-first-decides-requires (eval-second-claims t) (eval-second-at t)
     eval-second.Post
@@ -666,8 +675,8 @@ eval-second-first-decides-requires t c κs = search needs
 eval-second-is-true-requires : (t : ℕ) → eval-second-lts.Need-is-true-requires (eval-second-claims t) (eval-second-at t) eval-second.Post
 eval-second-is-true-requires t c κs = search needs
 
-eval-second-cast-t10 : (t : ℕ) → eval-second-lts.Need-cast-t10 (eval-second-claims t) (eval-second-at t) eval-second.Post
-eval-second-cast-t10 t c = search needs
+eval-second-cast-t12 : (t : ℕ) → eval-second-lts.Need-cast-t12 (eval-second-claims t) (eval-second-at t) eval-second.Post
+eval-second-cast-t12 t c = search needs
 
 eval-second-returns : (t : ℕ) → eval-second-lts.Need-returns (eval-second-claims t) (eval-second-at t) eval-second.Post
 eval-second-returns t c =
@@ -675,24 +684,45 @@ eval-second-returns t c =
     let words = s .args .words .now in
     let text = s .args .text .now in
     rw (read-truth, c .is-true .ensures, read (s .fits .a))
-    (decided (s .args .op) (spanAt words (s .args .r)) (s .args .a) (evalOf (recordAt words text (s .args .y)))
+    (decided (s .args .level) (s .args .op) (spanAt words (s .args .r)) (s .args .a) (evalOf (rulesAt (s .args .level)) (recordAt words text (s .args .y)))
     (rw (read (s .fits .a)) at (sym (c .before .before .first-decides .ensures) ∙ c .before .if1 .taken)))
 
 eval-second-eval-requires : (t : ℕ) → eval-second-lts.Need-eval-requires (eval-second-claims t) (eval-second-at t) eval-second.Post
 eval-second-eval-requires t c κs = search needs
 
-eval-second-infix-of-requires : (t : ℕ) → eval-second-lts.Need-infix-of-requires (eval-second-claims t) (eval-second-at t) eval-second.Post
-eval-second-infix-of-requires t c κs = search needs
+eval-second-is-logical-requires : (t : ℕ) → eval-second-lts.Need-is-logical-requires (eval-second-claims t) (eval-second-at t)
+    eval-second.Post
+eval-second-is-logical-requires t c κs = search needs
+
+eval-second-truth-in-requires : (t : ℕ) → eval-second-lts.Need-truth-in-requires (eval-second-claims t) (eval-second-at t) eval-second.Post
+eval-second-truth-in-requires t c κs = search needs
 
 eval-second-returns-2 : (t : ℕ) → eval-second-lts.Need-returns-2 (eval-second-claims t) (eval-second-at t) eval-second.Post
 eval-second-returns-2 t c =
-    let s = c .before .before .before .before .before .before in
+    let s = c .before .before .before .before .before .before .before .before in
+    let words = s .args .words .now in
+    let text = s .args .text .now in
+    c .truth-in .ensures words text
+    ∙ rw (c .before .before .before .eval .ensures)
+    (second-decides (s .args .level) (s .args .op) (spanAt words (s .args .r)) (s .args .a)
+    (evalOf (rulesAt (s .args .level)) (recordAt words text (s .args .y)))
+    (rw (read (s .fits .a)) at (sym (c .before .before .before .before .before .first-decides .ensures)
+    ∙ c .before .before .before .before .if1 .left))
+    (sym (c .before .before .is-logical .ensures) ∙ c .before .if2 .taken))
+
+eval-second-infix-of-requires : (t : ℕ) → eval-second-lts.Need-infix-of-requires (eval-second-claims t) (eval-second-at t) eval-second.Post
+eval-second-infix-of-requires t c κs = search needs
+
+eval-second-returns-3 : (t : ℕ) → eval-second-lts.Need-returns-3 (eval-second-claims t) (eval-second-at t) eval-second.Post
+eval-second-returns-3 t c =
+    let s = c .before .before .before .before .before .before .before .before in
     let words = s .args .words .now in
     let text = s .args .text .now in
     c .infix-of .ensures words text
-    ∙ rw (c .before .eval .ensures, read (s .fits .a))
-    (undecided (s .args .op) (spanAt words (s .args .r)) (s .args .a) (evalOf (recordAt words text (s .args .y)))
-    (rw (read (s .fits .a)) at (sym (c .before .before .before .first-decides .ensures) ∙ c .before .before .if1 .left)))
+    ∙ rw (c .before .before .before .eval .ensures, read (s .fits .a))
+    (plain-infix (s .args .level) (s .args .op) (spanAt words (s .args .r)) (s .args .a)
+    (evalOf (rulesAt (s .args .level)) (recordAt words text (s .args .y)))
+    (sym (c .before .before .is-logical .ensures) ∙ c .before .if2 .left))
 
 pub +eval+eval-binary+eval-conditional-at+eval-first+eval-infix-at+eval-prefix-at+eval-second-spec :
     {M : Type 1} → statement M
@@ -709,10 +739,10 @@ pub +eval+eval-binary+eval-conditional-at+eval-first+eval-infix-at+eval-prefix-a
     (eval-returns t)
     (eval-kind-at-requires t)
     (eval-text-at-requires t)
-    (eval-parse-int-tok-i64-requires t)
+    (eval-literal-requires t)
     (eval-literal-of-requires t)
     (eval-number-at-requires t)
-    (eval-cast-t11 t)
+    (eval-cast-t12 t)
     (eval-sub-eval-prefix-at t)
     (eval-eval-prefix-at-requires t)
     (eval-child-at-requires t)
@@ -769,8 +799,11 @@ pub +eval+eval-binary+eval-conditional-at+eval-first+eval-infix-at+eval-prefix-a
     λ t. eval-second-lts.spec (eval-second-claims t) (eval-second-at t) eval-second.Post
     (eval-second-first-decides-requires t)
     (eval-second-is-true-requires t)
-    (eval-second-cast-t10 t)
+    (eval-second-cast-t12 t)
     (eval-second-returns t)
     (eval-second-eval-requires t)
-    (eval-second-infix-of-requires t)
+    (eval-second-is-logical-requires t)
+    (eval-second-truth-in-requires t)
     (eval-second-returns-2 t)
+    (eval-second-infix-of-requires t)
+    (eval-second-returns-3 t)

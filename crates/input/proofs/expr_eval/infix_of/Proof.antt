@@ -12,8 +12,8 @@ enum-known-y c = search needs
 returns : tie.Need-returns
 returns c = λ words text. failure-passes words text (c .before .args .y) _ (c .match .keys2)
 
-eval-infix-requires : tie.Need-eval-infix-requires
-eval-infix-requires c κs = search needs
+binary-requires : tie.Need-binary-requires
+binary-requires c κs = search needs
 
 evaluation-of-requires : tie.Need-evaluation-of-requires
 evaluation-of-requires c κs = search needs
@@ -21,7 +21,7 @@ evaluation-of-requires c κs = search needs
 returns-2 : tie.Need-returns-2
 returns-2 c = λ words text. c .evaluation-of .ensures words text
     ∙ rw (
-      c .before .eval-infix .ensures,
+      c .before .binary .ensures,
       c .before .before .before .y .given .1,
       read (c .before .before .before .before .before .fits .a),
       read (record { sfits = c .before .before .known-told .given .0 .1 }),
@@ -29,4 +29,4 @@ returns-2 c = λ words text. c .evaluation-of .ensures words text
 
 pub infix-of-spec : {M : Type 1} → statement M
 infix-of-spec =
-    tie.close (tie.spec enum-known-y returns eval-infix-requires evaluation-of-requires returns-2)
+    tie.close (tie.spec enum-known-y returns binary-requires evaluation-of-requires returns-2)

@@ -12,8 +12,8 @@ enum-known-x c = search needs
 returns : tie.Need-returns
 returns c = λ words text. failure-passes words text (c .before .args .x) _ (c .match .keys2)
 
-eval-prefix-requires : tie.Need-eval-prefix-requires
-eval-prefix-requires c κs = search needs
+unary-requires : tie.Need-unary-requires
+unary-requires c κs = search needs
 
 evaluation-of-requires : tie.Need-evaluation-of-requires
 evaluation-of-requires c κs = search needs
@@ -21,7 +21,7 @@ evaluation-of-requires c κs = search needs
 returns-2 : tie.Need-returns-2
 returns-2 c = λ words text. c .evaluation-of .ensures words text
     ∙ rw (
-      c .before .eval-prefix .ensures,
+      c .before .unary .ensures,
       c .before .before .before .x .given .1,
       read
           (record { sfits = c .before .before .known-told .given .0 .1 }),
@@ -29,4 +29,4 @@ returns-2 c = λ words text. c .evaluation-of .ensures words text
 
 pub prefix-of-spec : {M : Type 1} → statement M
 prefix-of-spec =
-    tie.close (tie.spec enum-known-x returns eval-prefix-requires evaluation-of-requires returns-2)
+    tie.close (tie.spec enum-known-x returns unary-requires evaluation-of-requires returns-2)

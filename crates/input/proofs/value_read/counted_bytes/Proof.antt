@@ -16,11 +16,11 @@ count-code-requires : tie.Need-count-code-requires
 count-code-requires c κs = search needs
 
 returns : tie.Need-returns
-returns c = let a = c .before .before .args in λ words text h. counted-some (spanAt words (a .r)) (textAt words text (a .r)) (a .n) _
+returns c = let a = c .before .before .args in λ level words text h. counted-some (spanAt words (a .r)) (textAt words text (a .r)) (a .n) _
     (c .enum-told .given .1) h
 
 returns-2 : tie.Need-returns-2
-returns-2 c = λ words text h. rw (c .count-code .ensures, c .before .enum-told2 .given .1) refl
+returns-2 c = λ level words text h. rw (c .count-code .ensures, c .before .enum-told2 .given .1) refl
 
 pub counted-bytes-spec : {M : Type 1} → statement M
 counted-bytes-spec =

@@ -1,6 +1,8 @@
 -- The nesting suffices for the operands (Read: some-nesting, children-in).
 use Rattle.input.proofs.Read.{some-nesting, children-in}
-use Rattle.input.specs.meaning.Input.{spanAt}
+use Rattle.levels.specs.meaning.Rules.{signedRules}
+use Rattle.input.proofs.Levels.{expression-at}
+use Rattle.input.specs.meaning.Input.{spanAt, partsAt}
 use Rattle.input.specs.meaning.Property.{outcomeCell}
 use native.Mathlib.Omega.{arith}
 use mathlib.Core.Path.{_∙_, ap}
@@ -35,8 +37,9 @@ outcome-cell-requires c κs = search needs
 returns-2 : tie.Need-returns-2
 returns-2 c = let a = c .before .before .before .before .before .before .args in
     c .outcome-cell .ensures (a .words .now) (a .text .now)
-    ∙ rw (← c .before .before .child-at .ensures) (ap (outcomeCell (a .size) (spanAt (a .words .now) (a .r)))
-    (c .before .eval-first .ensures))
+    ∙ ap (outcomeCell signedRules (a .size) (spanAt (a .words .now) (a .r))) (c .before .eval-first .ensures)
+    ∙ rw (c .before .before .child-at .ensures)
+    (expression-at (a .level) (a .size) (spanAt (a .words .now) (a .r)) (partsAt (a .words .now) (a .text .now) (a .r)))
 
 pub expression-cell-spec : {M : Type 1} → statement M
 expression-cell-spec =

@@ -1,6 +1,7 @@
 -- By the cases of the expression's outcome.
 use Rattle.input.specs.meaning.Property.{numberCell, outcomeCell}
 use Rattle.paths_numbers.specs.meaning.Cell.{bitsOf, exprCell}
+use Rattle.levels.specs.meaning.Rules.{signedRules}
 use Rattle.paths_numbers.proofs.Integers.{read}
 use Rattle.input.specs.machine.Evaluation.{outcomeOf}
 use Rattle.input.specs.meaning.Input.{spanAt}
@@ -33,19 +34,19 @@ returns c = let a = c .before .before .before .before .before .args in
     c .fitted-cell .ensures words text
     ∙ ap (numberCell (spanAt words (a .r))) (c .before .expr-cell .ensures
     ∙ ap (exprCell (bitsOf (a .size))) (read (record { sfits = c .before .before .known-told .given .0 .1 })))
-    ∙ sym (ap (λ e. outcomeCell (a .size) (spanAt words (a .r)) (outcomeOf words text e)) (c .before .before .before .e .given .1))
+    ∙ sym (ap (λ e. outcomeCell signedRules (a .size) (spanAt words (a .r)) (outcomeOf words text e)) (c .before .before .before .e .given .1))
 
 returns-2 : tie.Need-returns-2
 returns-2 c = let a = c .before .before .args in λ words text. sym
-    (ap (λ e. outcomeCell (a .size) (spanAt words (a .r)) (outcomeOf words text e)) (c .enum-told .given .1))
+    (ap (λ e. outcomeCell signedRules (a .size) (spanAt words (a .r)) (outcomeOf words text e)) (c .enum-told .given .1))
 
 returns-3 : tie.Need-returns-3
 returns-3 c = let a = c .before .before .before .args in λ words text. sym
-    (ap (λ e. outcomeCell (a .size) (spanAt words (a .r)) (outcomeOf words text e)) (c .before .e2 .given .1))
+    (ap (λ e. outcomeCell signedRules (a .size) (spanAt words (a .r)) (outcomeOf words text e)) (c .before .e2 .given .1))
 
 returns-4 : tie.Need-returns-4
 returns-4 c = let a = c .before .before .before .args in λ words text. sym
-    (ap (λ e. outcomeCell (a .size) (spanAt words (a .r)) (outcomeOf words text e)) (c .before .e3 .given .1))
+    (ap (λ e. outcomeCell signedRules (a .size) (spanAt words (a .r)) (outcomeOf words text e)) (c .before .e3 .given .1))
 
 pub outcome-cell-spec : {M : Type 1} → statement M
 outcome-cell-spec =

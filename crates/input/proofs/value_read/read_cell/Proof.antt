@@ -46,7 +46,7 @@ unfolding lowerCell
 returns c = let a = c .before .before .before .before .before .before .before .args in
     c .number-cell .ensures (a .words .now) (a .text .now)
     ∙ rw (c .before .parse-int-tok .ensures, c .before .before .text-at .ensures)
-    (cell-kind (a .words .now) (a .text .now) (a .r) (a .size) 15
+    (cell-kind (a .words .now) (a .text .now) (a .r) (a .level) (a .size) 15
     (sym (c .before .before .before .before .kind-at .ensures) ∙ c .before .before .before .match .keys1))
 
 returns-2 : tie.Need-returns-2
@@ -54,13 +54,13 @@ unfolding lowerCell
 returns-2 c = let a = c .before .before .before .before .before .before .before .args in
     c .fitted-cell .ensures (a .words .now) (a .text .now)
     ∙ rw (c .before .char-cell .ensures, c .before .before .number-at .ensures)
-    (cell-kind (a .words .now) (a .text .now) (a .r) (a .size) 16
+    (cell-kind (a .words .now) (a .text .now) (a .r) (a .level) (a .size) 16
     (sym (c .before .before .before .before .kind-at .ensures) ∙ c .before .before .before .match .keys2))
 
 returns-3 : tie.Need-returns-3
 unfolding lowerCell
 returns-3 c = let a = c .before .before .before .before .before .args in
-    c .expression-cell .ensures ∙ cell-kind (a .words .now) (a .text .now) (a .r) (a .size) 17
+    c .expression-cell .ensures ∙ cell-kind (a .words .now) (a .text .now) (a .r) (a .level) (a .size) 17
     (sym (c .before .before .kind-at .ensures) ∙ c .before .match .keys3)
 
 returns-4 : tie.Need-returns-4
@@ -68,29 +68,29 @@ returns-4 c = let a = c .before .before .before .before .before .before .before 
     c .reference-cell .ensures (a .words .now) (a .text .now)
     ∙ ap (referenceCell (a .size) (spanAt (a .words .now) (a .r)))
     (c .before .target-read .ensures (a .words .now) (a .text .now) (a .r) ∙ c .before .before .lower-phandle .ensures)
-    ∙ cell-reference (a .words .now) (a .text .now) (a .r) (a .size)
+    ∙ cell-reference (a .words .now) (a .text .now) (a .r) (a .level) (a .size)
     (sym (c .before .before .before .before .kind-at .ensures) ∙ c .before .before .before .match .keys4)
 
 returns-5 : tie.Need-returns-5
 unfolding lowerCell recordAt
-returns-5 c = let a = c .before .before .before .before .args in cell-kind (a .words .now) (a .text .now) (a .r) (a .size) 9
+returns-5 c = let a = c .before .before .before .before .args in cell-kind (a .words .now) (a .text .now) (a .r) (a .level) (a .size) 9
     (sym (c .before .kind-at .ensures) ∙ c .match .keys5)
 
 returns-6 : tie.Need-returns-6
 unfolding lowerCell
-returns-6 c = let a = c .before .before .before .before .args in cell-kind (a .words .now) (a .text .now) (a .r) (a .size) 3
+returns-6 c = let a = c .before .before .before .before .args in cell-kind (a .words .now) (a .text .now) (a .r) (a .level) (a .size) 3
     (sym (c .before .kind-at .ensures) ∙ c .match .keys6)
 
 returns-7 : tie.Need-returns-7
 unfolding lowerCell
-returns-7 c = let a = c .before .before .before .before .args in cell-kind (a .words .now) (a .text .now) (a .r) (a .size) 4
+returns-7 c = let a = c .before .before .before .before .args in cell-kind (a .words .now) (a .text .now) (a .r) (a .level) (a .size) 4
     (sym (c .before .kind-at .ensures) ∙ c .match .keys7)
 
 returns-8 : tie.Need-returns-8
 returns-8 c = let a = c .before .before .before .before .args in
     let k = c .before .kind-at .ensures in
     let r = c .match .rest in
-    cell-other (a .words .now) (a .text .now) (a .r) (a .size) (λ e. r .0 .0 .0 .0 .0 .0 .1 (k ∙ e)) (λ e. r .0 .0 .0 .0 .0 .1 (k ∙ e))
+    cell-other (a .words .now) (a .text .now) (a .r) (a .level) (a .size) (λ e. r .0 .0 .0 .0 .0 .0 .1 (k ∙ e)) (λ e. r .0 .0 .0 .0 .0 .1 (k ∙ e))
     (λ e. r .0 .0 .0 .0 .1 (k ∙ e))
     (λ e. r .0 .0 .0 .1 (k ∙ e)) (λ e. r .0 .0 .1 (k ∙ e)) (λ e. r .0 .1 (k ∙ e)) (λ e. r .1 (k ∙ e))
 

@@ -39,52 +39,52 @@ reference-value-requires c κs = search needs
 
 returns : tie.Need-returns
 unfolding lowerValue
-returns c = let a = c .before .before .before .before .args in value-kind (a .words .now) (a .text .now) (a .r) 12
+returns c = let a = c .before .before .before .before .args in λ level. value-kind (a .words .now) (a .text .now) (a .r) level 12
     (sym (c .before .kind-at .ensures) ∙ c .match .keys1)
 
 returns-2 : tie.Need-returns-2
 unfolding lowerValue
-returns-2 c = let a = c .before .before .before .before .before .before .before .args in
-    c .sized-list .ensures (a .words .now) (a .text .now)
+returns-2 c = let a = c .before .before .before .before .before .before .before .args in λ level.
+    c .sized-list .ensures level (a .words .now) (a .text .now)
     ∙ rw (c .before .from-token .ensures, c .before .before .text-at .ensures)
-    (value-kind (a .words .now) (a .text .now) (a .r) 13 (sym (c .before .before .before .before .kind-at .ensures)
+    (value-kind (a .words .now) (a .text .now) (a .r) level 13 (sym (c .before .before .before .before .kind-at .ensures)
     ∙ c .before .before .before .match .keys2))
 
 returns-3 : tie.Need-returns-3
 unfolding lowerValue
-returns-3 c = let a = c .before .before .before .before .before .before .before .args in
+returns-3 c = let a = c .before .before .before .before .before .before .before .args in λ level.
     let h = rw (c .before .before .text-at2 .ensures) at (c .before .bytestring-len .ensures) in
-    c .counted-bytes .ensures (a .words .now) (a .text .now) h
-    ∙ rw h (value-kind (a .words .now) (a .text .now) (a .r) 14
+    c .counted-bytes .ensures level (a .words .now) (a .text .now) h
+    ∙ rw h (value-kind (a .words .now) (a .text .now) (a .r) level 14
     (sym (c .before .before .before .before .kind-at .ensures) ∙ c .before .before .before .match .keys3))
 
 returns-4 : tie.Need-returns-4
-returns-4 c = let a = c .before .before .before .before .before .before .before .args in
-    c .reference-value .ensures (a .words .now) (a .text .now) (a .r)
+returns-4 c = let a = c .before .before .before .before .before .before .before .args in λ level.
+    c .reference-value .ensures level (a .words .now) (a .text .now) (a .r)
     ∙ ap referenceValue (c .before .target-read .ensures (a .words .now) (a .text .now) (a .r) ∙ c .before .before .lower-phandle .ensures)
-    ∙ value-reference (a .words .now) (a .text .now) (a .r) (sym (c .before .before .before .before .kind-at .ensures)
+    ∙ value-reference (a .words .now) (a .text .now) (a .r) level (sym (c .before .before .before .before .kind-at .ensures)
     ∙ c .before .before .before .match .keys4)
 
 returns-5 : tie.Need-returns-5
 unfolding lowerValue recordAt
-returns-5 c = let a = c .before .before .before .before .args in value-kind (a .words .now) (a .text .now) (a .r) 9
+returns-5 c = let a = c .before .before .before .before .args in λ level. value-kind (a .words .now) (a .text .now) (a .r) level 9
     (sym (c .before .kind-at .ensures) ∙ c .match .keys5)
 
 returns-6 : tie.Need-returns-6
 unfolding lowerValue
-returns-6 c = let a = c .before .before .before .before .args in value-kind (a .words .now) (a .text .now) (a .r) 3
+returns-6 c = let a = c .before .before .before .before .args in λ level. value-kind (a .words .now) (a .text .now) (a .r) level 3
     (sym (c .before .kind-at .ensures) ∙ c .match .keys6)
 
 returns-7 : tie.Need-returns-7
 unfolding lowerValue
-returns-7 c = let a = c .before .before .before .before .args in value-kind (a .words .now) (a .text .now) (a .r) 4
+returns-7 c = let a = c .before .before .before .before .args in λ level. value-kind (a .words .now) (a .text .now) (a .r) level 4
     (sym (c .before .kind-at .ensures) ∙ c .match .keys7)
 
 returns-8 : tie.Need-returns-8
-returns-8 c = let a = c .before .before .before .before .args in
+returns-8 c = let a = c .before .before .before .before .args in λ level.
     let k = c .before .kind-at .ensures in
     let r = c .match .rest in
-    value-other (a .words .now) (a .text .now) (a .r) (λ e. r .0 .0 .0 .0 .0 .0 .1 (k ∙ e)) (λ e. r .0 .0 .0 .0 .0 .1 (k ∙ e))
+    value-other (a .words .now) (a .text .now) (a .r) level (λ e. r .0 .0 .0 .0 .0 .0 .1 (k ∙ e)) (λ e. r .0 .0 .0 .0 .0 .1 (k ∙ e))
     (λ e. r .0 .0 .0 .0 .1 (k ∙ e))
     (λ e. r .0 .0 .0 .1 (k ∙ e)) (λ e. r .0 .0 .1 (k ∙ e)) (λ e. r .0 .1 (k ∙ e)) (λ e. r .1 (k ∙ e))
 

@@ -13,10 +13,10 @@ enum-known-t-2 : tie.Need-enum-known-t-2
 enum-known-t-2 c = search needs
 
 returns : tie.Need-returns
-returns c = λ words text r. sym (ap (λ t. referenceValue (targetGot words text r t)) (c .before .t .given .1))
+returns c = λ level words text r. sym (ap (λ t. referenceValue (targetGot words text r t)) (c .before .t .given .1))
 
 returns-2 : tie.Need-returns-2
-returns-2 c = λ words text r. sym (ap (λ t. referenceValue (targetGot words text r t)) (c .before .t2 .given .1))
+returns-2 c = λ level words text r. sym (ap (λ t. referenceValue (targetGot words text r t)) (c .before .t2 .given .1))
 
 pub reference-value-spec : {M : Type 1} → statement M
 reference-value-spec = tie.close (tie.spec enum-known-t enum-known-t-2 returns returns-2)

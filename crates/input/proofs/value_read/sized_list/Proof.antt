@@ -17,13 +17,13 @@ size-code-requires : tie.Need-size-code-requires
 size-code-requires c κs = search needs
 
 returns : tie.Need-returns
-returns c = let r = c .before .before .before .args .r in λ words text. sym
-    (ap (λ s. sizedList (spanAt words r) (chainAt words text (childAt words r)) (sizeTold s)) (c .before .size .given .1))
+returns c = let r = c .before .before .before .args .r in λ level words text. sym
+    (ap (λ s. sizedList level (spanAt words r) (chainAt words text (childAt words r)) (sizeTold s)) (c .before .size .given .1))
 
 returns-2 : tie.Need-returns-2
-returns-2 c = let a = c .before .before .args in λ words text. ap (λ n. nothing (report n [] (spanAt words (a .r)) ∷ []))
+returns-2 c = let a = c .before .before .args in λ level words text. ap (λ n. nothing (report n [] (spanAt words (a .r)) ∷ []))
     (c .size-code .ensures)
-    ∙ size-coded (spanAt words (a .r)) (chainAt words text (childAt words (a .r))) (a .size) (c .before .match .keys2)
+    ∙ size-coded level (spanAt words (a .r)) (chainAt words text (childAt words (a .r))) (a .size) (c .before .match .keys2)
 
 pub sized-list-spec : {M : Type 1} → statement M
 sized-list-spec = tie.close (tie.spec enum-known-size size-code-requires returns returns-2)

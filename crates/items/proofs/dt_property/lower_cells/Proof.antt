@@ -16,14 +16,14 @@ use Rattle.items.proofs.dt_property.lower_cells.Statement.{statement}
 use Rattle.items.proofs.dt_property.lower_cells.Tie as tie
 
 abbrev Inv-loop : tie.InvT-loop
-Inv-loop words text first size keep nesting out₀ bytes₀ r₀ next₀ out bytes r next = ChainIn words text r nesting
+Inv-loop words text first size keep nesting out₀ bytes₀ level r₀ next₀ out bytes r next = ChainIn words text r nesting
     × (length out ≡ length out₀)
     × (length bytes ≡ length bytes₀) × ((d : LowerCtx) (w b : List ℕ)
-    → FillsCells keep next d out bytes w b (lowerCells size (chainAt words text r))
-    → FillsCells keep next₀ d out₀ bytes₀ w b (lowerCells size (chainAt words text r₀)))
+    → FillsCells keep next d out bytes w b (lowerCells level size (chainAt words text r))
+    → FillsCells keep next₀ d out₀ bytes₀ w b (lowerCells level size (chainAt words text r₀)))
 
 abbrev μ-loop : tie.MeasureT-loop
-μ-loop words text first size keep nesting out₀ bytes₀ r₀ next₀ out bytes r next = rank words r
+μ-loop words text first size keep nesting out₀ bytes₀ level r₀ next₀ out bytes r next = rank words r
 
 loop-holds : tie.Need-loop-holds Inv-loop μ-loop
 loop-holds c = (c .before .before .before .before .pre .1, refl, refl, λ d w b h. h)
@@ -56,7 +56,7 @@ loop-again
       c .before .before .before .before .before .lower-cell .kept .1 .1 .1 .1 .1 .1 .0 ∙ l .inv .1,
       c .before .before .before .before .before .lower-cell .kept .1 .1 .1 .1 .1 .1 .1 .0 ∙ l .inv .2,
       λ d w b h. l .inv .3 d w b
-          (same-fills (cells-more (s .args .words .now) (s .args .text .now) (l .r) (s .pre .0) n (l .inv .0 .at n) (s .args .size))
+          (same-fills (cells-more (s .args .words .now) (s .args .text .now) (l .r) (s .pre .0) n (l .inv .0 .at n) (s .args .level) (s .args .size))
           (fills-then adding-cells (s .args .keep) _ _ (c .before .before .before .before .before .lower-cell .ensures) h)),
     )
 
@@ -68,7 +68,7 @@ same-length-2 c = c .before .loop .inv .2
 
 returns : tie.Need-returns Inv-loop μ-loop
 returns c = let s = c .before .before .before .before .before .before in let l = c .before .loop in
-    l .inv .3 _ _ _ (same-fills (cells-end (s .args .words .now) (s .args .text .now) (l .r) (s .args .size) (c .loop-test .left))
+    l .inv .3 _ _ _ (same-fills (cells-end (s .args .words .now) (s .args .text .now) (l .r) (s .args .level) (s .args .size) (c .loop-test .left))
     (fills-none adding-cells (s .args .keep)))
 
 pub lower-cells-spec : {M : Type 1} → statement M

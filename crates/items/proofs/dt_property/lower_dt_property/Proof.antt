@@ -11,7 +11,7 @@ use Rattle.items.proofs.dt_property.lower_dt_property.Tie as tie
 returns : tie.Need-returns
 returns c = let a = c .before .before .before .before .before .args in
     let words = a .words .now in
-    property-short (chainAt words (a .text .now) (childAt words (a .r))) (chainAt words (a .text .now) (secondAt words (a .r)))
+    property-short (a .level) (chainAt words (a .text .now) (childAt words (a .r))) (chainAt words (a .text .now) (secondAt words (a .r)))
     (spanAt words (a .r)) (c .if1 .taken)
 
 is-top-requires : tie.Need-is-top-requires
@@ -30,7 +30,7 @@ returns-2 : tie.Need-returns-2
 returns-2
     c = let a = c .before .before .before .before .before .before .before .before .before .before .before .before .before .before .args in
     let words = a .words .now in
-    property-top (chainAt words (a .text .now) (childAt words (a .r))) (chainAt words (a .text .now) (secondAt words (a .r)))
+    property-top (a .level) (chainAt words (a .text .now) (childAt words (a .r))) (chainAt words (a .text .now) (secondAt words (a .r)))
     (spanAt words (a .r)) (c .before .before .before .before .before .before .before .before .before .if1 .left)
     (sym (c .before .before .before .before .before .before .before .before .is-top .ensures)
     ∙ c .before .before .before .before .before .before .before .if2 .taken) (c .before .before .before .before .emit-code .ensures)
@@ -98,7 +98,7 @@ returns-3
     in
     let words = s .args .words .now in
     let text = s .args .text .now in
-    property-lowers words text (s .args .r)
+    property-lowers (s .args .level) words text (s .args .r)
     (c .before .before .before .before .before .before .before .before .before .before .before .before .before .before .before .before
     .before .before .before .before .before .before .before .full-name .result)
     (rw (c .before .before .before .before .before .before .before .before .before .before .before .before .before .before .before

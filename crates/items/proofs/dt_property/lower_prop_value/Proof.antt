@@ -36,9 +36,9 @@ same-length-2 c = search needs
 returns : tie.Need-returns
 returns c = let a = c .before .before .before .before .before .before .before .before .before .before .before .before .before .before
     .before .args in
-    same-fills (sym (ap (valueMade (a .words .now) (a .text .now) (a .r))
+    same-fills (sym (ap (valueMade (a .words .now) (a .text .now) (a .r) (a .level))
     (c .before .before .before .before .before .before .before .before .value .given .1))
-    ∙ c .before .before .before .before .before .before .before .before .before .before .read-value .ensures)
+    ∙ c .before .before .before .before .before .before .before .before .before .before .read-value .ensures (a .level))
     (c .before .before .before .before .push-value .ensures)
 
 same-length-3 : tie.Need-same-length-3
@@ -51,9 +51,9 @@ returns-2 : tie.Need-returns-2
 returns-2
     c = let a = c .before .before .before .before .before .before .before .before .before .before .before .before .before .before .before
     .args in
-    same-fills (sym (ap (valueMade (a .words .now) (a .text .now) (a .r))
+    same-fills (sym (ap (valueMade (a .words .now) (a .text .now) (a .r) (a .level))
     (c .before .before .before .before .before .before .before .before .size .given .1))
-    ∙ c .before .before .before .before .before .before .before .before .before .before .read-value .ensures)
+    ∙ c .before .before .before .before .before .before .before .before .before .before .read-value .ensures (a .level))
     (c .before .before .before .before .lower-cell-list .ensures)
 
 same-length-5 : tie.Need-same-length-5
@@ -66,9 +66,9 @@ returns-3 : tie.Need-returns-3
 returns-3
     c = let a = c .before .before .before .before .before .before .before .before .before .before .before .before .before .before .before
     .args in
-    same-fills (sym (ap (valueMade (a .words .now) (a .text .now) (a .r))
+    same-fills (sym (ap (valueMade (a .words .now) (a .text .now) (a .r) (a .level))
     (c .before .before .before .before .before .before .before .before .report .given .1))
-    ∙ c .before .before .before .before .before .before .before .before .before .before .read-value .ensures)
+    ∙ c .before .before .before .before .before .before .before .before .before .before .read-value .ensures (a .level))
     (fills-reports adding-values (a .keep) _ (c .before .before .before .before .emit-report .ensures))
 
 pub lower-prop-value-spec : {M : Type 1} → statement M

@@ -16,13 +16,13 @@ use Rattle.items.proofs.dt_property.lower_prop_values.Statement.{statem
 use Rattle.items.proofs.dt_property.lower_prop_values.Tie as tie
 
 abbrev Inv-loop : tie.InvT-loop
-Inv-loop words text first keep nesting out₀ bytes₀ r₀ next₀ out bytes r next = ChainIn words text r nesting × (length out ≡ length out₀)
+Inv-loop words text first keep nesting out₀ bytes₀ level r₀ next₀ out bytes r next = ChainIn words text r nesting × (length out ≡ length out₀)
     × (length bytes ≡ length bytes₀) × ((d : LowerCtx) (w b : List ℕ)
-    → FillsProperty keep next d out bytes w b (lowerValues (chainAt words text r))
-    → FillsProperty keep next₀ d out₀ bytes₀ w b (lowerValues (chainAt words text r₀)))
+    → FillsProperty keep next d out bytes w b (lowerValues level (chainAt words text r))
+    → FillsProperty keep next₀ d out₀ bytes₀ w b (lowerValues level (chainAt words text r₀)))
 
 abbrev μ-loop : tie.MeasureT-loop
-μ-loop words text first keep nesting out₀ bytes₀ r₀ next₀ out bytes r next = rank words r
+μ-loop words text first keep nesting out₀ bytes₀ level r₀ next₀ out bytes r next = rank words r
 
 loop-holds : tie.Need-loop-holds Inv-loop μ-loop
 loop-holds c = (c .before .before .before .before .pre .1, refl, refl, λ d w b h. h)
@@ -55,7 +55,7 @@ loop-again
       c .before .before .before .before .before .lower-prop-value .kept .1 .1 .1 .1 .1 .0 ∙ l .inv .1,
       c .before .before .before .before .before .lower-prop-value .kept .1 .1 .1 .1 .1 .1 .0 ∙ l .inv .2,
       λ d w b h. l .inv .3 d w b
-          (same-fills (values-more (s .args .words .now) (s .args .text .now) (l .r) (s .pre .0) n (l .inv .0 .at n))
+          (same-fills (values-more (s .args .words .now) (s .args .text .now) (l .r) (s .pre .0) n (l .inv .0 .at n) (s .args .level))
           (fills-then adding-values (s .args .keep) _ _ (c .before .before .before .before .before .lower-prop-value .ensures) h)),
     )
 
@@ -67,7 +67,7 @@ same-length-2 c = c .before .loop .inv .2
 
 returns : tie.Need-returns Inv-loop μ-loop
 returns c = let s = c .before .before .before .before .before .before in let l = c .before .loop in
-    l .inv .3 _ _ _ (same-fills (values-end (s .args .words .now) (s .args .text .now) (l .r) (c .loop-test .left))
+    l .inv .3 _ _ _ (same-fills (values-end (s .args .words .now) (s .args .text .now) (l .r) (s .args .level) (c .loop-test .left))
     (fills-none adding-values (s .args .keep)))
 
 pub lower-prop-values-spec : {M : Type 1} → statement M

@@ -31,11 +31,11 @@ returns c =
     .before .before .before .before .before .lower-top in
     let checks = c .before .before .before .before .before .before .before .before .before .before .before .before .check-mir-post in
     let zeros = c .before .before .before .before .clear .ensures in
-    lowered-short (s .args .words .now) (s .args .text .now) (made .ensures)
+    lowered-short (s .args .level) (s .args .words .now) (s .args .text .now) (made .ensures)
     (c .before .before .before .before .before .before .before .before .before .before .before .before .before .start-checks .ensures)
-    (checks .ensures) (s .pre)
-    (checks .kept .0 ∙ made .kept .1 .1 .0)
-    (checks .kept .1 .0 ∙ made .kept .1 .1 .1 .0)
+    (checks .ensures) (s .pre .0) (s .pre .1)
+    (checks .kept .0 ∙ made .kept .1 .1 .1 .0)
+    (checks .kept .1 .0 ∙ made .kept .1 .1 .1 .1 .0)
     _ (c .before .before .before .before .before .before .before .if1 .taken) refl (zeros .0) (zeros .1)
 
 finish-requires : tie.Need-finish-requires
@@ -54,11 +54,11 @@ returns-2 c =
     let made = c .before .before .before .before .before .before .before .before .before .before .before .before .before .before .before
     .before .before .lower-top in
     let checks = c .before .before .before .before .before .before .before .before .before .check-mir-post in
-    lowered-done (s .args .words .now) (s .args .text .now) (made .ensures)
+    lowered-done (s .args .level) (s .args .words .now) (s .args .text .now) (made .ensures)
     (c .before .before .before .before .before .before .before .before .before .before .start-checks .ensures) (checks .ensures)
-    (s .pre)
-    (checks .kept .0 ∙ made .kept .1 .1 .0)
-    (checks .kept .1 .0 ∙ made .kept .1 .1 .1 .0)
+    (s .pre .0) (s .pre .1)
+    (checks .kept .0 ∙ made .kept .1 .1 .1 .0)
+    (checks .kept .1 .0 ∙ made .kept .1 .1 .1 .1 .0)
     _ (c .before .before .before .before .if1 .left) refl (c .before .before .finish .ensures)
 
 pub lower-accepted-spec : {M : Type 1} → statement M

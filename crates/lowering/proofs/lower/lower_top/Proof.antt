@@ -31,7 +31,7 @@ returns : tie.Need-returns
 returns c =
     let a = c .before .before .before .before .before .before .before .before .before .before .before .before .before .before .before
     .before .before .before .before .args in
-    top-lowered (a .words .now) (a .text .now)
+    top-lowered (a .level) (a .words .now) (a .text .now)
     (c .before .before .before .before .before .before .before .before .before .before .before .before .start .ensures)
     (rw (c .before .before .before .before .before .before .before .child-at .ensures) at
     (c .before .before .before .before .lower-items .ensures))

@@ -162,7 +162,7 @@ lower-apart-returns t c = enters-apart _ refl (c .before .before .before .before
     (c .before .before .before .before .lower-items .ensures))
 
 lower-dt-node-returns : (t : ℕ) → lower-dt-node-lts.Need-returns (lower-dt-node-claims t) (lower-dt-node-at t) lower-dt-node.Post
-lower-dt-node-returns t c = let a = c .before .before .before .before .before .args in short-lowers (λ p. node-grows _ _ _ p)
+lower-dt-node-returns t c = let a = c .before .before .before .before .before .args in short-lowers (λ p. node-grows _ _ _ _ p)
     (c .if1 .taken)
 
 lower-dt-node-place-node-requires : (t : ℕ) → lower-dt-node-lts.Need-place-node-requires (lower-dt-node-claims t) (lower-dt-node-at t)
@@ -259,7 +259,7 @@ lower-dt-node-returns-2 : (t : ℕ) → lower-dt-node-lts.Need-returns-2 (lower-
 lower-dt-node-returns-2 t
     c = let s = c .before .before .before .before .before .before .before .before .before .before .before .before .before .before .before
     .before .before .before .before .before .before .before .before .before in node-at
-    (λ q u. lowerItems (chainAt (s .args .words .now) (s .args .text .now) (secondAt (s .args .words .now) (s .args .r))) q u)
+    (λ q u. lowerItems (s .args .level) (chainAt (s .args .words .now) (s .args .text .now) (secondAt (s .args .words .now) (s .args .r))) q u)
     (c .before .before .before .before .before .before .before .before .before .before .before .before .before .before .before .before
     .before .before .before .if1 .left)
     (c .before .before .before .before .before .before .before .before .before .before .before .before .before .before .before .before
@@ -285,7 +285,7 @@ lower-dt-node-returns-3 : (t : ℕ) → lower-dt-node-lts.Need-returns-3 (lower-
 lower-dt-node-returns-3 t
     c = let s = c .before .before .before .before .before .before .before .before .before .before .before .before .before .before .before
     .before .before .before .before .before .before .before .before .before .before .before .before .before .before .before in node-aside
-    (λ q u. lowerItems (chainAt (s .args .words .now) (s .args .text .now) (secondAt (s .args .words .now) (s .args .r))) q u)
+    (λ q u. lowerItems (s .args .level) (chainAt (s .args .words .now) (s .args .text .now) (secondAt (s .args .words .now) (s .args .r))) q u)
     (c .before .before .before .before .before .before .before .before .before .before .before .before .before .before .before .before
     .before .before .before .before .before .before .before .before .before .if1 .left)
     (c .before .before .before .before .before .before .before .before .before .before .before .before .before .before .before .before
@@ -312,7 +312,7 @@ lower-dt-node-returns-4 : (t : ℕ) → lower-dt-node-lts.Need-returns-4 (lower-
 lower-dt-node-returns-4 t
     c = let s = c .before .before .before .before .before .before .before .before .before .before .before .before .before .before .before
     .before .before .before .before .before .before .before .before .before .before .before .before .before .before in node-discarded
-    (λ q u. lowerItems (chainAt (s .args .words .now) (s .args .text .now) (secondAt (s .args .words .now) (s .args .r))) q u)
+    (λ q u. lowerItems (s .args .level) (chainAt (s .args .words .now) (s .args .text .now) (secondAt (s .args .words .now) (s .args .r))) q u)
     (c .before .before .before .before .before .before .before .before .before .before .before .before .before .before .before .before
     .before .before .before .before .before .before .before .before .if1 .left)
     (c .before .before .before .before .before .before .before .before .before .before .before .before .before .before .before .before
@@ -332,7 +332,7 @@ lower-dt-node-same-length-8 t c = c .before .before .before .before .before .bef
 lower-dt-node-returns-5 : (t : ℕ) → lower-dt-node-lts.Need-returns-5 (lower-dt-node-claims t) (lower-dt-node-at t) lower-dt-node.Post
 lower-dt-node-returns-5 t
     c = let s = c .before .before .before .before .before .before .before .before .before .before .before .before .before .before
-    .before in node-nowhere (λ q u. lowerItems (chainAt (s .args .words .now) (s .args .text .now)
+    .before in node-nowhere (λ q u. lowerItems (s .args .level) (chainAt (s .args .words .now) (s .args .text .now)
     (secondAt (s .args .words .now) (s .args .r))) q u)
     (c .before .before .before .before .before .before .before .before .before .before .if1 .left)
     (c .before .before .before .before .before .before .before .place-node .ensures) (c .enum-told2 .given .1)
@@ -356,7 +356,7 @@ lower-item-same-length-2 t c = search needs
 lower-item-returns : (t : ℕ) → lower-item-lts.Need-returns (lower-item-claims t) (lower-item-at t) lower-item.Post
 lower-item-returns t
     c = let a = c .before .before .before .before .before .before .before .before .before .before .before .before .before .args in is-node
-    (a .words .now) (a .text .now) (a .r) (sym (c .before .before .before .before .before .before .before .before .kind-at .ensures)
+    (a .level) (a .words .now) (a .text .now) (a .r) (sym (c .before .before .before .before .before .before .before .before .kind-at .ensures)
     ∙ c .before .before .before .before .before .before .before .if1 .taken) (c .before .before .before .before .lower-dt-node .ensures)
 
 lower-item-lower-dt-property-requires : (t : ℕ) → lower-item-lts.Need-lower-dt-property-requires (lower-item-claims t) (lower-item-at t)
@@ -377,7 +377,7 @@ lower-item-returns-2 : (t : ℕ) → lower-item-lts.Need-returns-2 (lower-item-c
 lower-item-returns-2 t
     c = let a = c .before .before .before .before .before .before .before .before .before .before .before .before .before .before
     .args in let k = c .before .before .before .before .before .before .before .before .before .kind-at .ensures in is-property
-    (a .words .now) (a .text .now) (a .r) (λ e. c .before .before .before .before .before .before .before .before .if1 .left (k ∙ e))
+    (a .level) (a .words .now) (a .text .now) (a .r) (λ e. c .before .before .before .before .before .before .before .before .if1 .left (k ∙ e))
     (sym k ∙ c .before .before .before .before .before .before .before .if2 .taken)
     (c .before .before .before .before .lower-dt-property .ensures)
 
@@ -399,7 +399,7 @@ lower-item-returns-3 : (t : ℕ) → lower-item-lts.Need-returns-3 (lower-item-c
 lower-item-returns-3 t
     c = let a = c .before .before .before .before .before .before .before .before .before .before .before .before .before .before .before
     .args in let k = c .before .before .before .before .before .before .before .before .before .before .kind-at .ensures in is-directive
-    (a .words .now) (a .text .now) (a .r) (λ e. c .before .before .before .before .before .before .before .before .before .if1 .left
+    (a .level) (a .words .now) (a .text .now) (a .r) (λ e. c .before .before .before .before .before .before .before .before .before .if1 .left
     (k ∙ e)) (λ e. c .before .before .before .before .before .before .before .before .if2 .left (k ∙ e))
     (sym k ∙ c .before .before .before .before .before .before .before .if3 .taken)
     (c .before .before .before .before .handle-dts-directive .ensures)
@@ -417,7 +417,7 @@ lower-item-returns-4 : (t : ℕ) → lower-item-lts.Need-returns-4 (lower-item-c
 lower-item-returns-4 t
     c = let a = c .before .before .before .before .before .before .before .before .before .before .before .before .before .before .before
     .before .args in let k = c .before .before .before .before .before .before .before .before .before .before .before .kind-at
-    .ensures in is-preprocessor (a .words .now) (a .text .now) (a .r)
+    .ensures in is-preprocessor (a .level) (a .words .now) (a .text .now) (a .r)
     (λ e. c .before .before .before .before .before .before .before .before .before .before .if1 .left (k ∙ e))
     (λ e. c .before .before .before .before .before .before .before .before .before .if2 .left (k ∙ e))
     (λ e. c .before .before .before .before .before .before .before .before .if3 .left (k ∙ e))
@@ -426,23 +426,23 @@ lower-item-returns-4 t
 lower-item-returns-5 : (t : ℕ) → lower-item-lts.Need-returns-5 (lower-item-claims t) (lower-item-at t) lower-item.Post
 lower-item-returns-5 t
     c = let a = c .before .before .before .before .before .before .before .before .before .args in let k = c .before .before .before .before
-    .kind-at .ensures in is-other (a .words .now) (a .text .now) (a .r) (λ e. c .before .before .before .if1 .left (k ∙ e))
+    .kind-at .ensures in is-other (a .level) (a .words .now) (a .text .now) (a .r) (λ e. c .before .before .before .if1 .left (k ∙ e))
     (λ e. c .before .before .if2 .left (k ∙ e)) (λ e. c .before .if3 .left (k ∙ e)) (λ e. c .if4 .left (k ∙ e))
 
 abbrev lower-items-Inv-loop : lower-items-lts.InvT-loop
-lower-items-Inv-loop words text first parent nesting out₀ bytes₀ state₀ r₀ out bytes state r =
+lower-items-Inv-loop words text first parent nesting out₀ bytes₀ level state₀ r₀ out bytes state r =
     (length out ≡ length out₀) × (length bytes ≡ length bytes₀)
-    × ItemsTo parent state₀ state out₀ bytes₀ out bytes words text first nesting r
+    × ItemsTo level parent state₀ state out₀ bytes₀ out bytes words text first nesting r
 
 abbrev lower-items-μ-loop : lower-items-lts.MeasureT-loop
-lower-items-μ-loop words text first parent nesting out₀ bytes₀ state₀ r₀ out bytes state r = rank words r
+lower-items-μ-loop words text first parent nesting out₀ bytes₀ level state₀ r₀ out bytes state r = rank words r
 
 lower-items-loop-holds : (t : ℕ) → lower-items-lts.Need-loop-holds (lower-items-claims t) (lower-items-at t) lower-items.Post
     lower-items-Inv-loop lower-items-μ-loop
 lower-items-loop-holds t c = let s = c .before .before .before .before in (
   refl,
   refl,
-  items-start (s .args .words .now)
+  items-start (s .args .level) (s .args .words .now)
       (s .args .text .now) (s .args .first) (s .args .nesting) (s .pre .1 .1 .0) (s .pre .1 .1 .1),
 )
 

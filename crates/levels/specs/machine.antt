@@ -1,0 +1,2 @@
+-- Steps of the code, which contracts inside the library cite.
+pub mod Held
