@@ -3,6 +3,7 @@
 pub mod answer;
 pub mod build;
 pub mod by_01;
+pub mod by_02;
 pub mod codes;
 pub mod counts;
 pub mod coverage;

@@ -12,7 +12,8 @@ use crate::{
 };
 
 /// How a file begins.
-pub const HEAD: &str = "-- Descriptions with the Rust's answers, in the judge's notation and as words and text.
+pub const HEAD: &str =
+    "-- Descriptions with the Rust's answers, in the judge's notation and as words and text.
 use Prim.Native.Nat.{ℕ}
 use mathlib.Core.Bool.{true, false}
 use mathlib.Core.Path.{_≡_, refl}

@@ -1,0 +1,3 @@
+//! 02's sentences where they add to 01's, not taken from our sources.
+
+pub mod level_2;
