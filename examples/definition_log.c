@@ -1,10 +1,10 @@
-/* Lowers a small description by include/definition_log.h, prints its log, asks the three queries of it, and shows refusals:
+/* Lowers a small description by include/definition_log.h, prints its log, asks the three queries of it, and shows refusals and levels:
  *   rt staticlib definition_log_c
  *   gcc -Iinclude examples/definition_log.c target/staticlib/libdefinition_log_c.a -o target/definition_log && target/definition_log
  *
  * definition_log.expected is what it must print. Its definitions, bindings, diagnostics, live lists and histories are the Rust's answers
  * (`differential/run ask`), its counts and refusals 01's table, counted by hand. The numbers of the log's records, which 01 leaves open,
- * are not printed. */
+ * are not printed. -1 / 2 is 0 in C's signed 64 bits, and 2^63 - 1 in unsigned ones, as 02 has it. */
 #include <inttypes.h>
 #include <stdio.h>
 #include <string.h>
@@ -52,6 +52,23 @@ static const uint32_t description[] = {
     DL_IN_REFERENCE, 0, 0, 91, 4, DL_W_BY_NAME, 90, 95      /* 27: &lost */
 };
 #define DESCRIPTION_LEN (sizeof description / sizeof description[0])
+
+/* A property whose value depends on the level, and its description. */
+static const char expression_source[] = "/ { ink = /bits/ 64 <(-1 / 2)>; };";
+static const uint32_t expression[] = {
+    0, 0, 1, 0, 0, 0, 0, 0,
+    DL_IN_NODE, 0, 2, 0, 0, 3, 0, 34,                /* 1: / */
+    DL_IN_SLASH, 0, 0, 0, 0, 0, 0, 1,
+    DL_IN_PROPERTY, 0, 4, 0, 0, 5, 4, 31,            /* 3: ink = ..; */
+    DL_IN_NAME, 0, 0, 4, 3, 0, 4, 7,
+    DL_IN_CELL_LIST, 0, 6, 17, 2, 0, 10, 30,         /* 5: /bits/ 64 <..> */
+    DL_IN_EXPRESSION, 0, 7, 0, 0, 0, 21, 29,
+    DL_IN_INFIX, 0, 8, 0, 0, DL_W_DIVIDE, 22, 28,    /* 7: -1 / 2 */
+    DL_IN_PREFIX, 10, 9, 0, 0, DL_W_MINUS, 22, 24,   /* 8: -1 */
+    DL_IN_NUMBER, 0, 0, 23, 1, 0, 23, 24,
+    DL_IN_NUMBER, 0, 0, 27, 1, 0, 27, 28
+};
+#define EXPRESSION_LEN (sizeof expression / sizeof expression[0])
 
 /* The buffers for the log. Number 7 would say that they are too small. */
 static uint32_t words[32 * DL_RECORD_WORDS];
@@ -113,6 +130,9 @@ static void told(const char *what, struct DlAnswer answer)
         break;
     case DL_LIST_TOO_SHORT:
         printf("the list must hold %" PRIu32 "\n", answer.returned);
+        break;
+    case DL_NO_LEVEL:
+        printf("this is no level\n");
         break;
     }
 }
@@ -204,7 +224,23 @@ static void nested(void)
         input[n * DL_IN_RECORD_WORDS + DL_IN_KIND] = DL_IN_NODE;
         input[n * DL_IN_RECORD_WORDS + DL_IN_W] = n < DEEP ? n + 1 : 0;
     }
-    told("65 nodes inside one another", dl_lower(input, sizeof input / sizeof input[0], NULL, 0, DL_LEVEL_SIGNED, words, WORDS, bytes, BYTES));
+    told("65 nodes inside one another",
+         dl_lower(input, sizeof input / sizeof input[0], NULL, 0, DL_LEVEL_SIGNED, words, WORDS, bytes, BYTES));
+}
+
+/* Lowers the expression at a level, and prints its value: the first cell of the last definition's first value. */
+static void reckoned(const char *what, uint32_t level)
+{
+    struct DlAnswer answer = dl_lower(expression, EXPRESSION_LEN, TEXT(expression_source), level, words, WORDS, bytes, BYTES);
+    if (answer.number != DL_ANSWERED) {
+        told(what, answer);
+        return;
+    }
+    uint32_t last = words[DL_FIRST_DEFINITION];
+    while (record(last)[DL_NEXT] != 0)
+        last = record(last)[DL_NEXT];
+    const uint32_t *cell = record(record(record(last)[DL_CHILD])[DL_CHILD]);
+    printf("%s: %" PRIu64 "\n", what, (uint64_t)cell[DL_M] << 32 | cell[DL_N]);
 }
 
 int main(void)
@@ -240,6 +276,12 @@ int main(void)
     changed("a property without a name's bytes", 15, DL_IN_TEXT_LENGTH, 0);
     nested();
     printf("a node at /b: %" PRIu32 " still\n", dl_contains_node(words, WORDS, bytes, BYTES, TEXT("/b")).returned);
-    told("room for 4 records", dl_lower(description, DESCRIPTION_LEN, TEXT(source), DL_LEVEL_SIGNED, words, 4 * DL_RECORD_WORDS, bytes, BYTES));
+    told("room for 4 records",
+         dl_lower(description, DESCRIPTION_LEN, TEXT(source), DL_LEVEL_SIGNED, words, 4 * DL_RECORD_WORDS, bytes, BYTES));
+
+    /* What an expression is reckoned with. */
+    reckoned("-1 / 2 at level 1", DL_LEVEL_SIGNED);
+    reckoned("-1 / 2 at level 2", DL_LEVEL_UNSIGNED);
+    reckoned("-1 / 2 at level 3", DL_LEVEL_UNSIGNED + 1);
     return 0;
 }

@@ -278,10 +278,10 @@ enum {
  * no expression cell (DL_IN_EXPRESSION) lowers alike at both. Any other level is DL_NO_LEVEL. */
 enum { DL_LEVEL_SIGNED = 1, DL_LEVEL_UNSIGNED = 2 };
 
-/* Lowers the description in `words` and `text` at a level into `out` and `bytes`: the log of its top items, then of the post checks. What the
- * buffers held before does not matter. `out` holds as many records as it has times 16 words, and DL_RECORDS_USED and DL_BYTES_USED of the
- * log say how much was needed. Words of `out` behind its last whole record are 0 then; leave them out where the log is lent to a query,
- * which asks for 16 times 1 or more. */
+/* Lowers the description in `words` and `text` at a level into `out` and `bytes`: the log of its top items, then of the post checks. What
+ * the buffers held before does not matter. `out` holds as many records as it has times 16 words, and DL_RECORDS_USED and DL_BYTES_USED of
+ * the log say how much was needed. Words of `out` behind its last whole record are 0 then; leave them out where the log is lent to a
+ * query, which asks for 16 times 1 or more. */
 struct DlAnswer dl_lower(const uint32_t *words, size_t words_len, const uint8_t *text, size_t text_len, uint32_t level,
                          uint32_t *out, size_t out_len, uint8_t *bytes, size_t bytes_len);
 

@@ -59,6 +59,26 @@ impl Level {
     }
 }
 
+impl TryFrom<u32> for Level {
+    type Error = LowerError;
+
+    /// The level of a number, or [`NoLevel`](LowerError::NoLevel).
+    ///
+    /// ```
+    /// use definition_log::{Level, LowerError};
+    ///
+    /// assert_eq!(Level::try_from(2), Ok(Level::Unsigned));
+    /// assert_eq!(Level::try_from(0), Err(LowerError::NoLevel { level: 0 }));
+    /// ```
+    fn try_from(number: u32) -> Result<Level, LowerError> {
+        match number {
+            1 => Ok(Level::Signed),
+            2 => Ok(Level::Unsigned),
+            level => Err(LowerError::NoLevel { level }),
+        }
+    }
+}
+
 /// A description that someone holds: its words, 8 to a record, and its text. It may be broken; lowering
 /// tests it first.
 ///
@@ -213,7 +233,8 @@ impl<'a> Description<'a> {
     pub fn lower_into<'b>(&self, out: &'b mut [u32], bytes: &'b mut [u8]) -> Result<Log<'b>, LowerError> {
         let records = out.len() / RECORD_WORDS;
         let answer = calls::lower(self.words, self.text, self.level.number(), out, bytes);
-        LowerError::or_lowered(answer, (self.words.len(), self.text.len()), (records, bytes.len()))?;
+        let input = (self.words.len(), self.text.len());
+        LowerError::or_lowered(answer, input, self.level.number(), (records, bytes.len()))?;
         Ok(Log::new(&out[..records * RECORD_WORDS], bytes))
     }
 }

@@ -4,8 +4,8 @@ use std::{error::Error, fmt};
 
 use crate::{calls::DlAnswer, read::MOST_RECORDS};
 
-/// Why a description is not lowered: rows 1 to 7 of 01's table, tried in this order, each over all
-/// records before the next. A record that is named is the lowest one at fault.
+/// Why a description is not lowered: number 18 of 02, then rows 1 to 7 of 01's table, tried in this order,
+/// each over all records before the next. A record that is named is the lowest one at fault.
 ///
 /// After all but [`NoRoom`](LowerError::NoRoom) the buffers are as they were; after that, zeros.
 ///
@@ -117,6 +117,22 @@ pub enum LowerError {
         /// How many bytes the other buffer holds.
         bytes: usize,
     },
+    /// A number that is no [`Level`](crate::Level): it is neither 1 nor 2.
+    ///
+    /// ```
+    /// use definition_log::{Level, LowerError};
+    ///
+    /// let refused = Level::try_from(3).unwrap_err();
+    /// assert_eq!(refused, LowerError::NoLevel { level: 3 });
+    /// assert_eq!(
+    ///     refused.to_string(),
+    ///     "3 is no level (number 18): it must be 1, signed expressions, or 2, unsigned ones"
+    /// );
+    /// ```
+    NoLevel {
+        /// The number that was given.
+        level: u32,
+    },
 }
 
 /// The most bytes of a log.
@@ -126,13 +142,14 @@ pub(crate) const MOST_BYTES: usize = 1 << 24;
 const MOST_INPUT_WORDS: usize = 8 * 2048;
 
 impl LowerError {
-    /// 01's number: 1 to 7.
+    /// 01's number, 1 to 7, or 02's, 18.
     ///
     /// ```
     /// use definition_log::LowerError;
     ///
     /// assert_eq!(LowerError::BadLink { record: 3 }.number(), 2);
     /// assert_eq!(LowerError::NoRoom { records: 0, bytes: 0 }.number(), 7);
+    /// assert_eq!(LowerError::NoLevel { level: 0 }.number(), 18);
     /// ```
     #[must_use]
     pub const fn number(self) -> u32 {
@@ -144,14 +161,16 @@ impl LowerError {
             LowerError::BadName { .. } => 5,
             LowerError::TooDeep { .. } => 6,
             LowerError::NoRoom { .. } => 7,
+            LowerError::NoLevel { .. } => 18,
         }
     }
 
     /// Nothing with number 0, or the error that another number stands for; `input` has the words and
-    /// bytes of the description, and `room` the records and bytes of the buffers.
+    /// bytes of the description, `level` its level's number, and `room` the records and bytes of the buffers.
     pub(crate) fn or_lowered(
         answer: DlAnswer,
         input: (usize, usize),
+        level: u32,
         room: (usize, usize),
     ) -> Result<(), LowerError> {
         let record = answer.returned;
@@ -164,8 +183,8 @@ impl LowerError {
             5 => Err(LowerError::BadName { record }),
             6 => Err(LowerError::TooDeep { record }),
             7 => Err(LowerError::NoRoom { records: room.0, bytes: room.1 }),
-            // 18 is of a level that is none, and a `Level` is always one.
-            number => unreachable!("the library answers 0 to 7 at these levels, and this is {number}"),
+            18 => Err(LowerError::NoLevel { level }),
+            number => unreachable!("the library answers 0 to 7 and 18, and this is {number}"),
         }
     }
 }
@@ -229,6 +248,10 @@ impl fmt::Display for LowerError {
                 "the log does not fit (number 7): there was room for {records} records and {bytes} bytes; lend \
                  more of both, up to 65,536 records of 16 words and 16,777,216 bytes"
             ),
+            LowerError::NoLevel { level } => write!(
+                f,
+                "{level} is no level (number 18): it must be 1, signed expressions, or 2, unsigned ones"
+            ),
         }
     }
 }
@@ -240,7 +263,7 @@ mod tests {
     use super::*;
 
     fn answer(number: u32, returned: u32) -> Result<(), LowerError> {
-        LowerError::or_lowered(DlAnswer { number, returned }, (24, 5), (2, 9))
+        LowerError::or_lowered(DlAnswer { number, returned }, (24, 5), 3, (2, 9))
     }
 
     #[test]
@@ -253,7 +276,8 @@ mod tests {
         assert_eq!(answer(5, 5), Err(LowerError::BadName { record: 5 }));
         assert_eq!(answer(6, 5), Err(LowerError::TooDeep { record: 5 }));
         assert_eq!(answer(7, 0), Err(LowerError::NoRoom { records: 2, bytes: 9 }));
-        for number in 1..8 {
+        assert_eq!(answer(18, 0), Err(LowerError::NoLevel { level: 3 }));
+        for number in (1..8).chain([18]) {
             assert_eq!(answer(number, 0).unwrap_err().number(), number);
         }
     }

@@ -66,12 +66,14 @@ literal-coded span Kind.NegOverflow = refl
 -- an expression record, by its kind
 module _ (level : ℕ) (words text : List ℕ) (r : ℕ) where
   eval-record : eval (rulesAt level) (recordAt words text r)
-      ≡ combined (rulesAt level) (kindAt words r) (textAt words text r) (numberAt words r) (spanAt words r) (evals (rulesAt level) (chainAt words text (childAt words r)))
+      ≡ combined (rulesAt level) (kindAt words r) (textAt words text r) (numberAt words r) (spanAt words r)
+      (evals (rulesAt level) (chainAt words text (childAt words r)))
   unfolding eval recordAt
   eval-record = refl
 
   pub eval-kind : (k : ℕ) → kindAt words r ≡ k
-      → combined (rulesAt level) k (textAt words text r) (numberAt words r) (spanAt words r) (evals (rulesAt level) (chainAt words text (childAt words r))) ≡ eval
+      → combined (rulesAt level) k (textAt words text r) (numberAt words r) (spanAt words r)
+      (evals (rulesAt level) (chainAt words text (childAt words r))) ≡ eval
       (rulesAt level) (recordAt words text r)
   eval-kind k e = rw (sym e) (sym eval-record)
 
@@ -152,15 +154,18 @@ plain-infix level op span a y l =
 
 module _ (level : ℕ) (words text : List ℕ) (l : Linked words) where
   operands : (r : ℕ) → (r ≡ 0 → ⊥) → r < recordCount words
-      → evals (rulesAt level) (chainAt words text r) ≡ eval (rulesAt level) (recordAt words text r) ∷ evals (rulesAt level) (chainAt words text (nextAt words r))
+      → evals (rulesAt level) (chainAt words text r)
+      ≡ eval (rulesAt level) (recordAt words text r) ∷ evals (rulesAt level) (chainAt words text (nextAt words r))
   unfolding evals
   operands r n a = rw (chain-more words l text r n a) refl
 
   -- y is the operand behind x
   behind : (x y : ℕ) → y ≡ afterAt words x → (x ≡ 0 → ⊥) → At words x
-      → evals (rulesAt level) (chainAt words text x) ≡ eval (rulesAt level) (recordAt words text x) ∷ evals (rulesAt level) (chainAt words text y)
+      → evals (rulesAt level) (chainAt words text x)
+      ≡ eval (rulesAt level) (recordAt words text x) ∷ evals (rulesAt level) (chainAt words text y)
   behind x y e n a =
-      operands x n (a n) ∙ ap (λ (k : ℕ). eval (rulesAt level) (recordAt words text x) ∷ evals (rulesAt level) (chainAt words text k)) (sym (e ∙ after-some words x n))
+      operands x n (a n) ∙ ap (λ (k : ℕ). eval (rulesAt level) (recordAt words text x) ∷ evals (rulesAt level) (chainAt words text k))
+      (sym (e ∙ after-some words x n))
 
   -- fewer operands than two, and two
   pub infix-short : (op : ℕ) (span : Span) (x y : ℕ) → y ≡ afterAt words x → At words x → y ≡ 0
@@ -171,7 +176,8 @@ module _ (level : ℕ) (words text : List ℕ) (l : Linked words) where
   pub infix-two : (op : ℕ) → (op ≡ 0 → ⊥) → (op ≡ conditionalOp → ⊥) → (span : Span) (x y : ℕ) → y ≡ afterAt words x → At words x
       → At words y
       → (y ≡ 0 → ⊥)
-      → withValue (eval (rulesAt level) (recordAt words text x)) (λ a. applied (rulesAt level) op span a (eval (rulesAt level) (recordAt words text y))) ≡ infixOf (rulesAt level) op span
+      → withValue (eval (rulesAt level) (recordAt words text x))
+      (λ a. applied (rulesAt level) op span a (eval (rulesAt level) (recordAt words text y))) ≡ infixOf (rulesAt level) op span
       (evals (rulesAt level) (chainAt words text x))
   infix-two op n m span x y e a b k =
       rw (behind x y e (before-some words text x y e k) a, operands y k (b k))
@@ -188,14 +194,16 @@ module _ (level : ℕ) (words text : List ℕ) (l : Linked words) where
 
   pub conditional-three : (span : Span) (x y z : ℕ) → y ≡ afterAt words x → z ≡ afterAt words y → At words x → At words y → At words z
       → (z ≡ 0 → ⊥)
-      → chosen (rulesAt level) (eval (rulesAt level) (recordAt words text x)) (eval (rulesAt level) (recordAt words text y)) (eval (rulesAt level) (recordAt words text z))
+      → chosen (rulesAt level) (eval (rulesAt level) (recordAt words text x)) (eval (rulesAt level) (recordAt words text y))
+      (eval (rulesAt level) (recordAt words text z))
       ≡ infixOf (rulesAt level) conditionalOp span (evals (rulesAt level) (chainAt words text x))
   conditional-three span x y z e f a b c n =
       let m = before-some words text y z f n in
       rw (behind x y e (before-some words text x y e m) a, behind y z f m b, operands z n (c n)) refl
 
   -- the first operand
-  pub first-is : (r : ℕ) → (r ≡ 0 → ⊥) → r < recordCount words → eval (rulesAt level) (recordAt words text r) ≡ firstOperand (evals (rulesAt level) (chainAt words text r))
+  pub first-is : (r : ℕ) → (r ≡ 0 → ⊥) → r < recordCount words → eval (rulesAt level) (recordAt words text r)
+      ≡ firstOperand (evals (rulesAt level) (chainAt words text r))
   first-is r n a = rw (operands r n a) refl
 
   -- x is the first operand, evaluated to v
@@ -211,20 +219,24 @@ module _ (level : ℕ) (words text : List ℕ) (l : Linked words) where
       second-at = chain-after words text x y e l nesting h .at
 
       module _ (op : ℕ) (n : op ≡ 0 → ⊥) (m : op ≡ conditionalOp → ⊥) (k : y ≡ 0 → ⊥) where
-        two : withValue (eval (rulesAt level) (recordAt words text x)) (λ a. applied (rulesAt level) op span a (eval (rulesAt level) (recordAt words text y))) ≡ infixOf (rulesAt level) op span
+        two : withValue (eval (rulesAt level) (recordAt words text x))
+            (λ a. applied (rulesAt level) op span a (eval (rulesAt level) (recordAt words text y))) ≡ infixOf (rulesAt level) op span
             (evals (rulesAt level) (chainAt words text x))
         two = infix-two op n m span x y e (h .at) second-at k
 
         pub binary-fails : OneOf (1 ∷ 2 ∷ 3 ∷ []) (tagOf the-type v)
             → outcomeOf words text v ≡ infixOf (rulesAt level) op span (evals (rulesAt level) (chainAt words text x))
-        binary-fails o = failure-passes words text v (λ a. applied (rulesAt level) op span a (eval (rulesAt level) (recordAt words text y))) o ∙ rw q two
+        binary-fails o = failure-passes words text v
+            (λ a. applied (rulesAt level) op span a (eval (rulesAt level) (recordAt words text y))) o ∙ rw q two
 
-        pub binary-value : (a : ℤ) → v ≡ E.Value a → applied (rulesAt level) op span a (eval (rulesAt level) (recordAt words text y)) ≡ infixOf (rulesAt level) op span
+        pub binary-value : (a : ℤ) → v ≡ E.Value a → applied (rulesAt level) op span a (eval (rulesAt level) (recordAt words text y))
+            ≡ infixOf (rulesAt level) op span
             (evals (rulesAt level) (chainAt words text x))
         binary-value a w = rw (operand-value a w) at two
 
       module _ (z : ℕ) (f : z ≡ afterAt words y) (k : z ≡ 0 → ⊥) where
-        three : chosen (rulesAt level) (eval (rulesAt level) (recordAt words text x)) (eval (rulesAt level) (recordAt words text y)) (eval (rulesAt level) (recordAt words text z))
+        three : chosen (rulesAt level) (eval (rulesAt level) (recordAt words text x)) (eval (rulesAt level) (recordAt words text y))
+            (eval (rulesAt level) (recordAt words text z))
             ≡ infixOf (rulesAt level) conditionalOp span (evals (rulesAt level) (chainAt words text x))
         three =
             conditional-three span x y z e f (h .at) second-at
@@ -233,10 +245,12 @@ module _ (level : ℕ) (words text : List ℕ) (l : Linked words) where
         pub conditional-fails : OneOf (1 ∷ 2 ∷ 3 ∷ []) (tagOf the-type v)
             → outcomeOf words text v ≡ infixOf (rulesAt level) conditionalOp span (evals (rulesAt level) (chainAt words text x))
         conditional-fails o =
-            failure-passes words text v (λ a. cond (rulesAt level .holds a) (eval (rulesAt level) (recordAt words text y)) (eval (rulesAt level) (recordAt words text z))) o ∙ rw q three
+            failure-passes words text v (λ a. cond (rulesAt level .holds a) (eval (rulesAt level) (recordAt words text y))
+            (eval (rulesAt level) (recordAt words text z))) o ∙ rw q three
 
         pub conditional-value : (a : ℤ) → v ≡ E.Value a
-            → cond (isTrue a) (eval (rulesAt level) (recordAt words text y)) (eval (rulesAt level) (recordAt words text z)) ≡ infixOf (rulesAt level) conditionalOp span
+            → cond (isTrue a) (eval (rulesAt level) (recordAt words text y)) (eval (rulesAt level) (recordAt words text z))
+            ≡ infixOf (rulesAt level) conditionalOp span
             (evals (rulesAt level) (chainAt words text x))
         unfolding rulesAt
         conditional-value a w = rw (operand-value a w) at three

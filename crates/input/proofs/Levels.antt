@@ -1,5 +1,5 @@
--- An expression at level 2, as the code evaluates it: on the signed values of the same bits (rulesAt). What it makes of an expression is what
--- the definition makes on numbers below 2 ^ 64.
+-- An expression at level 2, as the code evaluates it: on the signed values of the same bits (rulesAt). What it makes of an expression is
+-- what the definition makes on numbers below 2 ^ 64.
 use Prim.Native.Nat.{ℕ, _+_, _%_, _^_, _≤_, _<_}
 use mathlib.Core.Path.{_≡_, refl, sym, ap, _∙_}
 use mathlib.Core.Bool.{Bool, true, false, cond}
@@ -12,9 +12,7 @@ use lib.IntN.{ℤ, pos}
 use mir.Syntax.{w64}
 use mir.Val.{Fits, toZ, ofZ}
 use mir.ValLaws.{ofZ-toZ, toZ-fits, toZ-pos}
-use Rattle.paths_numbers.specs.meaning.Code.{macroUndefined, numberEmpty, notADigit, numberTooLarge, numberTooSmall, outside64Bits}
-use Rattle.paths_numbers.specs.meaning.Code.{zeroDivisor, shiftAmount}
-use Rattle.paths_numbers.specs.meaning.Lists.{any}
+use Rattle.paths_numbers.specs.meaning.Code.{macroUndefined}
 use Rattle.paths_numbers.specs.meaning.Reading.{Reading, noCode}
 use Rattle.paths_numbers.specs.meaning.Reading as R
 use Rattle.paths_numbers.specs.meaning.Expression.{andOp, orOp, conditionalOp, isTrue, ofTruth}
@@ -25,7 +23,7 @@ use Rattle.levels.specs.meaning.Rules.{Rules, unsignedLevel, signedRules, unsig
 use Rattle.levels.specs.meaning.Unsigned as U
 use Rattle.levels.specs.machine.Held.{held, rulesAt}
 use Rattle.levels.proofs.Wrapping.{holds-bits}
-use Rattle.levels.proofs.Below.{most, given, Below, literal-below, prefix-below, infix-below}
+use Rattle.levels.proofs.Below.{most, Below, number-within, prefix-below, infix-below}
 use Rattle.levels.proofs.Cells.{cell-same}
 use Rattle.log.specs.meaning.Contents.{Span, Diag, Cell}
 use Rattle.input.specs.meaning.Tree.{Tree, Trees, tree, empty, more, macroKind, numberKind, characterKind, prefixKind}
@@ -33,8 +31,9 @@ use Rattle.input.specs.meaning.Tree.{parenthesisKind, infixKind}
 use Rattle.input.specs.meaning.Report.{report}
 use Rattle.input.specs.meaning.Expr.{Outcome, value, fails, missing, failsWith, evaluated, withValue, firstOperand, truthIn, applied}
 use Rattle.input.specs.meaning.Expr.{infixOf, prefixOf, combined, eval, evals}
-use Rattle.input.specs.meaning.NeverGiven.{isNeverGiven, reportsIn, NeverGiven}
+use Rattle.input.specs.meaning.NeverGiven.{reportsIn, NeverGiven}
 use Rattle.input.specs.meaning.Property.{numberCell, outcomeCell, expressionCell}
+use Rattle.input.proofs.NeverGiven.{Quiet, quiet-none, quiet-report, given-quiet}
 
 -- level 2's rules on held values
 abbrev heldRules : Rules ℤ
@@ -43,7 +42,7 @@ heldRules = rulesAt unsignedLevel
 -- an outcome and how it is held; a failure has none of the codes that level 2 never gives
 data Held : Outcome ℕ → Outcome ℤ → Type 0 where
   held-value : (n : ℕ) → n ≤ most → Held (value n) (value (toZ w64 n))
-  held-failure : (ds : List Diag) → any isNeverGiven ds ≡ false → Held (fails ds) (fails ds)
+  held-failure : (ds : List Diag) → Quiet ds → Held (fails ds) (fails ds)
 
 data AllHeld : List (Outcome ℕ) → List (Outcome ℤ) → Type 0 where
   none : AllHeld [] []
@@ -62,30 +61,12 @@ tested false h k = k
 
 -- nothing is reported
 held-missing : Held missing missing
-unfolding any
-held-missing = held-failure [] refl
-
--- one report of a code that is neither of the two
-one-report : (code : ℕ) (text : List ℕ) (span : Span) → eqb code outside64Bits ≡ false → eqb code numberTooSmall ≡ false
-    → Held (fails (report code text span ∷ [])) (fails (report code text span ∷ []))
-unfolding any
-one-report code text span e f = held-failure (report code text span ∷ []) (rw (e, f) refl)
-
--- the codes that level 2 gives are neither
-coded : (span : Span) (code : ℕ) → given code ≡ true → Held (failsWith code span) (failsWith code span)
-coded span code h =
-    by-test (eqb code noCode) (λ t. rw (eqb-true code noCode t) (one-report noCode [] span refl refl))
-    (λ a. by-test (eqb code numberEmpty) (λ t. rw (eqb-true code numberEmpty t) (one-report numberEmpty [] span refl refl))
-    (λ b. by-test (eqb code notADigit) (λ t. rw (eqb-true code notADigit t) (one-report notADigit [] span refl refl))
-    (λ c. by-test (eqb code numberTooLarge) (λ t. rw (eqb-true code numberTooLarge t) (one-report numberTooLarge [] span refl refl))
-    (λ d. by-test (eqb code zeroDivisor) (λ t. rw (eqb-true code zeroDivisor t) (one-report zeroDivisor [] span refl refl))
-    (λ e. let t : eqb code shiftAmount ≡ true = rw (a, b, c, d, e) at h in
-    rw (eqb-true code shiftAmount t) (one-report shiftAmount [] span refl refl))))))
+held-missing = held-failure [] quiet-none
 
 -- a reading
 reading-held : (span : Span) (r : Reading ℕ) → Below r → Held (evaluated span r) (evaluated span (held r))
 reading-held span (R.value n) h = held-value n h
-reading-held span (R.fails code) h = tested (eqb code noCode) held-missing (coded span code h)
+reading-held span (R.fails code) h = tested (eqb code noCode) held-missing (held-failure _ (quiet-report code [] span (given-quiet code h)))
 
 -- a condition, and a truth
 holds-held : (n : ℕ) → n ≤ most → isTrue (toZ w64 n) ≡ U.holds n
@@ -113,9 +94,11 @@ module _ (op : ℕ) (span : Span) where
       → Held (applied unsignedRules op span n x) (applied heldRules op span (toZ w64 n) y)
   unfolding rulesAt
   applied-held n h {x} {y} k =
-      let both : Held (cond (U.holds n) (truthIn unsignedRules x) (value 0)) (cond (isTrue (toZ w64 n)) (truthIn heldRules y) (value (pos 0)))
+      let both : Held (cond (U.holds n) (truthIn unsignedRules x) (value 0))
+      (cond (isTrue (toZ w64 n)) (truthIn heldRules y) (value (pos 0)))
       = rw (holds-held n h) (tested (U.holds n) (truth-in-held k) (truth-held false)) in
-      let either : Held (cond (U.holds n) (value 1) (truthIn unsignedRules x)) (cond (isTrue (toZ w64 n)) (value (pos 1)) (truthIn heldRules y))
+      let either : Held (cond (U.holds n) (value 1) (truthIn unsignedRules x))
+      (cond (isTrue (toZ w64 n)) (value (pos 1)) (truthIn heldRules y))
       = rw (holds-held n h) (tested (U.holds n) (truth-held true) (truth-in-held k)) in
       tested (eqb op andOp) both
       (tested (eqb op orOp) either
@@ -160,8 +143,8 @@ combined-held : (k : ℕ) (text : List ℕ) (w : ℕ) (span : Span) {l : List (O
     → Held (combined unsignedRules k text w span l) (combined heldRules k text w span m)
 unfolding rulesAt
 combined-held k text w span h =
-    tested (eqb k macroKind) (one-report macroUndefined text span refl refl)
-    (tested (eqb k numberKind) (reading-held span (unsignedRules .literal text) (literal-below text))
+    tested (eqb k macroKind) (held-failure _ (quiet-report macroUndefined text span refl))
+    (tested (eqb k numberKind) (reading-held span (unsignedRules .literal text) (number-within most text))
     (tested (eqb k characterKind) (held-value (w % 2 ^ 64) (omega arith))
     (tested (eqb k prefixKind) (prefix-held w span h)
     (tested (eqb k parenthesisKind) (first-held h)
@@ -208,9 +191,8 @@ character-at level w h =
     (λ t. rw t refl)
 
 -- no expression reports 19 or 24 at level 2
-held-quiet : {x : Outcome ℕ} {y : Outcome ℤ} → Held x y → any isNeverGiven (reportsIn x) ≡ false
-unfolding any
-held-quiet (held-value n h) = refl
+held-quiet : {x : Outcome ℕ} {y : Outcome ℤ} → Held x y → Quiet (reportsIn x)
+held-quiet (held-value n h) = quiet-none
 held-quiet (held-failure ds q) = q
 
 pub never-given : NeverGiven

@@ -4,6 +4,7 @@ pub mod Search
 pub mod Input
 pub mod Read
 pub mod Evaluation
+pub mod NeverGiven
 pub mod Levels
 pub mod NameRead
 pub mod PhandleRead

@@ -62,7 +62,8 @@ module _ (words text : List ℕ) (r : ℕ) where
   unfolding lowerCell recordAt
   cell-reference level size e = rw e refl
 
-  pub value-reference : (level : ℕ) → kindAt words r ≡ referenceKind → referenceValue (lowerPhandle (recordAt words text r)) ≡ lowerValue level
+  pub value-reference : (level : ℕ) → kindAt words r ≡ referenceKind → referenceValue (lowerPhandle (recordAt words text r))
+      ≡ lowerValue level
       (recordAt words text r)
   unfolding lowerValue recordAt
   value-reference level e = rw e refl
@@ -85,7 +86,8 @@ module _ (words text : List ℕ) (r : ℕ) where
         ne-eqb (kindAt words r) preprocessorKind g,
       )
 
-  pub value-other : (level : ℕ) → (kindAt words r ≡ stringKind → ⊥) → (kindAt words r ≡ cellListKind → ⊥) → (kindAt words r ≡ bytestringKind → ⊥)
+  pub value-other : (level : ℕ) → (kindAt words r ≡ stringKind → ⊥) → (kindAt words r ≡ cellListKind → ⊥)
+      → (kindAt words r ≡ bytestringKind → ⊥)
       → (kindAt words r ≡ referenceKind → ⊥) → (kindAt words r ≡ macroKind → ⊥) → (kindAt words r ≡ directiveKind → ⊥)
       → (kindAt words r ≡ preprocessorKind → ⊥)
       → nothing [] ≡ lowerValue level (recordAt words text r)
@@ -145,13 +147,15 @@ module _ (words text : List ℕ) (r : ℕ) where
   cells-end level size e = rw (e, chain-none words text) refl
 
   module _ (l : Linked words) (n : r ≡ 0 → ⊥) (a : r < recordCount words) where
-    pub values-more : (level : ℕ) → andThen (lowerValue level (recordAt words text r)) (lowerValues level (chainAt words text (nextAt words r))) ≡ lowerValues level
+    pub values-more : (level : ℕ)
+        → andThen (lowerValue level (recordAt words text r)) (lowerValues level (chainAt words text (nextAt words r))) ≡ lowerValues level
         (chainAt words text r)
     unfolding lowerValues
     values-more level = rw (chain-more words l text r n a) refl
 
     pub cells-more : (level : ℕ) (size : BitsSize)
-        → andThen (lowerCell level size (recordAt words text r)) (lowerCells level size (chainAt words text (nextAt words r))) ≡ lowerCells level size
+        → andThen (lowerCell level size (recordAt words text r)) (lowerCells level size (chainAt words text (nextAt words r)))
+        ≡ lowerCells level size
         (chainAt words text r)
     unfolding lowerCells
     cells-more level size = rw (chain-more words l text r n a) refl

@@ -51,7 +51,8 @@ pub enum Evaluation {
 pub fn eval(words: &[u32], text: &[u8], r: u32, nesting: u32, level: u32) -> Evaluation
     requires { ⌜ Linked (now words) ⌝ }
     requires { ⌜ RecordIn (now words) (now text) r nesting ⌝ }
-    ensures { λ e. ⌜ outcomeOf (now (words .entry)) (now (text .entry)) e ≡ eval (rulesAt level) (recordAt (now (words .entry)) (now (text .entry)) r) ⌝ }
+    ensures { λ e. ⌜ outcomeOf (now (words .entry)) (now (text .entry)) e
+        ≡ eval (rulesAt level) (recordAt (now (words .entry)) (now (text .entry)) r) ⌝ }
 {
     if nesting == 0 {
         return Evaluation::Missing;

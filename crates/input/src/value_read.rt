@@ -234,7 +234,8 @@ fn counted_bytes(r: u32, n: ByteCount) -> ValueRead
 
 // A reference as a value.
 fn reference_value(t: TargetRead) -> ValueRead
-    ensures { λ v. ⌜ ((level : ℕ) (words text : List ℕ) (r : ℕ) → valueMade words text r level v ≡ referenceValue (targetGot words text r t)) ⌝ }
+    ensures { λ v. ⌜ ((level : ℕ) (words text : List ℕ) (r : ℕ) → valueMade words text r level v
+        ≡ referenceValue (targetGot words text r t)) ⌝ }
 {
     match t {
         TargetRead::Failed(report) => ValueRead::Failed(report),

@@ -116,7 +116,8 @@ pub property-dropped-at : (words text : List ℕ) (r : ℕ) (f : FullName) (keep
 property-dropped-at words text r f keep e = record { lowers = λ k p s q. rw e q }
 
 -- counts never fall
-named-grows : (level : ℕ) (p : List ℕ) (parts values : Trees) (span : Span) (o : Option (List ℕ)) → Grows (namedProperty level p parts values span o)
+named-grows : (level : ℕ) (p : List ℕ) (parts values : Trees) (span : Span) (o : Option (List ℕ))
+    → Grows (namedProperty level p parts values span o)
 named-grows level p parts values span none = record { records = λ s. omega arith; bytes = λ s. omega arith }
 named-grows level p parts values span (some n) = define-grows _
 
@@ -186,13 +187,15 @@ module _ (level : ℕ) (words text : List ℕ) (r : ℕ) (f : FullName) (h : Ful
   same-name = h .read text
 
   kept-as : (keep : Bool) (o : Option (List ℕ)) → fullName parts .result ≡ o → keep ≡ isThere o → (p : List ℕ) (s : State)
-      → emit (fullName parts .reports) (filled addValues keep (lowerValues level values) (cond keep (define (propertyAt words text r f p) s) s))
+      → emit (fullName parts .reports)
+      (filled addValues keep (lowerValues level values) (cond keep (define (propertyAt words text r f p) s) s))
       ≡ namedProperty level p parts values (spanAt words r) o (emit (lowerValues level values .reports ++ fullName parts .reports) s)
   unfolding propertyAt
   kept-as true (some n) e k p s =
       property-filled (joined p (nameText words text (f .name)) (nameText words text (f .unit))) (spanAt words r)
       (propertyNameSpan parts (spanAt words r)) (lowerValues level values) (fullName parts .reports) s
-      ∙ ap (λ (q : List ℕ). define (propertyDef q (spanAt words r) (propertyNameSpan parts (spanAt words r)) (lowerValues level values .made))
+      ∙ ap (λ (q : List ℕ). define
+      (propertyDef q (spanAt words r) (propertyNameSpan parts (spanAt words r)) (lowerValues level values .made))
       (emit (lowerValues level values .reports ++ fullName parts .reports) s))
       (sym (full-joined words text (childAt words r) f h good p n e))
   kept-as true none e k p s = absurd (not-both {t = true} refl k)

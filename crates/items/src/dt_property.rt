@@ -63,7 +63,8 @@ pub fn lower_dt_property(
     requires { ⌜ RecordIn (now words) (now text) r nesting ⌝ }
     requires { ⌜ goodNamesIn (partsAt (now words) (now text) r) ≡ true ⌝ }
     ensures { λ d. ⌜ LowersAt parent ctx d (now (out .entry)) (now (bytes .entry)) (now (out .exit)) (now (bytes .exit))
-        (λ p s. lowerProperty level p (partsAt (now (words .entry)) (now (text .entry)) r) (contentsAt (now (words .entry)) (now (text .entry)) r)
+        (λ p s. lowerProperty level p (partsAt (now (words .entry)) (now (text .entry)) r)
+        (contentsAt (now (words .entry)) (now (text .entry)) r)
         (spanAt (now (words .entry)) r) s) ⌝ }
 {
     if ctx.short {

@@ -30,9 +30,13 @@ given c =
     (cond (eqb c zeroDivisor) true
     (eqb c shiftAmount)))))
 
+-- a reading that is at most a limit, or fails with one of these
+abbrev pub Within : ℕ → Reading ℕ → Type 0
+Within limit (value n) = n ≤ limit
+Within limit (fails c) = given c ≡ true
+
 abbrev pub Below : Reading ℕ → Type 0
-Below (value n) = n ≤ most
-Below (fails c) = given c ≡ true
+Below r = Within most r
 
 truth-below : (t : Bool) → truthOf t ≤ most
 truth-below true = omega arith
@@ -41,30 +45,31 @@ truth-below false = omega arith
 wrapped-below : (n : ℕ) → n % 2 ^ 64 ≤ most
 wrapped-below n = omega arith
 
--- a literal's digits, behind those that gave acc
-digits-below : (base acc : ℕ) (s : List ℕ) → acc ≤ most → Below (digits base most numberTooLarge acc s)
-unfolding digits
-digits-below base acc [] h = h
-digits-below base acc (b ∷ s) h =
-    cond-in Below (ltb (digitOf b) base)
-    (by-test (leb (acc * base + digitOf b) most)
-    (λ t. rw t (digits-below base (acc * base + digitOf b) s (leb-true (acc * base + digitOf b) most t)))
-    (λ t. rw t refl))
-    refl
+-- a number's text up to a limit: its digits, behind those that gave acc
+module _ (base limit : ℕ) where
+  digits-within : (acc : ℕ) (s : List ℕ) → acc ≤ limit → Within limit (digits base limit numberTooLarge acc s)
+  unfolding digits
+  digits-within acc [] h = h
+  digits-within acc (b ∷ s) h =
+      cond-in (Within limit) (ltb (digitOf b) base)
+      (by-test (leb (acc * base + digitOf b) limit)
+      (λ t. rw t (digits-within (acc * base + digitOf b) s (leb-true (acc * base + digitOf b) limit t)))
+      (λ t. rw t refl))
+      refl
 
-sign-below : (base : ℕ) (s : List ℕ) → Below (behindSign base most numberTooLarge s)
-unfolding behindSign
-sign-below base [] = refl
-sign-below base (b ∷ s) = digits-below base 0 (b ∷ s) (omega arith)
+  sign-within : (s : List ℕ) → Within limit (behindSign base limit numberTooLarge s)
+  unfolding behindSign
+  sign-within [] = refl
+  sign-within (b ∷ s) = digits-within 0 (b ∷ s) (omega arith)
 
-unsigned-below : (base : ℕ) (s : List ℕ) → Below (unsigned base most s)
-unfolding unsigned
-unsigned-below base [] = refl
-unsigned-below base (b ∷ s) = cond-in Below (eqb b plus) (sign-below base s) (digits-below base 0 (b ∷ s) (omega arith))
+  unsigned-within : (s : List ℕ) → Within limit (unsigned base limit s)
+  unfolding unsigned
+  unsigned-within [] = refl
+  unsigned-within (b ∷ s) = cond-in (Within limit) (eqb b plus) (sign-within s) (digits-within 0 (b ∷ s) (omega arith))
 
-pub literal-below : (text : List ℕ) → Below (unsignedNumber most text)
+pub number-within : (limit : ℕ) (text : List ℕ) → Within limit (unsignedNumber limit text)
 unfolding unsignedNumber
-literal-below text = unsigned-below (baseOf (trimmed text)) (behindPrefix (trimmed text))
+number-within limit text = unsigned-within (baseOf (trimmed text)) limit (behindPrefix (trimmed text))
 
 -- the prefix operators
 pub prefix-below : (op a : ℕ) → a ≤ most → Below (unsignedPrefix op a)

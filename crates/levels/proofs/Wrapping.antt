@@ -66,7 +66,8 @@ wrapped-opposite r b h k e = omega arith
 -- two halves of 32 bits have a product of 64
 pub halves-fit : (x y : ℕ) → x < 4294967296 → y < 4294967296 → x * y < 2 ^ 64
 halves-fit x y h k =
-    let p : x * y ≤ 4294967295 * 4294967295 = mul-le-mul {n₁ = x} {m₁ = y} {n₂ = 4294967295} {m₂ = 4294967295} (omega arith) (omega arith) in
+    let p : x * y ≤ 4294967295 * 4294967295 = mul-le-mul {n₁ = x} {m₁ = y} {n₂ = 4294967295} {m₂ = 4294967295} (omega arith)
+    (omega arith) in
     omega arith
 
 -- a product by halves: (h K + l) (i K + m)

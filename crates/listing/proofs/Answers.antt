@@ -24,7 +24,8 @@ fits-empty : (s : State) (o b : List ℕ) → length o ≡ outLength → length 
 fits-empty s o b e f = fits-by-lengths s o _ b _ (e ∙ sym (length-replicate {A = ℕ} outLength 0))
     (f ∙ sym (length-replicate {A = ℕ} bytesLength 0))
 
-pub answer-listed : {w t o b p d : List ℕ} {a : Answered} → Lowered signedLevel w t o b a p d → length o ≡ outLength → length b ≡ bytesLength
+pub answer-listed : {w t o b p d : List ℕ} {a : Answered} → Lowered signedLevel w t o b a p d → length o ≡ outLength → length b
+    ≡ bytesLength
     → answerText (a .number) (a .returned) (readLog p d) ≡ listed w t
 unfolding listed isLevel
 answer-listed {w} {t} {o} {b} (noLevel n e x y) l m = let z : _≡_ {A = ℕ} 0 1 = cc in absurd (omega arith)

@@ -150,7 +150,8 @@ named-counted : (level : ℕ) (parent : List ℕ) (parts values : Trees) (span :
 named-counted level parent parts values span (some n) s = define-counted _ s
 named-counted level parent parts values span none s = nothing-more s
 
-property-counted : (level : ℕ) (parent : List ℕ) (parts values : Trees) (span : Span) (s : State) → Counted s (lowerProperty level parent parts values span s)
+property-counted : (level : ℕ) (parent : List ℕ) (parts values : Trees) (span : Span) (s : State)
+    → Counted s (lowerProperty level parent parts values span s)
 unfolding lowerProperty
 property-counted level parent parts values span s =
     counted-if (isEmpty parent) (emit-counted _ s) (then-counted (emit-counted _ s)

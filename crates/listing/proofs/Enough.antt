@@ -127,7 +127,15 @@ listed-most w t = go (verdict w t) (fitsIn (meaning signedLevel w t) (replicate 
     go accepted true e =
         let h = fits-most (meaning signedLevel w t) (replicate outLength 0) (replicate bytesLength 0) (length-replicate {A = ℕ} outLength 0)
         (length-replicate {A = ℕ} bytesLength 0) e in
-        omega (arith, h .0, h .1, listing-most (meaning signedLevel w t), lowered-records signedLevel (description w t), lowered-bytes signedLevel (description w t))
+        omega (
+          arith,
+          h .0,
+          h .1,
+          listing-most (meaning signedLevel w t),
+          lowered-records signedLevel (description w t),
+          lowered-bytes
+              signedLevel (description w t),
+        )
     go accepted false e = omega (arith, refusal-most 7 0)
 
 -- an input

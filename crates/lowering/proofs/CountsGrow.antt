@@ -77,7 +77,8 @@ named-above : (level : ℕ) (parent : List ℕ) (parts values : Trees) (span : S
 named-above level parent parts values span (some n) s = by-growth (define-grows _) s
 named-above level parent parts values span none s = same-counts s
 
-pub property-above : (level : ℕ) (parent : List ℕ) (parts values : Trees) (span : Span) (s : State) → Above s (lowerProperty level parent parts values span s)
+pub property-above : (level : ℕ) (parent : List ℕ) (parts values : Trees) (span : Span) (s : State)
+    → Above s (lowerProperty level parent parts values span s)
 unfolding lowerProperty
 property-above level parent parts values span s =
     above-if (isEmpty parent) (emit-above _ s) (then-above (emit-above _ s)

@@ -78,7 +78,8 @@ module _ {N : Type 0} (rules : Rules N) where
     prefix-good [] h = missing-good N
     prefix-good (x ∷ l) h =
         cond-in GoodOutcome (eqb op 0) (missing-good N)
-        (with-good x (λ a. evaluated span (rules .unary op a)) (all-first goodOutcome x l h) (λ a. evaluated-good span g (rules .unary op a)))
+        (with-good x (λ a. evaluated span (rules .unary op a)) (all-first goodOutcome x l h)
+        (λ a. evaluated-good span g (rules .unary op a)))
 
   combined-good : (k : ℕ) (text : List ℕ) (w : ℕ) (span : Span) (l : List (Outcome N)) → inOrder span ≡ true → GoodOutcomes l
       → GoodOutcome (combined rules k text w span l)

@@ -80,7 +80,8 @@ module _ {s : State} (g : GoodState s) (parent : List ℕ) (f : goodPath parent 
   delete-property none q = g
 
   -- a property defined
-  named-good : (level : ℕ) (values : Trees) (o : Option (List ℕ)) → fullName parts .result ≡ o → GoodState (namedProperty level parent parts values span o s)
+  named-good : (level : ℕ) (values : Trees) (o : Option (List ℕ)) → fullName parts .result ≡ o
+      → GoodState (namedProperty level parent parts values span o s)
   named-good level values (some name) q =
       good-define g _ (good-def _ e (property-span parts span (t .spans) e) (name-path parent name f (full-plain parts name (t .names) q)))
   named-good level values none q = g
@@ -120,7 +121,8 @@ module _ {s : State} (g : GoodState s) (parent : List ℕ) (f : goodPath parent 
 mutual
   unfolding lowerItem lowerItems goodNamesIn
 
-  item-good : (level : ℕ) (i : Tree) (parent : List ℕ) (s : State) → goodNames i ≡ true → spans i ≡ true → goodPath parent ≡ true → GoodState s
+  item-good : (level : ℕ) (i : Tree) (parent : List ℕ) (s : State) → goodNames i ≡ true → spans i ≡ true → goodPath parent ≡ true
+      → GoodState s
       → GoodState (lowerItem level i parent s)
   item-good level (tree k text w span parts second) parent s n v f g =
       let i = tree k text w span parts second in
@@ -129,7 +131,8 @@ mutual
       as-good g parent f parts t span (own-span i v) level k w second (second-spans i v) (λ p u. lowerItems level second p u)
       (λ p u x y. items-good level second p u names (second-spans i v) x y)
 
-  items-good : (level : ℕ) (is : Trees) (parent : List ℕ) (s : State) → goodNamesIn is ≡ true → spansIn is ≡ true → goodPath parent ≡ true → GoodState s
+  items-good : (level : ℕ) (is : Trees) (parent : List ℕ) (s : State) → goodNamesIn is ≡ true → spansIn is ≡ true → goodPath parent ≡ true
+      → GoodState s
       → GoodState (lowerItems level is parent s)
   items-good level empty parent s n v f g = g
   items-good level (more i is) parent s n v f g =

@@ -82,7 +82,8 @@ unfolding lowerCells
 cells-good level size empty g = no-reports
 cells-good level size (more t ts) g =
     let h = chain-spans t ts g in
-    all-append goodDiag (lowerCell level size t .reports) (lowerCells level size ts .reports) (cell-good level size t (h .0)) (cells-good level size ts (h .1))
+    all-append goodDiag (lowerCell level size t .reports) (lowerCells level size ts .reports) (cell-good level size t (h .0))
+    (cells-good level size ts (h .1))
 
 -- values
 sized-good : (level : ℕ) (span : Span) (cells : Trees) → inOrder span ≡ true → spansIn cells ≡ true → (r : Reading BitsSize)
@@ -119,4 +120,5 @@ unfolding lowerValues
 value-reports level empty g = no-reports
 value-reports level (more t ts) g =
     let h = chain-spans t ts g in
-    all-append goodDiag (lowerValue level t .reports) (lowerValues level ts .reports) (value-good level t (h .0)) (value-reports level ts (h .1))
+    all-append goodDiag (lowerValue level t .reports) (lowerValues level ts .reports) (value-good level t (h .0))
+    (value-reports level ts (h .1))

@@ -27,7 +27,8 @@ pub record ItemsTo (level : ℕ) (parent : PathAt) (c d : LowerCtx) (words bytes
   pub good : goodNamesIn (chainAt input text r) ≡ true
   pub done : List ℕ → State → State
   pub lowers : LowersAt parent c d words bytes w b done
-  pub whole : (p : List ℕ) (s : State) → lowerItems level (chainAt input text r) p (done p s) ≡ lowerItems level (chainAt input text first) p s
+  pub whole : (p : List ℕ) (s : State) → lowerItems level (chainAt input text r) p (done p s)
+      ≡ lowerItems level (chainAt input text first) p s
 
 pub items-start : (level : ℕ) {parent : PathAt} {c : LowerCtx} {words bytes : List ℕ} (input text : List ℕ) (first nesting : ℕ)
     → ChainIn input text first nesting → goodNamesIn (chainAt input text first) ≡ true
@@ -125,7 +126,8 @@ module _ {parent : PathAt} {c d : LowerCtx} {words bytes w b : List ℕ} (level 
                   (h .lowers (withPlace (record { at = parent; path = p }) k) s m);
             }
 
-pub is-other : {parent : PathAt} {c : LowerCtx} {words bytes : List ℕ} (level : ℕ) (input text : List ℕ) (r : ℕ) → (kindAt input r ≡ nodeKind → ⊥)
+pub is-other : {parent : PathAt} {c : LowerCtx} {words bytes : List ℕ} (level : ℕ) (input text : List ℕ) (r : ℕ)
+    → (kindAt input r ≡ nodeKind → ⊥)
     → (kindAt input r ≡ propertyKind → ⊥)
     → (kindAt input r ≡ directiveKind → ⊥) → (kindAt input r ≡ preprocessorKind → ⊥)
     → LowersAt parent c c words bytes words bytes (λ p s. lowerItem level (recordAt input text r) p s)

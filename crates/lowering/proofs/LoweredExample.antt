@@ -44,7 +44,8 @@ unfolding fitsIn
 fits = rw (made-records, made-bytes) refl
 
 -- lowered into buffers that held the same before
-pub listing-lowered : Lowered signedLevel listingWords listingText listing listingBytes (record { number = 0; returned = 0 }) listing listingBytes
+pub listing-lowered : Lowered signedLevel listingWords listingText listing listingBytes (record { number = 0; returned = 0 }) listing
+    listingBytes
 unfolding isLevel
 listing-lowered =
     done refl listing-accepted (rw listing-read fits) refl refl refl

@@ -39,7 +39,8 @@ checks-alike : (s : State) → postChecks (checking s) ≡ postChecks s
 unfolding postChecks
 checks-alike s = rw (references-alike (checking s) s refl refl) refl
 
-module _ (level : ℕ) (words text : List ℕ) {c d e : LowerCtx} {out bytes w b : List ℕ} (made : Represents atStart c out bytes (meaning level words text))
+module _ (level : ℕ) (words text : List ℕ) {c d e : LowerCtx} {out bytes w b : List ℕ}
+    (made : Represents atStart c out bytes (meaning level words text))
     (starts : StartsChecks c d)
     (checks : Lowers d e out bytes w b (λ (s : State). emit (postChecks s) s)) where
   abbrev all : State
@@ -51,14 +52,16 @@ module _ (level : ℕ) (words text : List ℕ) {c d e : LowerCtx} {out bytes w b
       (checks .lowers (inChecks c all) (checking all) (starts .checks out bytes all made))
 
   -- the end, in buffers as long as those that were lent
-  module _ (l₀ : isLevel level ≡ true) (v : verdict words text ≡ accepted) {out₀ bytes₀ : List ℕ} (lo : length w ≡ length out₀) (lb : length b ≡ length bytes₀)
+  module _ (l₀ : isLevel level ≡ true) (v : verdict words text ≡ accepted) {out₀ bytes₀ : List ℕ} (lo : length w ≡ length out₀)
+      (lb : length b ≡ length bytes₀)
       (answer : Answered) where
     -- zeros, where the log ran short
     pub lowered-short : {x y : List ℕ} → e .short ≡ true → answer ≡ record { number = 7; returned = 0 } → x ≡ replicate (length w) 0
         → y ≡ replicate (length b) 0
         → Lowered level words text out₀ bytes₀ answer x y
     lowered-short n q x y =
-        short l₀ v (fits-not all out₀ bytes₀ lo lb checked n) q (x ∙ ap (λ (i : ℕ). replicate i 0) lo) (y ∙ ap (λ (i : ℕ). replicate i 0) lb)
+        short l₀ v (fits-not all out₀ bytes₀ lo lb checked n) q (x ∙ ap (λ (i : ℕ). replicate i 0) lo)
+        (y ∙ ap (λ (i : ℕ). replicate i 0) lb)
 
     -- the log, where it did not
     pub lowered-done : {x : List ℕ} → e .short ≡ false → answer ≡ record { number = 0; returned = 0 } → Finishes e w x (c .diags .first)

@@ -27,7 +27,8 @@ use post_checks::check_mir_post::check_mir_post;
 // Lowers an input at a level into the buffers that are lent: any words, any text, any level, any buffers.
 // That words are u32 is the slice's type; it is promised too since demand 3 compares words.
 pub fn lower(words: &[u32], text: &[u8], level: u32, out: &mut [u32], bytes: &mut [u8]) -> Answer
-    ensures { λ r. ⌜ Lowered level (now (words .entry)) (now (text .entry)) (now (out .entry)) (now (bytes .entry)) (told r) (now (out .exit))
+    ensures { λ r. ⌜ Lowered level (now (words .entry)) (now (text .entry)) (now (out .entry)) (now (bytes .entry)) (told r)
+        (now (out .exit))
         (now (bytes .exit)) ⌝ }
     ensures { λ _. ⌜ Words32 (now (out .exit)) ⌝ }
 {
@@ -56,7 +57,8 @@ fn lower_accepted(
 ) -> Answer
     requires { ⌜ isLevel level ≡ true ⌝ }
     requires { ⌜ verdict (now words) (now text) ≡ accepted ⌝ }
-    ensures { λ r. ⌜ Lowered level (now (words .entry)) (now (text .entry)) (now (out .entry)) (now (bytes .entry)) (told r) (now (out .exit))
+    ensures { λ r. ⌜ Lowered level (now (words .entry)) (now (text .entry)) (now (out .entry)) (now (bytes .entry)) (told r)
+        (now (out .exit))
         (now (bytes .exit)) ⌝ }
 {
     let lowered = lower_top(words, text, level, out, bytes);

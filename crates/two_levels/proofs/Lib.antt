@@ -1,1 +1,5 @@
+pub mod SignedRule
 pub mod TwoLevels
+pub mod QuietValues
+pub mod QuietItems
+pub mod NeverArises

@@ -61,7 +61,8 @@ module _ (new : List ℕ) (s : State) (free : any (λ (b : Binding). atOrUnder (
       (h (join parent (n .0)) (join-filled parent (n .0)) u _ (grown-opened (grown-emit g (fullName parts .reports)) (join parent (n .0)) u
       parts span))
 
-  grow-property : (level : ℕ) (parts values : Trees) (span : Span) → goodNamesIn parts ≡ true → Grown new s (lowerProperty level parent parts values span t)
+  grow-property : (level : ℕ) (parts values : Trees) (span : Span) → goodNamesIn parts ≡ true
+      → Grown new s (lowerProperty level parent parts values span t)
   unfolding lowerProperty
   grow-property level parts values span good = rw inBody (go (fullName parts .result) refl)
     where
@@ -118,7 +119,8 @@ module _ (new : List ℕ) (s : State) (free : any (λ (b : Binding). atOrUnder (
       rw e (grow-node new s free parent inBody under t g body (h e (b .1)) parts span gp (b .0)))
       (λ e.
       rw e
-      (cond-in (λ (x : State). Grown new s x) (eqb k propertyKind) (grow-property new s free parent inBody under t g level parts second span gp)
+      (cond-in (λ (x : State). Grown new s x) (eqb k propertyKind)
+      (grow-property new s free parent inBody under t g level parts second span gp)
       (by-test (eqb k directiveKind)
       (λ f. rw f (grow-directive new s free parent inBody under t g w parts span gp (rw (e, f) at q)))
       (λ f. rw f (cond-in (λ (x : State). Grown new s x) (eqb k preprocessorKind) (grown-emit g _) g)))))
@@ -126,7 +128,8 @@ module _ (new : List ℕ) (s : State) (free : any (λ (b : Binding). atOrUnder (
 mutual
   unfolding lowerItem lowerItems goodNamesIn quietIn
 
-  grow : (level : ℕ) (i : Tree) (new : List ℕ) (s : State) → any (λ (b : Binding). atOrUnder (b .path) new) (s .binds) ≡ false → goodNames i ≡ true
+  grow : (level : ℕ) (i : Tree) (new : List ℕ) (s : State) → any (λ (b : Binding). atOrUnder (b .path) new) (s .binds) ≡ false
+      → goodNames i ≡ true
       → quiet i ≡ true
       → (parent : List ℕ) → isEmpty parent ≡ false → atOrUnder parent new ≡ true → (t : State) → Grown new s t
       → Grown new s (lowerItem level i parent t)
@@ -160,7 +163,11 @@ subnode-grows level (tree k text w span parts second) new parent s e m inBody go
     let b = both (plainName parts) (quietIn second) (rw (eq-eqb k nodeKind e) at q) in
     let gp = good-parts k text w span parts second good in
     let filled : isEmpty new ≡ false = rw (m .path) at (join-filled parent (m .name)) in
-    rw (eq-eqb k nodeKind e, node-is parent parts span s inBody gp (b .0) (λ p u. lowerItems level second p u) (m .name) (m .named), m .path)
+    rw (
+      eq-eqb k nodeKind e,
+      node-is parent parts span s inBody gp (b .0) (λ p u. lowerItems level second p u) (m .name) (m .named),
+      m .path,
+    )
     (grows level second new s free (good-second k text w span parts second good) (b .1) new filled (under-refl new) _
     (grown-opened (grown-emit (grown-none new s) (fullName parts .reports)) new (under-refl new) parts span))
 
@@ -183,7 +190,8 @@ pair-gap {new} {s} {t} g dead defined span =
     }
 
 pub pair-sim : {level : ℕ} {new parent : List ℕ} {s : State} {n d : Tree} → Pair level new parent s n d → goodNames n ≡ true
-    → any (λ (x : Def). not (isDirective (x .value))) (s .defs) ≡ true → Sim new true s (lowerItem level d parent (lowerItem level n parent s))
+    → any (λ (x : Def). not (isDirective (x .value))) (s .defs) ≡ true
+    → Sim new true s (lowerItem level d parent (lowerItem level n parent s))
 unfolding deleteNode define unbind emit
 pair-sim {level} {new} {parent} {s} {n} {d} p good defined =
     let g = subnode-grows level n new parent s (p .subnode) (p .newPath) (p .inBody) good (p .quietNode) (p .nothingBound) in

@@ -220,7 +220,8 @@ module _ {new : List ℕ} {t : Bool} {a b : State} (s : Sim new t a b) where
   unfolding lowerProperty
   sim-property level parent parts values span =
       sim-cond (isEmpty parent) (sim-emit s (report 7 [] span ∷ []))
-      (sim-named (sim-emit s (lowerValues level values .reports ++ fullName parts .reports)) level parent parts values span (fullName parts .result))
+      (sim-named (sim-emit s (lowerValues level values .reports ++ fullName parts .reports)) level parent parts values span
+      (fullName parts .result))
 
   sim-directive : (w : ℕ) (parent : List ℕ) (parts : Trees) (span : Span)
       → Sim new t (lowerDirective w parent parts span a) (lowerDirective w parent parts span b)

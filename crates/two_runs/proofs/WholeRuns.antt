@@ -33,12 +33,13 @@ use Rattle.input.proofs.Refusals.{refusal-number}
 use Rattle.two_runs.proofs.TwoRuns.{two-runs}
 
 -- an accepted run's input is accepted, and what its description lowers to is written
-record Wrote (r : Run) : Type 0 where
-  verdictIs : verdict (r .words) (r .text) ≡ accepted
-  log : Written (r .out) (r .bytes) (recordsMade (meaning (r .level) (r .words) (r .text))) (bytesMade (meaning (r .level) (r .words) (r .text)))
+pub record Wrote (r : Run) : Type 0 where
+  pub verdictIs : verdict (r .words) (r .text) ≡ accepted
+  pub log : Written (r .out) (r .bytes) (recordsMade (meaning (r .level) (r .words) (r .text)))
+      (bytesMade (meaning (r .level) (r .words) (r .text)))
       (logOf (meaning (r .level) (r .words) (r .text)))
 
-wrote : (r : Run) → AcceptedRun r → Wrote r
+pub wrote : (r : Run) → AcceptedRun r → Wrote r
 wrote r a = go (a .lowered)
   where
     go : Lowered (r .level) (r .words) (r .text) (r .outBefore) (r .bytesBefore) (r .answer) (r .out) (r .bytes) → Wrote r

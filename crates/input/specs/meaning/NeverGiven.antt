@@ -11,9 +11,12 @@ use Rattle.log.specs.meaning.Contents.{Diag}
 use Rattle.input.specs.meaning.Tree.{Tree}
 use Rattle.input.specs.meaning.Expr.{Outcome, value, fails, eval}
 
--- a diagnostic of one of the two codes
+-- the two codes, and a diagnostic of one of them
+abbrev pub neverGiven : ℕ → Bool
+neverGiven code = cond (eqb code outside64Bits) true (eqb code numberTooSmall)
+
 abbrev pub isNeverGiven : Diag → Bool
-isNeverGiven d = cond (eqb (d .code) outside64Bits) true (eqb (d .code) numberTooSmall)
+isNeverGiven d = neverGiven (d .code)
 
 -- what an outcome reports
 abbrev pub reportsIn : {N : Type 0} → Outcome N → List Diag

@@ -1,5 +1,5 @@
--- 01, "Nodes and items": lowering the items of a description (lower_item, lower_dt_node, handle_dts_directive, emit_delete_directive), at the
--- level of the description (02, request 10), which only the values of properties ask for.
+-- 01, "Nodes and items": lowering the items of a description (lower_item, lower_dt_node, handle_dts_directive, emit_delete_directive), at
+-- the level of the description (02, request 10), which only the values of properties ask for.
 use Prim.Native.Nat.{ℕ}
 use mathlib.Core.Bool.{cond}
 use mathlib.Core.List.{List, [], _∷_, _++_}

@@ -66,8 +66,8 @@ unsignedInfix op a b =
     (cond (eqb op 10) (shiftedBy b (value (a / 2 ^ b)))
     (unsignedRelation op a b))))))))))
 
--- "For a cell of 32 bits or less, level 2 takes a result that fits unsigned, or whose upper bits are all ones and which fits signed": such a
--- result is at or above 2^64 - 2^(bits - 1). It is stored modulo 2^bits; 64 bits take every result.
+-- "For a cell of 32 bits or less, level 2 takes a result that fits unsigned, or whose upper bits are all ones and which fits signed": such
+-- a result is at or above 2^64 - 2^(bits - 1). It is stored modulo 2^bits; 64 bits take every result.
 unfoldable pub unsignedCell : ℕ → ℕ → Reading ℕ
 unsignedCell bits n =
     cond (ltb n (2 ^ bits)) (value n)

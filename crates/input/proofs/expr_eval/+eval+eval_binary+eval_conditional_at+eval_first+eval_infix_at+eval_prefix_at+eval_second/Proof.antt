@@ -324,7 +324,8 @@ eval-returns-5 t c =
     let s = c .before .before .before .before .before .before in
     let words = s .args .words .now in
     let text = s .args .text .now in
-    c .eval-prefix-at .ensures ∙ eval-kind (s .args .level) words text (s .args .r) 18 (sym (c .before .before .kind-at .ensures) ∙ c .before .match .keys4)
+    c .eval-prefix-at .ensures
+    ∙ eval-kind (s .args .level) words text (s .args .r) 18 (sym (c .before .before .kind-at .ensures) ∙ c .before .match .keys4)
 
 eval-returns-6 : (t : ℕ) → eval-lts.Need-returns-6 (eval-claims t) (eval-at t) eval.Post
 eval-returns-6 t c =
@@ -339,7 +340,8 @@ eval-returns-7 t c =
     let s = c .before .before .before .before .before .before in
     let words = s .args .words .now in
     let text = s .args .text .now in
-    c .eval-infix-at .ensures ∙ eval-kind (s .args .level) words text (s .args .r) 20 (sym (c .before .before .kind-at .ensures) ∙ c .before .match .keys6)
+    c .eval-infix-at .ensures
+    ∙ eval-kind (s .args .level) words text (s .args .r) 20 (sym (c .before .before .kind-at .ensures) ∙ c .before .match .keys6)
 
 eval-returns-8 : (t : ℕ) → eval-lts.Need-returns-8 (eval-claims t) (eval-at t) eval.Post
 eval-returns-8 t c =
@@ -348,7 +350,8 @@ eval-returns-8 t c =
     let text = s .args .text .now in
     let k = c .before .kind-at .ensures in
     let r = c .match .rest in
-    eval-other (s .args .level) words text (s .args .r) (λ e. r .0 .0 .0 .0 .0 .1 (k ∙ e)) (λ e. r .0 .0 .0 .0 .1 (k ∙ e)) (λ e. r .0 .0 .0 .1 (k ∙ e))
+    eval-other (s .args .level) words text (s .args .r) (λ e. r .0 .0 .0 .0 .0 .1 (k ∙ e)) (λ e. r .0 .0 .0 .0 .1 (k ∙ e))
+    (λ e. r .0 .0 .0 .1 (k ∙ e))
     (λ e. r .0 .0 .1 (k ∙ e)) (λ e. r .0 .1 (k ∙ e)) (λ e. r .1 (k ∙ e))
 
 eval-binary-after-requires : (t : ℕ) → eval-binary-lts.Need-after-requires (eval-binary-claims t) (eval-binary-at t) eval-binary.Post
@@ -360,7 +363,8 @@ eval-binary-returns t c =
     let words = s .args .words .now in
     let text = s .args .text .now in
     let linked = s .pre .1 .0 in
-    infix-short (s .args .level) words text linked (s .args .op) (spanAt words (s .args .r)) (s .args .x) _ (c .before .after .ensures) (s .pre .1 .1 .0 .at)
+    infix-short (s .args .level) words text linked (s .args .op) (spanAt words (s .args .r)) (s .args .x) _ (c .before .after .ensures)
+    (s .pre .1 .1 .0 .at)
     (c .if1 .taken)
 
 eval-binary-eval-requires : (t : ℕ) → eval-binary-lts.Need-eval-requires (eval-binary-claims t) (eval-binary-at t) eval-binary.Post
@@ -388,7 +392,8 @@ eval-binary-returns-2 t c =
     let text = s .args .text .now in
     let linked = s .pre .1 .0 in
     let nesting = s .args .nesting in
-    binary-fails (s .args .level) words text linked (spanAt words (s .args .r)) nesting (s .args .x) (s .pre .1 .1 .0) (c .before .eval .result)
+    binary-fails (s .args .level) words text linked (spanAt words (s .args .r)) nesting (s .args .x) (s .pre .1 .1 .0)
+    (c .before .eval .result)
     (c .before .eval .ensures) _ (c .before .before .before .after .ensures) (s .args .op) (s .pre .1 .1 .1 .0) (s .pre .1 .1 .1 .1)
     (c .before .before .if1 .left) (c .match .keys2)
 
@@ -440,7 +445,8 @@ eval-conditional-at-returns t c =
     let text = s .args .text .now in
     let linked = s .pre .1 .0 in
     let nesting = s .args .nesting in
-    λ span. conditional-short (s .args .level) words text linked span (s .args .x) _ _ (c .before .before .after .ensures) (c .before .after2 .ensures)
+    λ span. conditional-short (s .args .level) words text linked span (s .args .x) _ _ (c .before .before .after .ensures)
+    (c .before .after2 .ensures)
     (s .pre .1 .1 .at) (chain-after words text (s .args .x) _ (c .before .before .after .ensures) linked nesting (s .pre .1 .1) .at)
     (c .if1 .taken)
 
@@ -584,7 +590,8 @@ eval-first-returns-2 t c =
     let words = s .args .words .now in
     let text = s .args .text .now in
     let linked = s .pre .1 .0 in
-    c .eval .ensures ∙ first-is (s .args .level) words text linked (s .args .first) (c .before .if1 .left) (s .pre .1 .1 .at (c .before .if1 .left))
+    c .eval .ensures ∙ first-is (s .args .level) words text linked (s .args .first) (c .before .if1 .left)
+    (s .pre .1 .1 .at (c .before .if1 .left))
 
 eval-infix-at-number-at-requires : (t : ℕ) → eval-infix-at-lts.Need-number-at-requires (eval-infix-at-claims t) (eval-infix-at-at t)
     eval-infix-at.Post
@@ -596,7 +603,8 @@ eval-infix-at-returns t c =
     let words = s .args .words .now in
     let text = s .args .text .now in
     rw (sym (c .before .number-at .ensures) ∙ c .if1 .taken)
-    (sym (infix-missing (s .args .level) (spanAt words (s .args .r)) (evals (rulesAt (s .args .level)) (chainAt words text (childAt words (s .args .r))))))
+    (sym (infix-missing (s .args .level) (spanAt words (s .args .r))
+    (evals (rulesAt (s .args .level)) (chainAt words text (childAt words (s .args .r))))))
 
 eval-infix-at-child-at-requires : (t : ℕ) → eval-infix-at-lts.Need-child-at-requires (eval-infix-at-claims t) (eval-infix-at-at t)
     eval-infix-at.Post
@@ -640,7 +648,8 @@ eval-prefix-at-returns t c =
     let words = s .args .words .now in
     let text = s .args .text .now in
     rw (sym (c .before .number-at .ensures) ∙ c .if1 .taken)
-    (sym (prefix-missing (s .args .level) (spanAt words (s .args .r)) (evals (rulesAt (s .args .level)) (chainAt words text (childAt words (s .args .r))))))
+    (sym (prefix-missing (s .args .level) (spanAt words (s .args .r))
+    (evals (rulesAt (s .args .level)) (chainAt words text (childAt words (s .args .r))))))
 
 eval-prefix-at-child-at-requires : (t : ℕ) → eval-prefix-at-lts.Need-child-at-requires (eval-prefix-at-claims t) (eval-prefix-at-at t)
     eval-prefix-at.Post
@@ -665,7 +674,8 @@ eval-prefix-at-returns-2 t c =
     let op = c .before .before .before .before .number-at in
     c .prefix-of .ensures words text
     ∙ rw (c .before .eval-first .ensures, c .before .before .child-at .ensures, op .ensures)
-    (prefix-first (s .args .level) (numberAt words (s .args .r)) (λ q. c .before .before .before .if1 .left (op .ensures ∙ q)) (spanAt words (s .args .r))
+    (prefix-first (s .args .level) (numberAt words (s .args .r)) (λ q. c .before .before .before .if1 .left (op .ensures ∙ q))
+    (spanAt words (s .args .r))
     (evals (rulesAt (s .args .level)) (chainAt words text (childAt words (s .args .r)))))
 
 eval-second-first-decides-requires : (t : ℕ) → eval-second-lts.Need-first-decides-requires (eval-second-claims t) (eval-second-at t)
@@ -684,7 +694,8 @@ eval-second-returns t c =
     let words = s .args .words .now in
     let text = s .args .text .now in
     rw (read-truth, c .is-true .ensures, read (s .fits .a))
-    (decided (s .args .level) (s .args .op) (spanAt words (s .args .r)) (s .args .a) (evalOf (rulesAt (s .args .level)) (recordAt words text (s .args .y)))
+    (decided (s .args .level) (s .args .op) (spanAt words (s .args .r)) (s .args .a)
+    (evalOf (rulesAt (s .args .level)) (recordAt words text (s .args .y)))
     (rw (read (s .fits .a)) at (sym (c .before .before .first-decides .ensures) ∙ c .before .if1 .taken)))
 
 eval-second-eval-requires : (t : ℕ) → eval-second-lts.Need-eval-requires (eval-second-claims t) (eval-second-at t) eval-second.Post

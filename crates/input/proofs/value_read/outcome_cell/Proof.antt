@@ -34,7 +34,8 @@ returns c = let a = c .before .before .before .before .before .args in
     c .fitted-cell .ensures words text
     ∙ ap (numberCell (spanAt words (a .r))) (c .before .expr-cell .ensures
     ∙ ap (exprCell (bitsOf (a .size))) (read (record { sfits = c .before .before .known-told .given .0 .1 })))
-    ∙ sym (ap (λ e. outcomeCell signedRules (a .size) (spanAt words (a .r)) (outcomeOf words text e)) (c .before .before .before .e .given .1))
+    ∙ sym (ap (λ e. outcomeCell signedRules (a .size) (spanAt words (a .r)) (outcomeOf words text e))
+    (c .before .before .before .e .given .1))
 
 returns-2 : tie.Need-returns-2
 returns-2 c = let a = c .before .before .args in λ words text. sym

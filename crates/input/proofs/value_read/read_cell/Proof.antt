@@ -90,7 +90,8 @@ returns-8 : tie.Need-returns-8
 returns-8 c = let a = c .before .before .before .before .args in
     let k = c .before .kind-at .ensures in
     let r = c .match .rest in
-    cell-other (a .words .now) (a .text .now) (a .r) (a .level) (a .size) (λ e. r .0 .0 .0 .0 .0 .0 .1 (k ∙ e)) (λ e. r .0 .0 .0 .0 .0 .1 (k ∙ e))
+    cell-other (a .words .now) (a .text .now) (a .r) (a .level) (a .size) (λ e. r .0 .0 .0 .0 .0 .0 .1 (k ∙ e))
+    (λ e. r .0 .0 .0 .0 .0 .1 (k ∙ e))
     (λ e. r .0 .0 .0 .0 .1 (k ∙ e))
     (λ e. r .0 .0 .0 .1 (k ∙ e)) (λ e. r .0 .0 .1 (k ∙ e)) (λ e. r .0 .1 (k ∙ e)) (λ e. r .1 (k ∙ e))
 

@@ -56,7 +56,8 @@ loop-again
       c .before .before .before .before .before .lower-cell .kept .1 .1 .1 .1 .1 .1 .0 ∙ l .inv .1,
       c .before .before .before .before .before .lower-cell .kept .1 .1 .1 .1 .1 .1 .1 .0 ∙ l .inv .2,
       λ d w b h. l .inv .3 d w b
-          (same-fills (cells-more (s .args .words .now) (s .args .text .now) (l .r) (s .pre .0) n (l .inv .0 .at n) (s .args .level) (s .args .size))
+          (same-fills (cells-more (s .args .words .now) (s .args .text .now) (l .r) (s .pre .0) n (l .inv .0 .at n) (s .args .level)
+          (s .args .size))
           (fills-then adding-cells (s .args .keep) _ _ (c .before .before .before .before .before .lower-cell .ensures) h)),
     )
 
@@ -68,7 +69,8 @@ same-length-2 c = c .before .loop .inv .2
 
 returns : tie.Need-returns Inv-loop μ-loop
 returns c = let s = c .before .before .before .before .before .before in let l = c .before .loop in
-    l .inv .3 _ _ _ (same-fills (cells-end (s .args .words .now) (s .args .text .now) (l .r) (s .args .level) (s .args .size) (c .loop-test .left))
+    l .inv .3 _ _ _ (same-fills
+    (cells-end (s .args .words .now) (s .args .text .now) (l .r) (s .args .level) (s .args .size) (c .loop-test .left))
     (fills-none adding-cells (s .args .keep)))
 
 pub lower-cells-spec : {M : Type 1} → statement M

@@ -16,7 +16,8 @@ use Rattle.items.proofs.dt_property.lower_prop_values.Statement.{statem
 use Rattle.items.proofs.dt_property.lower_prop_values.Tie as tie
 
 abbrev Inv-loop : tie.InvT-loop
-Inv-loop words text first keep nesting out₀ bytes₀ level r₀ next₀ out bytes r next = ChainIn words text r nesting × (length out ≡ length out₀)
+Inv-loop words text first keep nesting out₀ bytes₀ level r₀ next₀ out bytes r next = ChainIn words text r nesting
+    × (length out ≡ length out₀)
     × (length bytes ≡ length bytes₀) × ((d : LowerCtx) (w b : List ℕ)
     → FillsProperty keep next d out bytes w b (lowerValues level (chainAt words text r))
     → FillsProperty keep next₀ d out₀ bytes₀ w b (lowerValues level (chainAt words text r₀)))

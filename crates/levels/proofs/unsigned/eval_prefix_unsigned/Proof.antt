@@ -59,7 +59,8 @@ unfolding unsignedPrefix
 returns-4 c =
     let k = c .before .before .before in
     rw (c .before .before .match .keys4)
-    (c .of-truth .ensures ∙ ap (λ (t : Bool). held (value (truthOf (not t)))) (rw (read (k .fits .a)) at (c .before .is-true .ensures) ∙ holds-bits _ (k .fits .a)))
+    (c .of-truth .ensures ∙ ap (λ (t : Bool). held (value (truthOf (not t))))
+    (rw (read (k .fits .a)) at (c .before .is-true .ensures) ∙ holds-bits _ (k .fits .a)))
 
 returns-5 : tie.Need-returns-5
 unfolding unsignedPrefix

@@ -259,7 +259,8 @@ lower-dt-node-returns-2 : (t : ℕ) → lower-dt-node-lts.Need-returns-2 (lower-
 lower-dt-node-returns-2 t
     c = let s = c .before .before .before .before .before .before .before .before .before .before .before .before .before .before .before
     .before .before .before .before .before .before .before .before .before in node-at
-    (λ q u. lowerItems (s .args .level) (chainAt (s .args .words .now) (s .args .text .now) (secondAt (s .args .words .now) (s .args .r))) q u)
+    (λ q u. lowerItems (s .args .level) (chainAt (s .args .words .now) (s .args .text .now) (secondAt (s .args .words .now) (s .args .r)))
+    q u)
     (c .before .before .before .before .before .before .before .before .before .before .before .before .before .before .before .before
     .before .before .before .if1 .left)
     (c .before .before .before .before .before .before .before .before .before .before .before .before .before .before .before .before
@@ -285,7 +286,8 @@ lower-dt-node-returns-3 : (t : ℕ) → lower-dt-node-lts.Need-returns-3 (lower-
 lower-dt-node-returns-3 t
     c = let s = c .before .before .before .before .before .before .before .before .before .before .before .before .before .before .before
     .before .before .before .before .before .before .before .before .before .before .before .before .before .before .before in node-aside
-    (λ q u. lowerItems (s .args .level) (chainAt (s .args .words .now) (s .args .text .now) (secondAt (s .args .words .now) (s .args .r))) q u)
+    (λ q u. lowerItems (s .args .level) (chainAt (s .args .words .now) (s .args .text .now) (secondAt (s .args .words .now) (s .args .r)))
+    q u)
     (c .before .before .before .before .before .before .before .before .before .before .before .before .before .before .before .before
     .before .before .before .before .before .before .before .before .before .if1 .left)
     (c .before .before .before .before .before .before .before .before .before .before .before .before .before .before .before .before
@@ -312,7 +314,8 @@ lower-dt-node-returns-4 : (t : ℕ) → lower-dt-node-lts.Need-returns-4 (lower-
 lower-dt-node-returns-4 t
     c = let s = c .before .before .before .before .before .before .before .before .before .before .before .before .before .before .before
     .before .before .before .before .before .before .before .before .before .before .before .before .before .before in node-discarded
-    (λ q u. lowerItems (s .args .level) (chainAt (s .args .words .now) (s .args .text .now) (secondAt (s .args .words .now) (s .args .r))) q u)
+    (λ q u. lowerItems (s .args .level) (chainAt (s .args .words .now) (s .args .text .now) (secondAt (s .args .words .now) (s .args .r)))
+    q u)
     (c .before .before .before .before .before .before .before .before .before .before .before .before .before .before .before .before
     .before .before .before .before .before .before .before .before .if1 .left)
     (c .before .before .before .before .before .before .before .before .before .before .before .before .before .before .before .before
@@ -356,7 +359,8 @@ lower-item-same-length-2 t c = search needs
 lower-item-returns : (t : ℕ) → lower-item-lts.Need-returns (lower-item-claims t) (lower-item-at t) lower-item.Post
 lower-item-returns t
     c = let a = c .before .before .before .before .before .before .before .before .before .before .before .before .before .args in is-node
-    (a .level) (a .words .now) (a .text .now) (a .r) (sym (c .before .before .before .before .before .before .before .before .kind-at .ensures)
+    (a .level) (a .words .now) (a .text .now) (a .r)
+    (sym (c .before .before .before .before .before .before .before .before .kind-at .ensures)
     ∙ c .before .before .before .before .before .before .before .if1 .taken) (c .before .before .before .before .lower-dt-node .ensures)
 
 lower-item-lower-dt-property-requires : (t : ℕ) → lower-item-lts.Need-lower-dt-property-requires (lower-item-claims t) (lower-item-at t)
@@ -377,7 +381,8 @@ lower-item-returns-2 : (t : ℕ) → lower-item-lts.Need-returns-2 (lower-item-c
 lower-item-returns-2 t
     c = let a = c .before .before .before .before .before .before .before .before .before .before .before .before .before .before
     .args in let k = c .before .before .before .before .before .before .before .before .before .kind-at .ensures in is-property
-    (a .level) (a .words .now) (a .text .now) (a .r) (λ e. c .before .before .before .before .before .before .before .before .if1 .left (k ∙ e))
+    (a .level) (a .words .now) (a .text .now) (a .r)
+    (λ e. c .before .before .before .before .before .before .before .before .if1 .left (k ∙ e))
     (sym k ∙ c .before .before .before .before .before .before .before .if2 .taken)
     (c .before .before .before .before .lower-dt-property .ensures)
 
@@ -399,7 +404,8 @@ lower-item-returns-3 : (t : ℕ) → lower-item-lts.Need-returns-3 (lower-item-c
 lower-item-returns-3 t
     c = let a = c .before .before .before .before .before .before .before .before .before .before .before .before .before .before .before
     .args in let k = c .before .before .before .before .before .before .before .before .before .before .kind-at .ensures in is-directive
-    (a .level) (a .words .now) (a .text .now) (a .r) (λ e. c .before .before .before .before .before .before .before .before .before .if1 .left
+    (a .level) (a .words .now) (a .text .now) (a .r)
+    (λ e. c .before .before .before .before .before .before .before .before .before .if1 .left
     (k ∙ e)) (λ e. c .before .before .before .before .before .before .before .before .if2 .left (k ∙ e))
     (sym k ∙ c .before .before .before .before .before .before .before .if3 .taken)
     (c .before .before .before .before .handle-dts-directive .ensures)
