@@ -10,6 +10,7 @@ pub mod coverage;
 pub mod crate_tree;
 pub mod damaged;
 pub mod definitions;
+pub mod dtc;
 pub mod generate;
 pub mod inputs;
 pub mod judge;

@@ -6,7 +6,7 @@ use judge::{
     answer::{Answer, Query},
     by_01,
     counts::Counts,
-    definitions, generate,
+    definitions, dtc, generate,
     library::Library,
     listing_input, logs, memory, notation, ours, panics,
     parts::{self, ALL, SHORT, Sizes},
@@ -24,7 +24,7 @@ const CRATES: &str = concat!(env!("CARGO_MANIFEST_DIR"), "/../../crates");
 const USAGE: &str = "usage: run [all [CASES]] | short | worked FILE | numbers | small | trees FROM CASES
        | damaged [FROM CASES] | pairs [FROM CASES] | queries [FROM LOGS] | planted | speed
        | ask DESCRIPTION | show SEED | input SEED | write FILE | judge FILE | listing FILE
-       | record FOLDER | definitions FOLDER [COUNT] [SEED]";
+       | dtc [CASES] | record FOLDER | definitions FOLDER [COUNT] [SEED]";
 
 fn main() -> ExitCode {
     panics::install_hook();
@@ -69,6 +69,8 @@ fn command(words: &[&str]) -> Result<(), String> {
         ["listing", file] => {
             judged_file(file).and_then(|(answer, _)| print_bytes(&text_form::listing(&answer)))
         }
+        ["dtc"] => dtc::run(dtc::CASES),
+        ["dtc", cases] => dtc::run(number(cases)?),
         ["record", folder] => recorded::write(folder).map(|line| println!("{line}")),
         ["definitions", folder, ref more @ ..] if more.len() <= 2 => definitions_part(folder, more),
         _ => Err(USAGE.to_owned()),
