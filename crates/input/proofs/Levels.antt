@@ -1,6 +1,6 @@
 -- An expression at level 2, as the code evaluates it: on the signed values of the same bits (rulesAt). What it makes of an expression is
 -- what the definition makes on numbers below 2 ^ 64.
-use Prim.Native.Nat.{ℕ, _+_, _%_, _^_, _≤_, _<_}
+use Prim.Native.Nat.{ℕ, _%_, _^_, _≤_, _<_}
 use mathlib.Core.Path.{_≡_, refl, sym, ap, _∙_}
 use mathlib.Core.Bool.{Bool, true, false, cond}
 use mathlib.Core.List.{List, [], _∷_}
@@ -16,7 +16,6 @@ use Rattle.paths_numbers.specs.meaning.Code.{macroUndefined}
 use Rattle.paths_numbers.specs.meaning.Reading.{Reading, noCode}
 use Rattle.paths_numbers.specs.meaning.Reading as R
 use Rattle.paths_numbers.specs.meaning.Expression.{andOp, orOp, conditionalOp, isTrue, ofTruth}
-use Rattle.paths_numbers.specs.meaning.Cell.{bitsOf}
 use Rattle.paths_numbers.specs.declared.dt_property.BitsSize.{BitsSize}
 use Rattle.paths_numbers.proofs.Texts.{by-test}
 use Rattle.levels.specs.meaning.Rules.{Rules, unsignedLevel, signedRules, unsignedRules}
@@ -25,11 +24,10 @@ use Rattle.levels.specs.machine.Held.{held, rulesAt}
 use Rattle.levels.proofs.Wrapping.{holds-bits}
 use Rattle.levels.proofs.Below.{most, Below, number-within, prefix-below, infix-below}
 use Rattle.levels.proofs.Cells.{cell-same}
-use Rattle.log.specs.meaning.Contents.{Span, Diag, Cell}
+use Rattle.log.specs.meaning.Contents.{Span, Diag}
 use Rattle.input.specs.meaning.Tree.{Tree, Trees, tree, empty, more, macroKind, numberKind, characterKind, prefixKind}
 use Rattle.input.specs.meaning.Tree.{parenthesisKind, infixKind}
-use Rattle.input.specs.meaning.Report.{report}
-use Rattle.input.specs.meaning.Expr.{Outcome, value, fails, missing, failsWith, evaluated, withValue, firstOperand, truthIn, applied}
+use Rattle.input.specs.meaning.Expr.{Outcome, value, fails, missing, evaluated, withValue, firstOperand, truthIn, applied}
 use Rattle.input.specs.meaning.Expr.{infixOf, prefixOf, combined, eval, evals}
 use Rattle.input.specs.meaning.NeverGiven.{reportsIn, NeverGiven}
 use Rattle.input.specs.meaning.Property.{numberCell, outcomeCell, expressionCell}

@@ -1,7 +1,6 @@
 -- The cell rule of level 2 is 01's of the result read as a signed number.
 use Prim.Native.Nat.{ℕ, suc, _+_, _-_, _*_, _%_, _^_, _≤_, _<_}
 use mathlib.Core.Path.{_≡_, refl, ap, _∙_}
-use mathlib.Core.Bool.{true, false}
 use native.Mathlib.Omega.{arith}
 use native.Mathlib.Nat.{mul-add-mod-self-right, mod-eq-of-lt}
 use borrow.Author.Tests.{lt-ltb, le-ltb, lt-leb, ltb-true, ltb-false, leb-true, leb-false}
@@ -11,8 +10,7 @@ use lib.Pow.{pow-pos}
 use mir.Syntax.{w64}
 use mir.Val.{toZ}
 use mir.ValLaws.{toZ-pos, toZ-neg}
-use Rattle.paths_numbers.specs.meaning.Reading.{value, fails}
-use Rattle.paths_numbers.specs.meaning.Code.{cellOutside}
+use Rattle.paths_numbers.specs.meaning.Reading.{value}
 use Rattle.paths_numbers.specs.meaning.Cell.{bitsOf, exprCell}
 use Rattle.paths_numbers.specs.declared.dt_property.BitsSize.{BitsSize}
 use Rattle.paths_numbers.specs.declared.dt_property.BitsSize.the-variants.{Bits8, Bits16, Bits32, Bits64}

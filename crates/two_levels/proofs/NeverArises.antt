@@ -9,14 +9,14 @@ use Rattle.paths_numbers.specs.meaning.Lists.{any}
 use Rattle.paths_numbers.proofs.Texts.{cond-in}
 use Rattle.log.specs.meaning.Contents.{Span, Cell, number, reference, Value, string, cellList, bytestring, phandle, DefValue, node}
 use Rattle.log.specs.meaning.Contents.{property, deletedNode, deletedProperty, version, plugin, Def, Binding}
-use Rattle.log.specs.meaning.ReadBack.{Log, readLog}
+use Rattle.log.specs.meaning.ReadBack.{Log}
 use Rattle.making.specs.meaning.State.{State}
 use Rattle.queries.specs.meaning.Kind.{setsOverlay}
 use Rattle.queries.specs.meaning.Live.{live}
 use Rattle.input.specs.meaning.Report.{report}
 use Rattle.input.specs.meaning.NeverGiven.{neverGiven, isNeverGiven}
 use Rattle.resolving.specs.meaning.Resolve.{Resolution, reaches, missing, resolve}
-use Rattle.post_checks.specs.meaning.Post.{duplicatesOf, duplicateLabels, referenceReport, checkTarget, checkCell, checkCells, checkValue}
+use Rattle.post_checks.specs.meaning.Post.{duplicatesOf, duplicateLabels, referenceReport, checkTarget, checkCells, checkValue}
 use Rattle.post_checks.specs.meaning.Post.{checkValues, checkDef, checkDefs, checkReferences, Headers, atFirst, nextHeaders, headerReport}
 use Rattle.post_checks.specs.meaning.Post.{directivesFrom, checkDirectives, postChecks}
 use Rattle.lowering.specs.meaning.Lowered.{logOf, meaning}
@@ -111,7 +111,7 @@ post-quiet s =
 
 -- the whole run
 pub never-arises : NeverArises
-unfolding NeverArises readLog
+unfolding NeverArises logOf
 never-arises r a l =
     let w = wrote r a .log .reads in
     record {

@@ -1,8 +1,8 @@
 -- What names, references and values report at level 2: neither of the codes that it never gives.
-use Prim.Native.Nat.{ℕ}
+use Prim.Native.Nat.{ℕ, _^_}
 use mathlib.Core.Path.{_≡_, refl}
-use mathlib.Core.Bool.{Bool, true, false}
-use mathlib.Core.List.{List, []}
+use mathlib.Core.Bool.{Bool, false}
+use mathlib.Core.List.{List, [], _∷_}
 use mathlib.Core.Option.{Option, some, none}
 use lib.Dec.{eqb, leb, ltb}
 use Rattle.paths_numbers.specs.meaning.Code.{macroUndefined}
@@ -13,12 +13,13 @@ use Rattle.paths_numbers.specs.meaning.Reading as R
 use Rattle.paths_numbers.specs.meaning.Number.{unsignedNumber}
 use Rattle.paths_numbers.specs.meaning.Cell.{bitsOf, largest, sized, sizeOf, charCell}
 use Rattle.paths_numbers.specs.meaning.Bytestring.{isOdd, countOf}
-use Rattle.paths_numbers.specs.declared.dt_property.BitsSize.{BitsSize, Bits32}
+use Rattle.paths_numbers.specs.declared.dt_property.BitsSize.{BitsSize}
+use Rattle.paths_numbers.specs.declared.dt_property.BitsSize.the-variants.{Bits32}
 use Rattle.paths_numbers.proofs.Texts.{cond-in}
 use Rattle.levels.specs.meaning.Rules.{unsignedLevel, unsignedRules}
 use Rattle.levels.specs.meaning.Unsigned.{unsignedCell}
 use Rattle.levels.proofs.Below.{Within, number-within}
-use Rattle.log.specs.meaning.Contents.{Span, Diag}
+use Rattle.log.specs.meaning.Contents.{Span}
 use Rattle.input.specs.meaning.Tree.{Tree, Trees, empty, more, kindOf, textOf, wOf, spanOf, childrenOf, firstOf, nameKind, unitAddressKind}
 use Rattle.input.specs.meaning.Tree.{referenceKind, macroKind, directiveKind, preprocessorKind, stringKind, cellListKind, bytestringKind}
 use Rattle.input.specs.meaning.Tree.{numberKind, characterKind, expressionKind}
@@ -144,8 +145,8 @@ referred-quiet size span g h = go (g .result)
 cell-quiet : (size : BitsSize) (t : Tree) → QuietMade (lowerCell unsignedLevel size t)
 unfolding lowerCell
 cell-quiet size t =
-    cond-in QuietMade (eqb (kindOf t) numberKind) (number-quiet (spanOf t) _ (text-quiet (largest size) (textOf t)))
-    (cond-in QuietMade (eqb (kindOf t) characterKind) (number-quiet (spanOf t) _ (character-quiet (bitsOf size) (wOf t)))
+    cond-in QuietMade (eqb (kindOf t) numberKind) (number-quiet (spanOf t) (unsignedNumber (largest size) (textOf t)) (text-quiet (largest size) (textOf t)))
+    (cond-in QuietMade (eqb (kindOf t) characterKind) (number-quiet (spanOf t) (charCell (bitsOf size) (wOf t)) (character-quiet (bitsOf size) (wOf t)))
     (cond-in QuietMade (eqb (kindOf t) expressionKind) (expression-quiet size (spanOf t) (childrenOf t))
     (cond-in QuietMade (eqb (kindOf t) referenceKind) (referred-quiet size (spanOf t) (lowerPhandle t) (phandle-quiet t))
     (cond-in QuietMade (eqb (kindOf t) macroKind) (undefined-quiet t)

@@ -1,7 +1,7 @@
 -- Without expression cells nothing that lowering makes depends on the level, and so two runs at level 1 and 2 leave the same.
 use Prim.Native.Nat.{ℕ}
 use mathlib.Core.Path.{_≡_, refl, sym, ap, _∙_}
-use mathlib.Core.Bool.{Bool, true, false, cond}
+use mathlib.Core.Bool.{Bool, true, false}
 use mathlib.Core.List.{List, []}
 use mathlib.Core.Option.{Option, some, none}
 use lib.Dec.{eqb}
@@ -27,7 +27,7 @@ use Rattle.items.specs.meaning.Lower.{lowerProperty, lowerAs, lowerItem, lowerI
 use Rattle.lowering.specs.meaning.Lowered.{fitsIn, meaning, Lowered, noLevel, turnedDown, short, done}
 use Rattle.two_runs.specs.meaning.WholeRuns.{Run}
 use Rattle.two_levels.specs.meaning.TwoLevels.{noExpression, noExpressions, LoweringRun, SameLent, AlikeLeft, sameLeft, sameLog}
-use Rattle.two_levels.specs.meaning.TwoLevels.{AlikeLevels, TwoLevels}
+use Rattle.two_levels.specs.meaning.TwoLevels.{TwoLevels}
 
 -- what a tree without expression cells is made of
 parts-of : (k : ℕ) (text : List ℕ) (w : ℕ) (span : Span) (children second : Trees)
