@@ -77,20 +77,25 @@ pub fn eval_prefix_unsigned(op: u32, a: i64) -> Evaluated
 pub fn eval_infix_unsigned(op: u32, a: i64, b: i64) -> Evaluated
     ensures { λ r. ⌜ evalTold r ≡ held (unsignedInfix op (ofZ w64 a) (ofZ w64 b)) ⌝ }
 {
-    let x = bits_of(a);
-    let y = bits_of(b);
+    infix_unsigned(op, bits_of(a), bits_of(b))
+}
+
+// The infix operator of this number on two numbers.
+fn infix_unsigned(op: u32, a: u64, b: u64) -> Evaluated
+    ensures { λ r. ⌜ evalTold r ≡ held (unsignedInfix op a b) ⌝ }
+{
     match op {
-        1 => of_bits(std::num::wrapping_add_u64(x, y)),
-        2 => of_bits(std::num::wrapping_sub_u64(x, y)),
-        3 => of_bits(wrapping_mul(x, y)),
-        4 => div_unsigned(x, y),
-        5 => rem_unsigned(x, y),
-        6 => of_bits(x & y),
-        7 => of_bits(x | y),
-        8 => of_bits(x ^ y),
-        9 => shl_unsigned(x, y),
-        10 => shr_unsigned(x, y),
-        _ => relation_unsigned(op, x, y),
+        1 => of_bits(std::num::wrapping_add_u64(a, b)),
+        2 => of_bits(std::num::wrapping_sub_u64(a, b)),
+        3 => of_bits(wrapping_mul(a, b)),
+        4 => div_unsigned(a, b),
+        5 => rem_unsigned(a, b),
+        6 => of_bits(a & b),
+        7 => of_bits(a | b),
+        8 => of_bits(a ^ b),
+        9 => shl_unsigned(a, b),
+        10 => shr_unsigned(a, b),
+        _ => relation_unsigned(op, a, b),
     }
 }
 

@@ -145,8 +145,10 @@ referred-quiet size span g h = go (g .result)
 cell-quiet : (size : BitsSize) (t : Tree) → QuietMade (lowerCell unsignedLevel size t)
 unfolding lowerCell
 cell-quiet size t =
-    cond-in QuietMade (eqb (kindOf t) numberKind) (number-quiet (spanOf t) (unsignedNumber (largest size) (textOf t)) (text-quiet (largest size) (textOf t)))
-    (cond-in QuietMade (eqb (kindOf t) characterKind) (number-quiet (spanOf t) (charCell (bitsOf size) (wOf t)) (character-quiet (bitsOf size) (wOf t)))
+    cond-in QuietMade (eqb (kindOf t) numberKind)
+    (number-quiet (spanOf t) (unsignedNumber (largest size) (textOf t)) (text-quiet (largest size) (textOf t)))
+    (cond-in QuietMade (eqb (kindOf t) characterKind)
+    (number-quiet (spanOf t) (charCell (bitsOf size) (wOf t)) (character-quiet (bitsOf size) (wOf t)))
     (cond-in QuietMade (eqb (kindOf t) expressionKind) (expression-quiet size (spanOf t) (childrenOf t))
     (cond-in QuietMade (eqb (kindOf t) referenceKind) (referred-quiet size (spanOf t) (lowerPhandle t) (phandle-quiet t))
     (cond-in QuietMade (eqb (kindOf t) macroKind) (undefined-quiet t)
