@@ -1,9 +1,10 @@
 -- The cell rule of level 2 is 01's of the result read as a signed number.
-use Prim.Native.Nat.{ℕ, suc, _+_, _-_, _*_, _%_, _^_, _≤_, _<_}
+use Prim.Native.Nat.{ℕ, suc, _+_, _-_, _*_, _/_, _%_, _^_, _≤_, _<_}
 use mathlib.Core.Path.{_≡_, refl, ap, _∙_}
 use native.Mathlib.Omega.{arith}
-use native.Mathlib.Nat.{mul-add-mod-self-right, mod-eq-of-lt}
-use borrow.Author.Tests.{lt-ltb, le-ltb, lt-leb, ltb-true, ltb-false, leb-true, leb-false}
+use mathlib.Core.Bool.{true, and-false}
+use native.Mathlib.Nat.{add-zero, mul-add-mod-self-right, mul-add-div-right, mod-eq-of-lt, div-eq-of-lt}
+use borrow.Author.Tests.{eq-eqb, lt-ltb, le-ltb, lt-leb, ltb-true, ltb-false, leb-true, leb-false}
 use lib.Dec.{ltb, leb}
 use lib.IntN.{ℤ, pos, negsuc}
 use lib.Pow.{pow-pos}
@@ -16,7 +17,7 @@ use Rattle.paths_numbers.specs.declared.dt_property.BitsSize.{BitsSize}
 use Rattle.paths_numbers.specs.declared.dt_property.BitsSize.the-variants.{Bits8, Bits16, Bits32, Bits64}
 use Rattle.paths_numbers.proofs.Texts.{by-test}
 use Rattle.paths_numbers.proofs.Cells.{half, positive-in, positive-out, negative-in, negative-out}
-use Rattle.levels.specs.meaning.Unsigned.{unsignedCell}
+use Rattle.levels.specs.meaning.Unsigned.{upperOnes, unsignedCell}
 
 -- what a number from 2 ^ 63 on lacks
 abbrev lack : ℕ → ℕ
@@ -45,8 +46,8 @@ whole-cell n h =
     (λ k. let e : n ≡ most - lack n = omega arith in ap value e ∙ negative-in 64 most (lack n) (omega arith) refl (omega arith)))
 
 -- a width of fewer bits, of whose numbers 64 bits hold d + 1 times as many
-module _ (bits d : ℕ) (some : 1 ≤ bits) (whole : 2 ^ 64 ≡ d * 2 ^ bits + 2 ^ bits) (narrow : 2 ^ bits ≤ 2 ^ 63) (n : ℕ)
-    (small : n < 2 ^ 64) where
+module _ (bits d : ℕ) (some : 1 ≤ bits) (ones : 2 ^ (64 - bits) - 1 ≡ d) (whole : 2 ^ 64 ≡ d * 2 ^ bits + 2 ^ bits)
+    (narrow : 2 ^ bits ≤ 2 ^ 63) (n : ℕ) (small : n < 2 ^ 64) where
   -- below 2 ^ 63 the result is the same number
   low-cell : n < 2 ^ 63 → unsignedCell bits n ≡ exprCell bits (pos n)
   unfolding unsignedCell
@@ -56,15 +57,25 @@ module _ (bits d : ℕ) (some : 1 ≤ bits) (whole : 2 ^ 64 ≡ d * 2 ^ bits + 2
       (λ t.
       let a : 2 ^ bits ≤ n = ltb-false n (2 ^ bits) t in
       let b : n < 2 ^ 64 - 2 ^ (bits - 1) = omega (arith, half bits some) in
-      simp (t, lt-leb (2 ^ 64 - 2 ^ (bits - 1)) n b)
+      simp (t, lt-leb (2 ^ 64 - 2 ^ (bits - 1)) n b, and-false (upperOnes bits n))
       (positive-out bits (2 ^ bits - 1) n some refl (omega (arith, pow-pos bits))))
 
   -- from there on it is -(k + 1), where k is what it lacks
+  parted : lack n < 2 ^ bits → n ≡ d * 2 ^ bits + (2 ^ bits - 1 - lack n)
+  parted h = omega arith
+
   remains : lack n < 2 ^ bits → n % 2 ^ bits ≡ 2 ^ bits - 1 - lack n
   remains h =
-      let e : n ≡ d * 2 ^ bits + (2 ^ bits - 1 - lack n) = omega arith in
       let l : 2 ^ bits - 1 - lack n < 2 ^ bits = omega arith in
-      ap (λ (k : ℕ). k % 2 ^ bits) e ∙ mul-add-mod-self-right d (2 ^ bits) (2 ^ bits - 1 - lack n) ∙ mod-eq-of-lt l
+      ap (λ (k : ℕ). k % 2 ^ bits) (parted h) ∙ mul-add-mod-self-right d (2 ^ bits) (2 ^ bits - 1 - lack n) ∙ mod-eq-of-lt l
+
+  upper : lack n < 2 ^ bits → upperOnes bits n ≡ true
+  upper h =
+      let l : 2 ^ bits - 1 - lack n < 2 ^ bits = omega arith in
+      let q : n / 2 ^ bits ≡ d =
+      ap (λ (k : ℕ). k / 2 ^ bits) (parted h) ∙ mul-add-div-right (pow-pos bits) d (2 ^ bits - 1 - lack n)
+      ∙ ap (λ (k : ℕ). d + k) (div-eq-of-lt l) ∙ add-zero d in
+      eq-eqb (n / 2 ^ bits) (2 ^ (64 - bits) - 1) (rw ones q)
 
   high-cell : 2 ^ 63 ≤ n → unsignedCell bits n ≡ exprCell bits (negsuc (lack n))
   unfolding unsignedCell
@@ -73,11 +84,11 @@ module _ (bits d : ℕ) (some : 1 ≤ bits) (whole : 2 ^ 64 ≡ d * 2 ^ bits + 2
       by-test (leb (2 ^ 64 - 2 ^ (bits - 1)) n)
       (λ t.
       let a : 2 ^ 64 - 2 ^ (bits - 1) ≤ n = leb-true (2 ^ 64 - 2 ^ (bits - 1)) n t in
-      simp (le-ltb n (2 ^ bits) (omega arith), t)
+      simp (le-ltb n (2 ^ bits) (omega arith), upper (omega arith), t)
       (ap value (remains (omega arith)) ∙ negative-in bits (2 ^ bits - 1) (lack n) some refl (omega arith)))
       (λ t.
       let a : n < 2 ^ 64 - 2 ^ (bits - 1) = leb-false (2 ^ 64 - 2 ^ (bits - 1)) n t in
-      simp (le-ltb n (2 ^ bits) (omega arith), t)
+      simp (le-ltb n (2 ^ bits) (omega arith), t, and-false (upperOnes bits n))
       (negative-out bits (2 ^ bits - 1) (lack n) some refl (omega (arith, pow-pos bits))))
 
   narrow-cell : unsignedCell bits n ≡ exprCell bits (toZ w64 n)
@@ -85,7 +96,7 @@ module _ (bits d : ℕ) (some : 1 ≤ bits) (whole : 2 ^ 64 ≡ d * 2 ^ bits + 2
 
 -- every width
 pub cell-same : (s : BitsSize) (n : ℕ) → n < 2 ^ 64 → unsignedCell (bitsOf s) n ≡ exprCell (bitsOf s) (toZ w64 n)
-cell-same Bits8 n h = narrow-cell 8 (2 ^ 56 - 1) (omega arith) refl (omega arith) n h
-cell-same Bits16 n h = narrow-cell 16 (2 ^ 48 - 1) (omega arith) refl (omega arith) n h
-cell-same Bits32 n h = narrow-cell 32 (2 ^ 32 - 1) (omega arith) refl (omega arith) n h
+cell-same Bits8 n h = narrow-cell 8 (2 ^ 56 - 1) (omega arith) refl refl (omega arith) n h
+cell-same Bits16 n h = narrow-cell 16 (2 ^ 48 - 1) (omega arith) refl refl (omega arith) n h
+cell-same Bits32 n h = narrow-cell 32 (2 ^ 32 - 1) (omega arith) refl refl (omega arith) n h
 cell-same Bits64 n h = whole-cell n h

@@ -1,10 +1,10 @@
 -- What names, references and values report at level 2: neither of the codes that it never gives.
 use Prim.Native.Nat.{ℕ, _^_}
 use mathlib.Core.Path.{_≡_, refl}
-use mathlib.Core.Bool.{Bool, false}
+use mathlib.Core.Bool.{Bool, false, _&&_}
 use mathlib.Core.List.{List, [], _∷_}
 use mathlib.Core.Option.{Option, some, none}
-use lib.Dec.{eqb, leb, ltb}
+use lib.Dec.{eqb, ltb}
 use Rattle.paths_numbers.specs.meaning.Code.{macroUndefined}
 use Rattle.paths_numbers.specs.meaning.Text.{isEmpty}
 use Rattle.paths_numbers.specs.meaning.Reference.{Target, label, labelPath, path, unreadable, target}
@@ -17,7 +17,7 @@ use Rattle.paths_numbers.specs.declared.dt_property.BitsSize.{BitsSize}
 use Rattle.paths_numbers.specs.declared.dt_property.BitsSize.the-variants.{Bits32}
 use Rattle.paths_numbers.proofs.Texts.{cond-in}
 use Rattle.levels.specs.meaning.Rules.{unsignedLevel, unsignedRules}
-use Rattle.levels.specs.meaning.Unsigned.{unsignedCell}
+use Rattle.levels.specs.meaning.Unsigned.{fitsBelow, upperOnes, fitsNegative, unsignedCell}
 use Rattle.levels.proofs.Below.{Within, number-within}
 use Rattle.log.specs.meaning.Contents.{Span}
 use Rattle.input.specs.meaning.Tree.{Tree, Trees, empty, more, kindOf, textOf, wOf, spanOf, childrenOf, firstOf, nameKind, unitAddressKind}
@@ -110,7 +110,9 @@ character-quiet bits w = cond-in QuietReading (ltb w (2 ^ bits)) refl refl
 
 kept-quiet : (bits n : ℕ) → QuietReading (unsignedCell bits n)
 unfolding unsignedCell
-kept-quiet bits n = cond-in QuietReading (ltb n _) refl (cond-in QuietReading (leb _ n) refl refl)
+kept-quiet bits n =
+    cond-in QuietReading (fitsBelow bits n) refl
+    (cond-in QuietReading (upperOnes bits n && fitsNegative bits n) refl refl)
 
 count-quiet : (text : List ℕ) → QuietReading (countOf text)
 unfolding countOf

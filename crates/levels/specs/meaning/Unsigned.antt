@@ -66,10 +66,20 @@ unsignedInfix op a b =
     (cond (eqb op 10) (shiftedBy b (value (a / 2 ^ b)))
     (unsignedRelation op a b))))))))))
 
--- "For a cell of 32 bits or less, level 2 takes a result that fits unsigned, or whose upper bits are all ones and which fits signed": such
--- a result is at or above 2^64 - 2^(bits - 1). It is stored modulo 2^bits; 64 bits take every result.
+-- "For a cell of 32 bits or less, level 2 takes a result that fits unsigned, or whose upper bits are all ones and which fits signed": the
+-- bits above the cell's; and where these are ones, a negative number read as signed, of at least -2^(bits - 1). It is stored modulo 2^bits;
+-- 64 bits take every result.
+abbrev pub fitsBelow : ℕ → ℕ → Bool
+fitsBelow bits n = ltb n (2 ^ bits)
+
+abbrev pub upperOnes : ℕ → ℕ → Bool
+upperOnes bits n = eqb (n / 2 ^ bits) (2 ^ (64 - bits) - 1)
+
+abbrev pub fitsNegative : ℕ → ℕ → Bool
+fitsNegative bits n = leb (numbers64 - 2 ^ (bits - 1)) n
+
 unfoldable pub unsignedCell : ℕ → ℕ → Reading ℕ
 unsignedCell bits n =
-    cond (ltb n (2 ^ bits)) (value n)
-    (cond (leb (numbers64 - 2 ^ (bits - 1)) n) (value (n % 2 ^ bits))
+    cond (fitsBelow bits n) (value n)
+    (cond (upperOnes bits n && fitsNegative bits n) (value (n % 2 ^ bits))
     (fails cellOutside))
