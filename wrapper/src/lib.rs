@@ -3,7 +3,8 @@
 //!
 //! A definition log has what a devicetree source defines: its nodes, properties, deletions and
 //! directives, in order, with labels and diagnostics. A [`Description`] is that source as records, which
-//! a parser writes or, for tests and small things, a [`Tree`]; lowering it gives the [`Log`].
+//! a parser writes or, for tests and small things, a [`Tree`]; lowering it gives the [`Log`]. Its
+//! expressions are signed, or unsigned at another [`Level`].
 //!
 //! A log lies in words of 32 bits, 16 to a record, and in bytes, where the texts are, and a description
 //! in words, 8 to a record, and its text; docs/01-scope.md ("01") has the layout, and
