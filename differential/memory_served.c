@@ -18,6 +18,7 @@ enum { SLICES = 4 };
 
 struct Request {
     uint64_t function; /* an index of `functions` */
+    uint64_t level; /* of a lowering; 0 for a function that has none */
     uint64_t lengths[SLICES]; /* in bytes; 0 for a slice that the function does not have */
 };
 
@@ -27,9 +28,12 @@ struct Request {
 
 /* ---- Our functions. */
 
+/* The level of the request at hand. */
+static uint32_t level;
+
 static struct DlAnswer lower(const struct iovec *s)
 {
-    return dl_lower(WORDS(s[0]), BYTES(s[1]), DL_LEVEL_SIGNED, WORDS(s[2]), BYTES(s[3]));
+    return dl_lower(WORDS(s[0]), BYTES(s[1]), level, WORDS(s[2]), BYTES(s[3]));
 }
 
 static struct DlAnswer live(const struct iovec *s)
@@ -207,6 +211,7 @@ static int served(const struct Request *request, uint64_t number)
     }
 
     const struct Function *function = &functions[request->function];
+    level = (uint32_t)request->level;
     struct DlAnswer answer = called(function, slices);
     if (VALGRIND_COUNT_ERRORS != 0) {
         fprintf(stderr, "call %" PRIu64 ", %s", number, function->name);

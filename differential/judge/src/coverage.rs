@@ -20,7 +20,7 @@ pub const FULL_TEXT: &str = "65536 bytes of text";
 
 /// Where number texts stand.
 const AS_CELL: &str = "as a cell";
-const IN_EXPRESSION: &str = "in an expression";
+pub const IN_EXPRESSION: &str = "in an expression";
 pub const AS_WIDTH: &str = "as a width";
 
 /// Counts of what came up, with 0 for what is to come up and has not.
@@ -102,6 +102,13 @@ impl Coverage {
 
     pub fn add(&mut self, feature: String, times: u64) {
         *self.0.entry(feature).or_default() += times;
+    }
+
+    /// Notes a feature where it holds.
+    pub fn add_if(&mut self, feature: String, holds: bool) {
+        if holds {
+            self.add(feature, 1);
+        }
     }
 
     /// Notes a number's text, if it is octal, with what it reads as.

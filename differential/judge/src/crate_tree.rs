@@ -1,10 +1,14 @@
 //! A description as the tree that docs/src lowers.
 //!
-//! Three things are put in other words, so that the Rust can judge what 01 and 02 say where the Rust alone
+//! At level 1 three things are put in other words, so that the Rust can judge what 01 and 02 say where the Rust alone
 //! could not: an octal number has `0o` in front (`octal`), a directive as a cell (which `ast.rs` skips) is
 //! shown as a preprocessor conditional, and an expression on which the Rust panics as a macro with the
 //! range of the operator that does. The diagnostics of the last two are known by their origin and get
 //! 01's codes.
+//!
+//! At level 2 the Rust is not asked for an expression cell whose list has a good width: it is shown what 02's
+//! sentences give (`level_2`), as a number that it stores, as a macro at the range of the diagnostic
+//! that is due, or as an expression without operand, of which it is silent.
 
 use std::{collections::BTreeMap, sync::Arc};
 
@@ -16,8 +20,12 @@ use dt_tools_parser::{
 };
 
 use crate::{
+    answer::Diagnosis,
     build::{self, NOWHERE, as_node, node, number_token, token},
+    by_01::values,
+    by_02::level_2,
     panics,
+    records::UNSIGNED,
     tree::{self, Rec, Span},
 };
 
@@ -27,9 +35,9 @@ pub struct CrateTree {
     pub codes: BTreeMap<u32, u32>,
 }
 
-/// Builds the tree. `look` varies what 01's records do not tell apart.
-pub fn crate_tree(top: &[Rec], look: u64) -> CrateTree {
-    let mut builder = Builder { origin: 0, look, codes: BTreeMap::new() };
+/// Builds the tree for a level. `look` varies what 01's records do not tell apart.
+pub fn crate_tree(top: &[Rec], level: u32, look: u64) -> CrateTree {
+    let mut builder = Builder { origin: 0, level, bits: None, look, codes: BTreeMap::new() };
     let items = builder.each(top, Builder::item);
     CrateTree { root: RedNode::new(NodeKind::SourceFile, NOWHERE, items), codes: builder.codes }
 }
@@ -37,6 +45,9 @@ pub fn crate_tree(top: &[Rec], look: u64) -> CrateTree {
 struct Builder {
     /// Counts records in the order of the walk.
     origin: u32,
+    level: u32,
+    /// The width of the cell list at hand, where level 2 answers its expressions.
+    bits: Option<u32>,
     look: u64,
     codes: BTreeMap<u32, u32>,
 }
@@ -151,6 +162,7 @@ impl Builder {
             tree::REFERENCE | tree::MACRO => self.part(rec),
             tree::CELL_LIST => {
                 let range = self.range(rec.span);
+                self.bits = values::width(&rec.text).ok().filter(|_| self.level == UNSIGNED);
                 let cells = self.each(&rec.child, Self::cell);
                 build::cell_list(text(rec), range, cells)
             }
@@ -168,14 +180,36 @@ impl Builder {
             }
             tree::PREPROCESSOR => self.preprocessor(rec),
             tree::REFERENCE | tree::MACRO => self.part(rec),
-            tree::EXPRESSION => {
-                let range = self.range(rec.span);
-                let mut children = self.each(&rec.child, Self::expression);
-                self.replace_panicking(&mut children);
-                node(NodeKind::DtExpr, range, children)
-            }
+            tree::EXPRESSION => match self.bits {
+                Some(bits) => self.answered(bits, rec),
+                None => {
+                    let range = self.range(rec.span);
+                    let mut children = self.each(&rec.child, Self::expression);
+                    self.replace_panicking(&mut children);
+                    node(NodeKind::DtExpr, range, children)
+                }
+            },
             _ => self.literal(rec),
         }
+    }
+
+    /// An expression cell as level 2 answers it.
+    fn answered(&mut self, bits: u32, cell: &Rec) -> RedItem {
+        let range = self.range(cell.span);
+        let shown = match level_2::cell(bits, cell) {
+            Ok(number) => return TreeItem::Token(number_token(&number.to_string(), range)),
+            Err(found) => found.map(|found| self.shown(found)),
+        };
+        node(NodeKind::DtExpr, range, shown.into_iter().collect())
+    }
+
+    /// A diagnostic as the macro that has it: the Rust's own for code 10, else known by its origin.
+    fn shown(&mut self, Diagnosis { code, text, span, .. }: Diagnosis) -> RedItem {
+        let range = self.range(span);
+        if code != 10 {
+            self.codes.insert(range.origin, code);
+        }
+        self.invocation(&Rec { kind: tree::MACRO, text, span, ..Rec::default() }, range)
     }
 
     fn replace_panicking(&mut self, children: &mut [RedItem]) {

@@ -15,6 +15,7 @@ pub mod generate;
 pub mod inputs;
 pub mod judge;
 pub mod leaves;
+pub mod levels;
 pub mod library;
 pub mod listing_input;
 pub mod logs;

@@ -6,7 +6,7 @@
 use crate::{
     notation,
     random::Random,
-    records::{self, Layout, Order, RECORD, Records},
+    records::{self, Layout, Order, RECORD, Records, SIGNED},
 };
 
 /// The input that a file describes. Records are numbered as they stand in it, from 1.
@@ -15,7 +15,7 @@ pub fn of_text(text: &str) -> Result<Vec<u8>, String> {
     let (changes, description): (Vec<&str>, Vec<&str>) = lines.partition(|line| line.starts_with('='));
     let top = notation::read(&description.join(" "))?;
     let layout = Layout { order: Order::Down, shared: true, noise: false };
-    let mut records = records::write(&top, layout, &mut Random::new(0));
+    let mut records = records::write(&top, SIGNED, layout, &mut Random::new(0));
     let mut count = (records.words.len() / RECORD) as u32;
     for change in changes {
         let fault = || format!("no change: {change}");

@@ -11,7 +11,7 @@ use judge::{
     listing_input, logs, memory, notation, ours, panics,
     parts::{self, ALL, SHORT, Sizes},
     recorded,
-    records::{self, RECORD, Records},
+    records::{self, RECORD, Records, SIGNED, UNSIGNED},
     speed, text_form, trees, worked,
 };
 
@@ -22,8 +22,8 @@ const RECORDED: &str = concat!(env!("CARGO_MANIFEST_DIR"), "/../../crates/replay
 const CRATES: &str = concat!(env!("CARGO_MANIFEST_DIR"), "/../../crates");
 
 const USAGE: &str = "usage: run [all [CASES]] | short | worked FILE | numbers | small | trees FROM CASES
-       | damaged [FROM CASES] | pairs [FROM CASES] | queries [FROM LOGS] | planted | speed
-       | ask DESCRIPTION | show SEED | input SEED | write FILE | judge FILE | listing FILE
+       | levels [FROM CASES] | damaged [FROM CASES] | pairs [FROM CASES] | queries [FROM LOGS] | planted | speed
+       | ask [LEVEL] DESCRIPTION | show SEED | input SEED | write FILE | judge FILE | listing FILE
        | dtc [CASES] | record FOLDER | definitions FOLDER [COUNT] [SEED]";
 
 fn main() -> ExitCode {
@@ -49,6 +49,8 @@ fn command(words: &[&str]) -> Result<(), String> {
         ["numbers"] => parts::numbers(&ours::leaves()?)?.closing(),
         ["small"] => parts::small(&ours::library()?)?.closing(),
         ["trees", from, cases] => part(parts::descriptions, number(from)?, number(cases)?),
+        ["levels"] => part(parts::levels, 0, ALL.levels),
+        ["levels", from, cases] => part(parts::levels, number(from)?, number(cases)?),
         ["damaged"] => part(parts::damaged, 0, ALL.damaged),
         ["damaged", from, cases] => part(parts::damaged, number(from)?, number(cases)?),
         ["pairs"] => part(parts::pairs, 0, ALL.pairs),
@@ -59,7 +61,8 @@ fn command(words: &[&str]) -> Result<(), String> {
         ["memory", program, cases] => memory::run(program, Some(number(cases)?)),
         ["speed"] => speed_part(),
         ["planted"] => ours::library().and_then(|_| parts::planted()),
-        ["ask", description] => ask(description),
+        ["ask", description] => ask(SIGNED, description),
+        ["ask", level, description] => number(level).and_then(|level| ask(level as u32, description)),
         ["show", seed] => show(seed),
         ["input", seed] => input(seed),
         ["write", file] => write(file),
@@ -97,6 +100,7 @@ fn parts_of(sizes: &Sizes) -> Result<Counts, String> {
         parts::numbers(&leaves)?,
         parts::small(&ours)?,
         parts::descriptions(&ours, 0, sizes.descriptions)?,
+        parts::levels(&ours, 0, sizes.levels)?,
         parts::damaged(&ours, 0, sizes.damaged)?,
         parts::pairs(&ours, 0, sizes.pairs)?,
         parts::queries(&ours, 0, sizes.logs)?,
@@ -133,12 +137,15 @@ fn definitions_part(folder: &str, more: &[&str]) -> Result<(), String> {
     Ok(())
 }
 
-/// The text form of a description in the short notation, and where 01's sentences differ.
-fn ask(description: &str) -> Result<(), String> {
+/// The text form of a description in the short notation at a level, and where 01's sentences differ.
+fn ask(level: u32, description: &str) -> Result<(), String> {
+    if ![SIGNED, UNSIGNED].contains(&level) {
+        return Err(format!("{level} is no level"));
+    }
     let top = notation::read(description)?;
-    let (answer, queries) = trees::judged_tree(&top, 0, 40);
+    let (answer, queries) = trees::judged_tree(&top, level, 0, 40);
     print!("{}", text_form::text_form(&answer, &queries));
-    for (by_01, rust) in trees::difference(&top, 0) {
+    for (by_01, rust) in trees::difference(&top, level, 0) {
         println!("different: 01 {by_01}, Rust {rust}");
     }
     Ok(())
@@ -147,7 +154,7 @@ fn ask(description: &str) -> Result<(), String> {
 /// A generated description in the short notation, and its text form.
 fn show(seed: &str) -> Result<(), String> {
     let seed = number(seed)?;
-    let judged = trees::judged(seed, trees::size_of_case(seed), 40);
+    let judged = trees::judged(seed, trees::size_of_case(seed), SIGNED, 40);
     println!("{}", notation::written(&judged.case.top));
     print!("{}", text_form::text_form(&judged.answer, &judged.queries));
     Ok(())
@@ -156,7 +163,7 @@ fn show(seed: &str) -> Result<(), String> {
 /// A generated description as the listing program's input.
 fn input(seed: &str) -> Result<(), String> {
     let seed = number(seed)?;
-    let records = generate::generate(seed, trees::size_of_case(seed)).records;
+    let records = generate::generate(seed, trees::size_of_case(seed), SIGNED).records;
     print_bytes(&listing_input::bytes((records.words.len() / RECORD) as u32, &records))
 }
 
@@ -174,10 +181,10 @@ fn judged_file(file: &str) -> Result<(Answer, Vec<Query>), String> {
     let (words, text) =
         rest.split_at_checked(u32::from_le_bytes(*count) as usize * RECORD * 4).ok_or_else(short)?;
     let words = words.as_chunks::<4>().0.iter().map(|word| u32::from_le_bytes(*word)).collect();
-    let records = Records { words, text: text.to_vec() };
+    let records = Records { words, text: text.to_vec(), level: SIGNED };
     if let Some((number, returned)) = by_01::rows::refusal(&records) {
         return Err(format!("{file} is refused: R {number} {returned}"));
     }
     let top = records::read(&records);
-    Ok(trees::judged_tree(&top, 0, 40))
+    Ok(trees::judged_tree(&top, SIGNED, 0, 40))
 }

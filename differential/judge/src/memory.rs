@@ -1,15 +1,15 @@
-//! The comparison with our library under valgrind, which must find nothing: descriptions, damaged ones,
-//! pairs of runs and queries of lent logs. `differential/memory` starts it.
+//! The comparison with our library under valgrind, which must find nothing: descriptions at both levels,
+//! damaged ones, pairs of runs and queries of lent logs. `differential/memory` starts it.
 
 use std::{env, iter, process::Stdio, slice::Iter, sync::Mutex, thread};
 
 use crate::{
     counts::Counts,
     coverage::Coverage,
-    damaged,
+    damaged, levels,
     library::Library,
     logs,
-    ours::served::{self, FAULTS, FOUND, Served},
+    ours::served::{self, FAULTS, FOUND, NO_LEVEL, Served},
     pairs,
     parts::{self, ALL},
     trees,
@@ -23,12 +23,21 @@ struct Part {
 }
 
 /// The parts, those that take longest first.
-static PARTS: [Part; 4] = [
+static PARTS: [Part; 5] = [
     Part {
         name: "descriptions",
         all: |side| parts::descriptions(side, 0, ALL.descriptions),
         some: |side, cases| {
             let counts = trees::compare(side, 0, cases, &mut Coverage::empty());
+            println!("{}", counts.line());
+            counts.total()
+        },
+    },
+    Part {
+        name: "levels",
+        all: |side| parts::levels(side, 0, ALL.levels),
+        some: |side, cases| {
+            let counts = levels::compare(side, 0, cases, &mut Coverage::empty());
             println!("{}", counts.line());
             counts.total()
         },
@@ -138,7 +147,7 @@ fn found(program: &str, function: u64) -> Result<Option<String>, String> {
     let mut served = Served::start(program, "planted", Stdio::piped())?;
     let mut ask = |_| {
         let (words, bytes) = (&mut [7; 64], &mut [7; 9]);
-        served.ask(function, &[&[1; 64], b"text"], &mut [words, bytes])
+        served.ask(function, NO_LEVEL, &[&[1; 64], b"text"], &mut [words, bytes])
     };
     let fault = (0..2).find_map(|time| ask(time).err());
     let (status, said) = served.end().map_err(|error| error.to_string())?;

@@ -4,17 +4,21 @@ use crate::{
     by_01,
     counts::Counts,
     coverage::Coverage,
-    damaged,
+    damaged, levels,
     library::{self, Library},
     logs, numbers,
     ours::Leaves,
-    pairs, planted, small,
+    pairs, planted,
+    records::{SIGNED, UNSIGNED},
+    small,
     trees::{self, judged, size_of_case},
 };
 
 /// How much of each part a run has.
 pub struct Sizes {
     pub descriptions: u64,
+    /// Descriptions at level 2 that have an expression cell.
+    pub levels: u64,
     pub damaged: u64,
     /// Pairs of runs tried, one in two to meet the premises of demand 3.
     pub pairs: u64,
@@ -23,12 +27,14 @@ pub struct Sizes {
 }
 
 /// All of it.
-pub const ALL: Sizes = Sizes { descriptions: 200_000, damaged: 100_000, pairs: 40_000, logs: 120_000 };
+pub const ALL: Sizes =
+    Sizes { descriptions: 200_000, levels: 100_000, damaged: 100_000, pairs: 40_000, logs: 120_000 };
 
 /// A run of a minute.
-pub const SHORT: Sizes = Sizes { descriptions: 20_000, damaged: 20_000, pairs: 4_000, logs: 12_000 };
+pub const SHORT: Sizes =
+    Sizes { descriptions: 20_000, levels: 10_000, damaged: 20_000, pairs: 4_000, logs: 12_000 };
 
-/// Descriptions for which 01's sentences are compared as a whole side.
+/// Descriptions of each level for which 01's sentences are compared as a whole side.
 const BY_01: u64 = 4_000;
 
 /// Prints a coverage report and what was counted, at one go; fails if something never came up.
@@ -78,18 +84,29 @@ pub fn descriptions(side: &Library, from: u64, cases: u64) -> Result<Counts, Str
     Ok(counts.total())
 }
 
-/// 01's sentences as a whole side, which shows that the comparison itself is sound.
+/// Descriptions at level 2, and those without an expression cell at both, with the coverage report.
+pub fn levels(side: &Library, from: u64, cases: u64) -> Result<Counts, String> {
+    println!("level 2, the Rust with 02's sentences against 01's and our lowering:");
+    let mut coverage = levels::wanted();
+    let counts = levels::compare(side, from, cases, &mut coverage);
+    reported(&coverage, &format!("{cases} cases at level 2"), &counts.line())?;
+    Ok(counts.total())
+}
+
+/// 01's sentences as a whole side at both levels, which shows that the comparison itself is sound.
 pub fn sentences() -> Counts {
     let side = library::by_01();
     let mut counts = Counts::default();
-    for seed in 0..BY_01 {
-        let judged = judged(seed, size_of_case(seed), 12);
-        let by_01 = by_01::lower::lower(&judged.case.top);
+    for (level, seed) in
+        [SIGNED, UNSIGNED].into_iter().flat_map(|level| (0..BY_01).map(move |seed| (level, seed)))
+    {
+        let judged = judged(seed, size_of_case(seed), level, 12);
+        let by_01 = by_01::lower::lower(&judged.case.top, level);
         counts.compared += 1;
         counts.aside += trees::by_rule(&judged.answer);
         if let Err(fault) = trees::whole_side(&side, seed, &judged, &by_01) {
             counts.different += 1;
-            println!("seed {seed}: {fault}");
+            println!("level {level}, seed {seed}: {fault}");
         }
     }
     let Counts { compared, different, .. } = counts;
@@ -101,7 +118,7 @@ pub fn sentences() -> Counts {
 
 /// Damaged descriptions and those at the limits, rows 1 to 7, with the coverage report.
 pub fn damaged(side: &Library, from: u64, inputs: u64) -> Result<Counts, String> {
-    println!("damaged descriptions, rows 1 to 7 against our lowering:");
+    println!("damaged descriptions, 18 and rows 1 to 7 against our lowering:");
     let mut coverage = damaged::wanted();
     let counts = damaged::compare(side, from, inputs, &mut coverage);
     let complete = reported(&coverage, &format!("{inputs} descriptions"), &counts.line());

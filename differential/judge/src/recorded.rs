@@ -8,7 +8,7 @@ use crate::{
     by_01::{self, lower::Lowered},
     coverage::{Coverage, FULL_TEXT},
     generate::{Case, Size},
-    records::{MOST_TEXT, RECORD},
+    records::{MOST_TEXT, RECORD, SIGNED},
     small,
     tree::Span,
     trees::{Judged, judged, judged_case},
@@ -24,8 +24,10 @@ const READ: usize = 524_288;
 
 /// The sample and its coverage report.
 fn made() -> Result<(Vec<u8>, String, usize), String> {
-    let mut cases: Vec<Judged> =
-        small::descriptions()?.into_iter().map(|top| judged_case(Case::known(top), QUERIES)).collect();
+    let mut cases: Vec<Judged> = small::descriptions()?
+        .into_iter()
+        .map(|top| judged_case(Case::known(top, SIGNED), QUERIES))
+        .collect();
     let mut seen = BTreeSet::new();
     for (size, wanted, seeds, most) in GENERATED {
         cases.extend(chosen(&mut seen, size, wanted, seeds, most));
@@ -35,7 +37,7 @@ fn made() -> Result<(Vec<u8>, String, usize), String> {
     let mut coverage = Coverage::of_descriptions();
     for judged in &cases {
         assert_eq!(by_01::rows::refusal(&judged.case.records), None, "a recorded description is refused");
-        let by_01 = by_01::lower::lower(&judged.case.top);
+        let by_01 = by_01::lower::lower(&judged.case.top, SIGNED);
         coverage.note(judged, &by_01);
         out.case(judged, &by_01);
     }
@@ -78,9 +80,9 @@ fn chosen(seen: &mut BTreeSet<String>, size: Size, wanted: usize, seeds: u64, mo
     let mut new = Vec::new();
     let mut others = Vec::new();
     for seed in 0..seeds {
-        let judged = judged(seed, size, QUERIES);
+        let judged = judged(seed, size, SIGNED, QUERIES);
         let mut coverage = Coverage::empty();
-        coverage.note(&judged, &by_01::lower::lower(&judged.case.top));
+        coverage.note(&judged, &by_01::lower::lower(&judged.case.top, SIGNED));
         let before = seen.len();
         let again = judged.case.records.text.len() == MOST_TEXT && seen.contains(FULL_TEXT);
         if judged.case.records.words.len() / RECORD <= most && !again {

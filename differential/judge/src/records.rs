@@ -9,11 +9,16 @@ pub const RECORD: usize = 8;
 pub const MOST_RECORDS: usize = 2048;
 pub const MOST_TEXT: usize = 65_536;
 
-/// A description in 01's form.
-#[derive(Debug, Clone, Default, PartialEq, Eq)]
+/// The levels (02, request 10): 1 keeps the signed rule, 2 is unsigned. There is no other.
+pub const SIGNED: u32 = 1;
+pub const UNSIGNED: u32 = 2;
+
+/// A description in 01's form, with the level that the caller gives beside it.
+#[derive(Debug, Clone, PartialEq, Eq)]
 pub struct Records {
     pub words: Vec<u32>,
     pub text: Vec<u8>,
+    pub level: u32,
 }
 
 /// In which order records are numbered.
@@ -37,10 +42,10 @@ pub struct Layout {
     pub noise: bool,
 }
 
-/// Writes a tree. There must be room for it.
-pub fn write(top: &[Rec], layout: Layout, random: &mut Random) -> Records {
-    let mut writer = Writer { out: Records::default(), open: Vec::new(), shared: layout.shared };
-    writer.out.words.resize(RECORD, 0);
+/// Writes a tree that is told with a level. There must be room for it.
+pub fn write(top: &[Rec], level: u32, layout: Layout, random: &mut Random) -> Records {
+    let out = Records { words: vec![0; RECORD], text: Vec::new(), level };
+    let mut writer = Writer { out, open: Vec::new(), shared: layout.shared };
     writer.open_chain(top, 0, 2);
     while !writer.open.is_empty() {
         let at = match layout.order {

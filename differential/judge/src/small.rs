@@ -1,37 +1,83 @@
-//! Small descriptions with lines of the Rust's answer, from cases/small.txt.
+//! Small descriptions with lines of the answer, from cases/small.txt and cases/level_2.txt.
 
-use crate::{counts::Counts, library::Library, notation, text_form::text_form, tree::Rec, trees};
+use crate::{
+    counts::Counts,
+    library::Library,
+    notation,
+    records::{SIGNED, UNSIGNED},
+    text_form::text_form,
+    tree::Rec,
+    trees,
+};
 
 const CASES: &str = include_str!("../../cases/small.txt");
+const LEVEL_2: &str = include_str!("../../cases/level_2.txt");
 const MORE: &str = include_str!("../../cases/definitions.txt");
 
-/// The descriptions.
+/// The lines of a file, without those that say something about it.
+fn lines(file: &'static str) -> impl Iterator<Item = &'static str> {
+    file.lines().filter(|line| !line.is_empty() && !line.starts_with('#'))
+}
+
+/// A description at a level, and lines that its answer has.
+struct Known {
+    about: &'static str,
+    description: &'static str,
+    level: u32,
+    wanted: &'static str,
+}
+
+impl Known {
+    /// Those of a line: what it shows, the description, and the lines at each of these levels; those at the
+    /// last level may be left out.
+    fn of_line(line: &'static str, levels: &[u32]) -> Vec<Self> {
+        let fields: Vec<&str> = line.split(" | ").collect();
+        let [about, description, ref wanted @ ..] = fields[..] else {
+            panic!("a description is due in: {line}")
+        };
+        assert!((1..=levels.len()).contains(&wanted.len()), "other fields are due in: {line}");
+        levels
+            .iter()
+            .zip(wanted)
+            .map(|(level, wanted)| Self { about, description, level: *level, wanted })
+            .collect()
+    }
+}
+
+/// All of both files.
+fn known() -> impl Iterator<Item = Known> {
+    let at_level_1 = lines(CASES).flat_map(|line| Known::of_line(line, &[SIGNED]));
+    at_level_1.chain(lines(LEVEL_2).flat_map(|line| Known::of_line(line, &[UNSIGNED, SIGNED])))
+}
+
+/// The descriptions of cases/small.txt.
 pub fn descriptions() -> Result<Vec<Vec<Rec>>, String> {
-    lines().map(|[_, description, _]| notation::read(description)).collect()
+    all_of(CASES)
+}
+
+/// The descriptions of cases/level_2.txt.
+pub fn level_2_descriptions() -> Result<Vec<Vec<Rec>>, String> {
+    all_of(LEVEL_2)
+}
+
+fn all_of(file: &'static str) -> Result<Vec<Vec<Rec>>, String> {
+    lines(file).map(|line| notation::read(Known::of_line(line, &[UNSIGNED, SIGNED])[0].description)).collect()
 }
 
 /// The descriptions of cases/definitions.txt, which have no lines of their own.
 pub fn more_descriptions() -> Result<Vec<Vec<Rec>>, String> {
-    let lines = MORE.lines().filter(|line| !line.is_empty() && !line.starts_with('#'));
-    lines
+    lines(MORE)
         .map(|line| line.split_once(" | ").map_or(line, |(_, description)| description))
         .map(notation::read)
         .collect()
 }
 
-fn lines() -> impl Iterator<Item = [&'static str; 3]> {
-    CASES.lines().filter(|line| !line.is_empty() && !line.starts_with('#')).map(|line| {
-        let fields: Vec<&str> = line.split(" | ").collect();
-        <[&str; 3]>::try_from(fields).unwrap_or_else(|_| panic!("three fields are due in: {line}"))
-    })
-}
-
 /// Compares the Rust with the lines, with 01's sentences, and with a side.
 pub fn compare(side: &Library) -> Result<Counts, String> {
     let mut counts = Counts::default();
-    for [about, description, wanted] in lines() {
+    for Known { about, description, level, wanted } in known() {
         let top = notation::read(description).map_err(|fault| format!("{about}: {fault}"))?;
-        let (answer, queries) = trees::judged_tree(&top, 0, 40);
+        let (answer, queries) = trees::judged_tree(&top, level, 0, 40);
         let rust = text_form(&answer, &queries);
         let mut faults: Vec<String> = wanted
             .split(';')
@@ -39,14 +85,14 @@ pub fn compare(side: &Library) -> Result<Counts, String> {
             .filter(|line| !holds(&rust, line))
             .map(|line| format!("not so: {line}"))
             .collect();
-        let by_01 = trees::difference(&top, 0);
+        let by_01 = trees::difference(&top, level, 0);
         faults.extend(by_01.iter().map(|(by_01, rust)| format!("01 {by_01}, Rust {rust}")));
-        faults.extend(trees::fault_of(side, &top));
+        faults.extend(trees::fault_of(side, &top, level));
         counts.compared += 1;
         counts.aside += trees::by_rule(&answer);
         if !faults.is_empty() {
             counts.different += 1;
-            println!("{about}: {}\n{rust}", faults.join("; "));
+            println!("{about}, level {level}: {}\n{rust}", faults.join("; "));
         }
     }
     Ok(counts)

@@ -12,7 +12,7 @@ use crate::{
     measure::{Times, measured},
     output::RECORD,
     random::Random,
-    records::{self, MOST_RECORDS, Records},
+    records::{self, MOST_RECORDS, Records, SIGNED},
     tree::{self, Rec},
     trees::judged_case,
     whole::{self, Due},
@@ -74,8 +74,8 @@ struct Bench<'a> {
 impl<'a> Bench<'a> {
     /// Makes it, and compares the logs.
     fn new(side: &'a Library, mix: &Mix, size: usize) -> Result<Self, String> {
-        let judged = judged_case(Case::known(made(mix, size)), 0);
-        let by_01 = by_01::lower::lower(&judged.case.top);
+        let judged = judged_case(Case::known(made(mix, size), SIGNED), 0);
+        let by_01 = by_01::lower::lower(&judged.case.top, SIGNED);
         let made = (by_01.records, by_01.bytes);
         let due = Due { records: &judged.case.records, answer: &judged.answer, made };
         whole::lowered(side, &due, made.0 as usize * RECORD, made.1 as usize)?;
@@ -93,7 +93,7 @@ impl<'a> Bench<'a> {
     /// them; and rows 1 to 6 are what is left where there is no room at all.
     fn just_enough(&self, mix: &str, size: usize) {
         let buffers = RefCell::new((vec![0; self.made.0 as usize * RECORD], vec![0; self.made.1 as usize]));
-        let (tree, empty) = (crate_tree(&self.case.top, 0), empty());
+        let (tree, empty) = (crate_tree(&self.case.top, SIGNED, 0), empty());
         let times = measured([
             &mut || self.lower(&self.case.records, &buffers),
             &mut || {
@@ -137,7 +137,7 @@ impl<'a> Bench<'a> {
 
 /// A description of record 0 alone.
 fn empty() -> Records {
-    Records { words: vec![0; records::RECORD], text: Vec::new() }
+    Records { words: vec![0; records::RECORD], text: Vec::new(), level: SIGNED }
 }
 
 /// A description of just so many records, record 0 counted.

@@ -11,7 +11,7 @@ use crate::{
     library::Library,
     notation,
     random::{self, Random},
-    records::{RECORD, read},
+    records::{RECORD, SIGNED, read},
     shrink::shrunk,
     text_form::text_form,
     tree::Rec,
@@ -34,12 +34,12 @@ pub fn size_of_case(number: u64) -> Size {
     }
 }
 
-pub fn judged(seed: u64, size: Size, most_queries: usize) -> Judged {
-    judged_case(generate(seed, size), most_queries)
+pub fn judged(seed: u64, size: Size, level: u32, most_queries: usize) -> Judged {
+    judged_case(generate(seed, size, level), most_queries)
 }
 
 pub fn judged_case(case: Case, most_queries: usize) -> Judged {
-    let (answer, queries) = judged_tree(&case.top, case.look, most_queries);
+    let (answer, queries) = judged_tree(&case.top, case.records.level, case.look, most_queries);
     Judged { case, answer, queries }
 }
 
@@ -48,9 +48,9 @@ pub fn by_rule(answer: &Answer) -> u64 {
     answer.lowering.iter().filter(|found| matches!(found.code, 9 | 24..=26)).count() as u64
 }
 
-/// The Rust's answers to a description and to queries on it.
-pub fn judged_tree(top: &[Rec], look: u64, most_queries: usize) -> (Answer, Vec<Query>) {
-    judge(&crate_tree(top, look), |answer| query_paths(answer, most_queries))
+/// The Rust's answers to a description at a level and to queries on it.
+pub fn judged_tree(top: &[Rec], level: u32, look: u64, most_queries: usize) -> (Answer, Vec<Query>) {
+    judge(&crate_tree(top, level, look), |answer| query_paths(answer, most_queries))
 }
 
 /// Paths to ask for: "", "/", those of the log and of the bindings, those above and near them.
@@ -106,29 +106,36 @@ impl Counts {
     }
 }
 
-/// Compares the Rust with 01's sentences and with a side on `cases` descriptions.
+/// Compares the Rust with 01's sentences and with a side on `cases` descriptions at level 1.
 pub fn compare(side: &Library, from: u64, cases: u64, coverage: &mut Coverage) -> Counts {
     let mut counts = Counts::default();
     for seed in random::seeds(from, cases) {
-        let judged = judged(seed, size_of_case(seed), 40);
-        assert_eq!(read(&judged.case.records), judged.case.top, "seed {seed}: records and tree differ");
-        assert_eq!(by_01::rows::refusal(&judged.case.records), None, "seed {seed}: refused");
-        let by_01 = by_01::lower::lower(&judged.case.top);
+        let judged = judged(seed, size_of_case(seed), SIGNED, 40);
+        let by_01 = compare_judged(side, seed, &judged, &mut counts);
         coverage.note(&judged, &by_01);
-        let queries = queries_by_01(&by_01.answer, &judged.queries);
-        counts.compared += 1;
-        counts.by_rule += by_rule(&judged.answer);
-        counts.queries += 3 * queries.len() as u64;
-        counts.records += (judged.case.records.words.len() / RECORD) as u64;
-        if (&by_01.answer, &queries) != (&judged.answer, &judged.queries) {
-            counts.different += 1;
-            if counts.different <= 3 {
-                show_difference(seed, &judged.case.top, judged.case.look);
-            }
-        }
-        compare_side(side, seed, &judged, &by_01, &mut counts);
     }
     counts
+}
+
+/// Compares the Rust's answer to a description with 01's sentences, which it gives, and with a side.
+pub fn compare_judged(side: &Library, seed: u64, judged: &Judged, counts: &mut Counts) -> Lowered {
+    let Judged { case, answer, queries } = judged;
+    assert_eq!(read(&case.records), case.top, "seed {seed}: records and tree differ");
+    assert_eq!(by_01::rows::refusal(&case.records), None, "seed {seed}: refused");
+    let by_01 = by_01::lower::lower(&case.top, case.records.level);
+    let queries_by_01 = queries_by_01(&by_01.answer, queries);
+    counts.compared += 1;
+    counts.by_rule += by_rule(answer);
+    counts.queries += 3 * queries.len() as u64;
+    counts.records += (case.records.words.len() / RECORD) as u64;
+    if (&by_01.answer, &queries_by_01) != (answer, queries) {
+        counts.different += 1;
+        if counts.different <= 3 {
+            show_difference(seed, case);
+        }
+    }
+    compare_side(side, seed, judged, &by_01, counts);
+    by_01
 }
 
 /// Compares a side with the Rust, and counts it.
@@ -138,9 +145,9 @@ fn compare_side(side: &Library, seed: u64, judged: &Judged, by_01: &Lowered, cou
         counts.lowered_different += 1;
         if counts.lowered_different <= 3 {
             println!("seed {seed}: {fault}");
-            let differs = |top: &[Rec]| fault_of(side, top).is_some();
-            let smaller = shrunk(judged.case.top.clone(), &differs);
-            let fault = fault_of(side, &smaller).unwrap_or("not if written plainly".to_owned());
+            let fault_of = |top: &[Rec]| fault_of(side, top, judged.case.records.level);
+            let smaller = shrunk(judged.case.top.clone(), &|top| fault_of(top).is_some());
+            let fault = fault_of(&smaller).unwrap_or("not if written plainly".to_owned());
             println!("  {}\n  {fault}", notation::written(&smaller));
         }
     }
@@ -154,9 +161,9 @@ pub fn whole_side(side: &Library, seed: u64, judged: &Judged, by_01: &Lowered) -
 }
 
 /// Where a side differs from the Rust on a description that is written plainly.
-pub fn fault_of(side: &Library, top: &[Rec]) -> Option<String> {
-    let judged = judged_case(Case::known(top.to_vec()), 40);
-    whole_side(side, 0, &judged, &by_01::lower::lower(top)).err()
+pub fn fault_of(side: &Library, top: &[Rec], level: u32) -> Option<String> {
+    let judged = judged_case(Case::known(top.to_vec(), level), 40);
+    whole_side(side, 0, &judged, &by_01::lower::lower(top, level)).err()
 }
 
 fn queries_by_01(answer: &Answer, asked: &[Query]) -> Vec<Query> {
@@ -164,20 +171,20 @@ fn queries_by_01(answer: &Answer, asked: &[Query]) -> Vec<Query> {
 }
 
 /// Shows the lines that differ, and a smaller description with a difference.
-fn show_difference(seed: u64, top: &[Rec], look: u64) {
+fn show_difference(seed: u64, case: &Case) {
     println!("seed {seed}: 01's sentences and the Rust differ");
-    let differs = |top: &[Rec]| !difference(top, look).is_empty();
-    let smaller = shrunk(top.to_vec(), &differs);
+    let difference = |top: &[Rec]| difference(top, case.records.level, case.look);
+    let smaller = shrunk(case.top.clone(), &|top| !difference(top).is_empty());
     println!("  {}", notation::written(&smaller));
-    for (by_01, rust) in difference(&smaller, look).iter().take(5) {
+    for (by_01, rust) in difference(&smaller).iter().take(5) {
         println!("  01:   {by_01}\n  Rust: {rust}");
     }
 }
 
 /// The lines of the text form in which 01's sentences and the Rust differ.
-pub fn difference(top: &[Rec], look: u64) -> Vec<(String, String)> {
-    let (answer, queries) = judged_tree(top, look, 40);
-    let by_01 = by_01::lower::lower(top).answer;
+pub fn difference(top: &[Rec], level: u32, look: u64) -> Vec<(String, String)> {
+    let (answer, queries) = judged_tree(top, level, look, 40);
+    let by_01 = by_01::lower::lower(top, level).answer;
     let by_01 = text_form(&by_01, &queries_by_01(&by_01, &queries));
     let rust = text_form(&answer, &queries);
     let (mut by_01, mut rust) = (by_01.lines(), rust.lines());

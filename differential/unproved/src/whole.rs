@@ -2,20 +2,22 @@
 
 use judge::{
     coverage::Coverage,
-    damaged,
+    damaged, levels,
     library::{Library, Queries},
     logs, pairs, parts, trees,
 };
 
 use crate::definition_log_c::{DlAnswer, dl_contains_node, dl_history, dl_iter_live_defs_under, dl_lower};
 
-/// Compares descriptions, damaged ones, pairs of runs and queries of lent logs, as many of each; what came
+/// Compares descriptions at both levels, damaged ones, pairs of runs and queries of lent logs, as many of each; what came
 /// up is not counted.
 pub fn compare(from: u64, cases: u64) -> Result<(), String> {
     let (side, coverage) = (library(), &mut Coverage::empty());
     let small = parts::small(&side)?;
     let lowered = trees::compare(&side, from, cases, coverage);
     println!("{}", lowered.line());
+    let levels = levels::compare(&side, from, cases, coverage);
+    println!("{}", levels.line());
     let damaged = damaged::compare(&side, from, cases, coverage);
     println!("{}", damaged.line());
     let limits = parts::limits(&side);
@@ -23,7 +25,8 @@ pub fn compare(from: u64, cases: u64) -> Result<(), String> {
     println!("{}", pairs.line());
     let queries = logs::compare(&side.queries, from, cases, coverage);
     println!("{}", queries.line());
-    (small + lowered.total() + damaged.total() + limits + pairs.total() + queries.total()).closing()
+    (small + lowered.total() + levels.total() + damaged.total() + limits + pairs.total() + queries.total())
+        .closing()
 }
 
 fn read(answer: DlAnswer) -> (u32, u32) {
@@ -32,7 +35,9 @@ fn read(answer: DlAnswer) -> (u32, u32) {
 
 fn library() -> Library {
     Library {
-        lower: |records, words, bytes| read(dl_lower(&records.words, &records.text, 1, words, bytes)),
+        lower: |records, words, bytes| {
+            read(dl_lower(&records.words, &records.text, records.level, words, bytes))
+        },
         queries: Queries {
             live: |words, bytes, base, list| read(dl_iter_live_defs_under(words, bytes, base, list)),
             history: |words, bytes, path, list| read(dl_history(words, bytes, path, list)),

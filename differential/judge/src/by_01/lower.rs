@@ -2,19 +2,23 @@
 
 use std::collections::BTreeMap;
 
-use super::{numbers, paths::join, post, queries, values};
+use super::{expressions, numbers, paths::join, post, queries, values};
 use crate::{
     answer::{Answer, Binding, Cell, Definition, Diagnosis, Extension, Target, Text, Value},
+    by_02::level_2,
+    records::UNSIGNED,
     tree::{self, Rec, Span},
 };
 
-/// What lowering gives, row 7's counts, and which things came up how often.
+/// What lowering gives, row 7's counts, which things came up how often, and the expression cells that
+/// were evaluated, with their widths.
 #[derive(Default)]
 pub struct Lowered {
     pub answer: Answer,
     pub records: u64,
     pub bytes: u64,
     pub events: BTreeMap<&'static str, u64>,
+    pub cells: Vec<(u32, Rec)>,
 }
 
 /// Things that lowering can meet; each is to come up.
@@ -62,9 +66,9 @@ struct Log {
     depth: u32,
 }
 
-/// Lowers a description's top items and runs the post checks.
-pub fn lower(top: &[Rec]) -> Lowered {
-    let mut state = State::default();
+/// Lowers a description's top items at a level and runs the post checks.
+pub fn lower(top: &[Rec], level: u32) -> Lowered {
+    let mut state = State { level, ..State::default() };
     let mut log = Log::default();
     state.made(1, &[]);
     for item in top {
@@ -85,16 +89,19 @@ pub fn lower(top: &[Rec]) -> Lowered {
         records: state.records,
         bytes: state.bytes,
         events: state.events,
+        cells: state.cells,
     }
 }
 
 #[derive(Default)]
 struct State {
+    level: u32,
     bindings: Vec<Binding>,
     diagnostics: Vec<Diagnosis>,
     records: u64,
     bytes: u64,
     events: BTreeMap<&'static str, u64>,
+    cells: Vec<(u32, Rec)>,
 }
 
 impl State {
@@ -450,11 +457,23 @@ impl State {
                 }
                 Some(Cell::Reference(target))
             }
-            tree::EXPRESSION => {
-                let value = self.expression(cell.child.first()?)?;
-                self.or_report(values::cell(width, value), cell.span).map(Cell::Number)
-            }
+            tree::EXPRESSION => self.expression_cell(width, cell),
             _ => self.not_a_value(cell, 9),
+        }
+    }
+
+    /// An expression cell by the rule of the level.
+    fn expression_cell(&mut self, width: u32, cell: &Rec) -> Option<Cell> {
+        self.cells.push((width, cell.clone()));
+        let by_level = if self.level == UNSIGNED { level_2::cell } else { expressions::cell };
+        match by_level(width, cell) {
+            Ok(number) => Some(Cell::Number(number)),
+            Err(found) => {
+                if let Some(Diagnosis { code, text, span, .. }) = found {
+                    self.report(code, &text, span);
+                }
+                None
+            }
         }
     }
 
@@ -466,41 +485,6 @@ impl State {
             _ => self.report(1, b"", rec.span),
         }
         None
-    }
-
-    fn expression(&mut self, expression: &Rec) -> Option<i64> {
-        let operands = &expression.child;
-        match expression.kind {
-            tree::MACRO => self.not_a_value(expression, 0),
-            tree::NUMBER => self.or_report(numbers::read_signed(&expression.text), expression.span),
-            tree::CHARACTER => Some(expression.w.into()),
-            tree::PARENTHESIS => self.expression(operands.first()?),
-            tree::PREFIX => {
-                if expression.w == 0 {
-                    return None;
-                }
-                let operand = self.expression(operands.first()?)?;
-                self.or_report(numbers::prefix(expression.w, operand), expression.span)
-            }
-            _ => self.infix(expression),
-        }
-    }
-
-    fn infix(&mut self, expression: &Rec) -> Option<i64> {
-        let operands = &expression.child;
-        let wanted = if expression.w == 19 { 3 } else { 2 };
-        if expression.w == 0 || operands.len() < wanted {
-            return None;
-        }
-        let left = self.expression(&operands[0])?;
-        match (expression.w, left != 0) {
-            (11, false) => return Some(0),
-            (12, true) => return Some(1),
-            (19, truth) => return self.expression(&operands[if truth { 1 } else { 2 }]),
-            _ => {}
-        }
-        let right = self.expression(&operands[1])?;
-        self.or_report(numbers::infix(expression.w, left, right), expression.span)
     }
 }
 

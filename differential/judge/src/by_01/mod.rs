@@ -5,6 +5,7 @@
 //! Rust is found; and they answer what the Rust can't be asked: which descriptions are refused, the
 //! form of paths, which logs break the output rules, and how many records and bytes lowering makes.
 
+pub mod expressions;
 pub mod lower;
 pub mod numbers;
 pub mod paths;

@@ -1,8 +1,8 @@
-//! Rows 1 to 6: which descriptions are refused, with which number, what is returned, and by which
-//! clauses of the table.
+//! Rows 1 to 6, and 02's 18 before them: which descriptions are refused, with which number, what is
+//! returned, and by which clauses of the table.
 
 use crate::{
-    records::{MOST_RECORDS, MOST_TEXT, RECORD, Records},
+    records::{MOST_RECORDS, MOST_TEXT, RECORD, Records, SIGNED, UNSIGNED},
     tree::Place,
 };
 
@@ -18,9 +18,13 @@ pub enum Link {
     Values,
 }
 
-/// What can be wrong, as rows 1 to 6 list it.
+/// The number of a level that is none.
+pub const NO_LEVEL: u32 = 18;
+
+/// What can be wrong, as rows 1 to 6 list it; the level first.
 #[derive(Debug, Clone, Copy, PartialEq, Eq)]
 pub enum Clause {
+    Level,
     NoWords,
     WordsNotEight,
     RecordsOver,
@@ -65,6 +69,9 @@ pub fn refusal(records: &Records) -> Option<Refusal> {
 /// The refusal of a description, if there is one. Each cause is tried over all records before the
 /// next; the lowest record at fault is returned.
 pub fn refused(from: &Records) -> Option<Refused> {
+    if ![SIGNED, UNSIGNED].contains(&from.level) {
+        return Some(Refused { number: NO_LEVEL, returned: 0, clauses: vec![Clause::Level] });
+    }
     let size = wrong_size(from);
     if !size.is_empty() {
         return Some(Refused { number: 1, returned: 0, clauses: size });
@@ -94,7 +101,7 @@ pub fn refused(from: &Records) -> Option<Refused> {
 }
 
 /// Row 1: "words not 8 times 1 to 2,048, or text over 65,536 bytes".
-fn wrong_size(Records { words, text }: &Records) -> Vec<Clause> {
+fn wrong_size(Records { words, text, .. }: &Records) -> Vec<Clause> {
     held([
         (Clause::NoWords, words.is_empty()),
         (Clause::WordsNotEight, !words.len().is_multiple_of(RECORD)),

@@ -17,7 +17,7 @@ pub fn lower_records(from: &Records, words: &mut [u32], bytes: &mut [u8]) -> (u3
     if let Some(refusal) = rows::refusal(from) {
         return refusal;
     }
-    let lowered = lower(&records::read(from));
+    let lowered = lower(&records::read(from), from.level);
     words.fill(0);
     bytes.fill(0);
     let room = MOST_RECORDS.min((words.len() / RECORD) as u64);

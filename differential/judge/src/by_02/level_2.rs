@@ -1,20 +1,19 @@
 //! Expressions at level 2 (request 10): unsigned numbers of 64 bits that wrap, over the trees that level 1 has.
 
 use crate::{
-    answer::Diagnosis,
-    by_01::numbers,
+    by_01::{
+        expressions::{Outcome, operand, reported},
+        numbers,
+    },
     tree::{self, Rec},
 };
-
-/// A value; or the diagnostic that evaluating ends with, none where it fails without a code.
-pub type Outcome = Result<u64, Option<Diagnosis>>;
 
 /// Codes: a division by zero, a shift amount that is not 0 to 63.
 const BY_ZERO: u32 = 25;
 const SHIFT: u32 = 26;
 
 /// The number that an expression cell (kind 17) of a width stores.
-pub fn cell(bits: u32, cell: &Rec) -> Outcome {
+pub fn cell(bits: u32, cell: &Rec) -> Outcome<u64> {
     let result = value(operand(cell, 0)?)?;
     kept(bits, result).ok_or_else(|| reported(15, b"", cell))
 }
@@ -32,7 +31,7 @@ pub fn kept(bits: u32, result: u64) -> Option<u64> {
 }
 
 /// An expression's value.
-pub fn value(expression: &Rec) -> Outcome {
+pub fn value(expression: &Rec) -> Outcome<u64> {
     match expression.kind {
         tree::MACRO => Err(reported(10, &expression.text, expression)),
         tree::NUMBER => {
@@ -47,7 +46,7 @@ pub fn value(expression: &Rec) -> Outcome {
 }
 
 /// An infix expression: all operands are there before the first is evaluated; &&, || and ?: evaluate what they need.
-fn infix_value(expression: &Rec) -> Outcome {
+fn infix_value(expression: &Rec) -> Outcome<u64> {
     let last = if expression.w == 19 { 2 } else { 1 };
     if expression.w == 0 {
         return Err(None);
@@ -99,13 +98,4 @@ pub fn infix(w: u32, left: u64, right: u64) -> Result<u64, u32> {
         17 => u64::from(left == right),
         _ => u64::from(left != right),
     })
-}
-
-/// An operand by its place; without it, evaluating fails without a code.
-fn operand(of: &Rec, place: usize) -> Result<&Rec, Option<Diagnosis>> {
-    of.child.get(place).ok_or(None)
-}
-
-fn reported(code: u32, text: &[u8], at: &Rec) -> Option<Diagnosis> {
-    Some(Diagnosis { code, text: text.to_vec(), span: at.span, earlier: (0, 0) })
 }

@@ -8,7 +8,7 @@ use crate::{
     library::Library,
     output::{self, RECORD},
     random::Random,
-    records::{self, Layout, Order, Records},
+    records::{self, Layout, Order, Records, SIGNED},
     room::Room,
     tree::{self, Rec},
 };
@@ -53,7 +53,7 @@ fn call(side: &Library, records: &Records, words: usize, bytes: usize, number: u
     if number == 7 {
         return if room.is_zero() { Ok(()) } else { Err("not all is zero".to_owned()) };
     }
-    let due = by_01::lower::lower(&records::read(records));
+    let due = by_01::lower::lower(&records::read(records), SIGNED);
     let output = output::read(room.words(), room.bytes())?;
     if (u64::from(output.records), u64::from(output.bytes)) != (due.records, due.bytes) {
         return Err("other counts".to_owned());
@@ -70,7 +70,7 @@ fn strings(made: u64) -> Records {
         let property = Rec { kind: tree::PROPERTY, child: vec![name], more: strings, ..Rec::default() };
         [version, root(vec![property])]
     };
-    let without = by_01::lower::lower(&property(Vec::new())).bytes;
+    let without = by_01::lower::lower(&property(Vec::new()), SIGNED).bytes;
     let string = |length: usize| Rec { kind: tree::STRING, text: vec![b's'; length], ..Rec::default() };
     let mut left = (made - without) as usize;
     let mut strings = Vec::new();
@@ -79,7 +79,7 @@ fn strings(made: u64) -> Records {
         left = left.saturating_sub(LONGEST);
     }
     let top = property(strings);
-    assert_eq!(by_01::lower::lower(&top).bytes, made, "as many bytes as wanted");
+    assert_eq!(by_01::lower::lower(&top, SIGNED).bytes, made, "as many bytes as wanted");
     written(&top)
 }
 
@@ -110,5 +110,5 @@ fn root(items: Vec<Rec>) -> Rec {
 /// A description in which equal texts share their bytes.
 fn written(top: &[Rec]) -> Records {
     let layout = Layout { order: Order::Down, shared: true, noise: false };
-    records::write(top, layout, &mut Random::new(0))
+    records::write(top, SIGNED, layout, &mut Random::new(0))
 }

@@ -1,4 +1,4 @@
-//! Damaged descriptions and descriptions at the limits: rows 1 to 7 against a side. What is due is said
+//! Damaged descriptions and descriptions at the limits: 18 and rows 1 to 7 against a side. What is due is said
 //! by 01's table (`by_01::rows`) and, of what is accepted, by 01's sentences.
 
 mod damage;
@@ -10,18 +10,24 @@ mod wanted;
 
 pub use wanted::wanted;
 
+use std::collections::BTreeMap;
+
 use damage::DAMAGES;
 use hand::Hand;
 
 use crate::{
-    by_01::{self, lower::Lowered, rows::Refused},
+    by_01::{
+        self,
+        lower::Lowered,
+        rows::{NO_LEVEL, Refused},
+    },
     counts,
     coverage::Coverage,
     generate::{Size, generate},
     library::Library,
     output::RECORD,
     random::{self, Random},
-    records::{self, Records},
+    records::{self, Records, SIGNED, UNSIGNED},
     room::Room,
     whole::{self, Due},
 };
@@ -30,7 +36,7 @@ use crate::{
 #[derive(Default)]
 pub struct Counts {
     pub inputs: u64,
-    pub answered: [u64; 8],
+    pub answered: BTreeMap<u32, u64>,
     pub different: u64,
 }
 
@@ -41,10 +47,11 @@ impl Counts {
     }
 
     pub fn line(&self) -> String {
-        let rows: Vec<String> =
-            (1..8).map(|row| format!("{} by row {row}", self.answered[row as usize])).collect();
+        let by = |row: u32| self.answered.get(&row).unwrap_or(&0);
+        let rows: Vec<String> = (1..8).map(|row| format!("{} by row {row}", by(row))).collect();
         let (inputs, different) = (self.inputs, self.different);
-        format!("{inputs} descriptions, refused {}, {different} different", rows.join(", "))
+        let by_level = by(NO_LEVEL);
+        format!("{inputs} descriptions, refused {by_level} by 18, {}, {different} different", rows.join(", "))
     }
 }
 
@@ -71,7 +78,7 @@ pub fn compare_seed(
 ) -> Result<(), String> {
     let random = &mut Random::new(seed ^ 0xda3a);
     let (records, damages) = damaged(seed, random);
-    wanted::note(&damages, by_01::rows::refused(&records).as_ref(), coverage);
+    wanted::note(&damages, records.level, by_01::rows::refused(&records).as_ref(), coverage);
     let names: Vec<&str> = damages.iter().map(|place| DAMAGES[*place].name).collect();
     let result = compare_records(side, &records, random, counts, coverage);
     result.map_err(|fault| format!("{}: {fault}", names.join(", ")))
@@ -88,22 +95,41 @@ fn compare_records(
     counts.inputs += 1;
     match by_01::rows::refused(records) {
         Some(refused) => {
-            counts.answered[refused.number as usize] += 1;
+            *counts.answered.entry(refused.number).or_default() += 1;
             compare_refused(side, records, &refused, random, coverage)
         }
         None => compare_accepted(side, records, random, counts, coverage),
     }
 }
 
-/// A generated description with one change or, often, more; which, by their places in the list.
+/// Levels that are none.
+const NO_LEVELS: [u32; 3] = [0, 3, u32::MAX];
+
+/// The level of a description: often 2, and sometimes none.
+fn level(random: &mut Random) -> u32 {
+    match random.below(8) {
+        0 => match random.below(4) {
+            3 => random.next() as u32 | 1 << 31,
+            place => NO_LEVELS[place],
+        },
+        1 | 2 => UNSIGNED,
+        _ => SIGNED,
+    }
+}
+
+/// A generated description with one change or, often, more; which, by their places in the list. One whose
+/// level is none may have no change.
 fn damaged(seed: u64, random: &mut Random) -> (Records, Vec<usize>) {
     let size = match seed % 100 {
         ..94 => Size::Small,
         94..99 => Size::Middle,
         _ => Size::Limit,
     };
-    let wanted = random.pick(&[1, 1, 1, 2, 3]);
-    let mut hand = Hand::new(generate(seed, size).records, Random::new(random.next()));
+    let level = level(random);
+    let is_level = [SIGNED, UNSIGNED].contains(&level);
+    let wanted = if is_level { random.pick(&[1, 1, 1, 2, 3]) } else { random.below(4) };
+    let records = generate(seed, size, if is_level { level } else { UNSIGNED }).records;
+    let mut hand = Hand::new(Records { level, ..records }, Random::new(random.next()));
     let mut made = Vec::new();
     while made.len() < wanted {
         let place = hand.random.below(DAMAGES.len());
@@ -125,7 +151,7 @@ const RARE: usize = 500;
 const WORDS_ABOVE: usize = 65_537 * RECORD + 3;
 const BYTES_ABOVE: usize = (1 << 24) + 5;
 
-/// Rows 1 to 6: the number, what is returned, and both buffers as they were.
+/// 18 and rows 1 to 6: the number, what is returned, and both buffers as they were.
 fn compare_refused(
     side: &Library,
     records: &Records,
@@ -161,7 +187,8 @@ fn compare_accepted(
     counts: &mut Counts,
     coverage: &mut Coverage,
 ) -> Result<(), String> {
-    let Lowered { answer, records: made, bytes, .. } = by_01::lower::lower(&records::read(records));
+    let Lowered { answer, records: made, bytes, .. } =
+        by_01::lower::lower(&records::read(records), records.level);
     let due = Due { records, answer: &answer, made: (made, bytes) };
     let (words, bytes) = (made as usize * RECORD, bytes as usize);
     let rare = random.below(RARE);
@@ -181,9 +208,9 @@ fn compare_accepted(
     };
     coverage.add(what.to_owned(), 1);
     if what.starts_with('7') {
-        counts.answered[7] += 1;
+        *counts.answered.entry(7).or_default() += 1;
+        coverage.add_if(wanted::at_level_2(7), records.level == UNSIGNED);
         return whole::short(side, &due, lent.0, lent.1);
     }
-    counts.answered[0] += 1;
     whole::lowered(side, &due, lent.0, lent.1).map(drop)
 }

@@ -5,7 +5,7 @@ use crate::{
     coverage::Coverage,
     library::Library,
     random::Random,
-    records::{RECORD, Records},
+    records::{RECORD, Records, SIGNED, UNSIGNED},
     tree::Place,
 };
 
@@ -34,17 +34,23 @@ const WS: [u32; 21] = [
     u32::MAX,
 ];
 
-/// Compares a side with 01's table on all of them; the differences.
+/// The kinds of a child.
+const CHILDREN: [Option<u32>; 4] = [None, Some(5), Some(9), Some(15)];
+
+/// Compares a side with 01's table on all of them at both levels; the differences.
 pub fn compare(side: &Library, counts: &mut Counts) -> Vec<String> {
     let random = &mut Random::new(0);
     let mut faults = Vec::new();
     for place in Place::ALL {
         for kind in 0..=22 {
             for w in WS {
-                for child in [None, Some(5), Some(9), Some(15)] {
-                    let records = description(place, kind, w, child);
+                for (child, level) in
+                    CHILDREN.into_iter().flat_map(|child| [(child, SIGNED), (child, UNSIGNED)])
+                {
+                    let records = Records { level, ..description(place, kind, w, child) };
                     let result = compare_records(side, &records, random, counts, &mut Coverage::empty());
-                    let what = || format!("kind {kind} as {place:?} with W {w}, child {child:?}");
+                    let what =
+                        || format!("kind {kind} as {place:?} with W {w}, child {child:?}, level {level}");
                     faults.extend(result.err().map(|fault| format!("{}: {fault}", what())));
                 }
             }
@@ -84,7 +90,7 @@ fn description(place: Place, kind: u32, w: u32, child: Option<u32>) -> Records {
         writer.link = number * RECORD + 5;
         writer.add(w, 0);
     }
-    Records { words: writer.words, text: b"7".to_vec() }
+    Records { words: writer.words, text: b"7".to_vec(), level: SIGNED }
 }
 
 struct Writer {

@@ -1,19 +1,25 @@
 //! What is to come up among damaged descriptions.
 
-use super::damage::DAMAGES;
+use super::{NO_LEVELS, damage::DAMAGES};
 use crate::{
-    by_01::rows::{Clause, Link, Refused},
+    by_01::rows::{Clause, Link, NO_LEVEL, Refused},
     coverage::Coverage,
+    records::UNSIGNED,
     tree::Place,
 };
 
 /// What is to come up: each change alone with its row, each clause as the one returned, each row before
-/// a later one, and each sort of room.
+/// a later one, 18 before each row and each change, each answer at level 2, and each sort of room.
 pub fn wanted() -> Coverage {
+    let mut levels: Vec<String> = (1..=6).map(|row| before(NO_LEVEL, row)).collect();
+    levels.extend(DAMAGES.iter().map(|damage| before_change(damage.name)));
+    levels.extend(NO_LEVELS.map(no_level));
+    levels.extend([NO_CHANGE, OTHER_LEVEL].map(str::to_owned));
+    levels.extend((0..=7).map(at_level_2));
     let alone = DAMAGES.iter().map(|damage| alone(damage.name, damage.row));
     let clauses = clauses().into_iter().map(returned_for);
     let rows = (2..=5).flat_map(|row| (row + 1..=6).map(move |later| before(row, later)));
-    Coverage::wanting(alone.chain(clauses).chain(rows).chain(ROOMS.map(str::to_owned)))
+    Coverage::wanting(alone.chain(clauses).chain(rows).chain(levels).chain(ROOMS.map(str::to_owned)))
 }
 
 const ROOMS: [&str; 16] = [
@@ -37,7 +43,8 @@ const ROOMS: [&str; 16] = [
 
 fn clauses() -> Vec<Clause> {
     let links = [Link::Next, Link::Child, Link::Items, Link::Values];
-    let mut all = vec![Clause::NoWords, Clause::WordsNotEight, Clause::RecordsOver, Clause::TextOver];
+    let mut all =
+        vec![Clause::Level, Clause::NoWords, Clause::WordsNotEight, Clause::RecordsOver, Clause::TextOver];
     all.extend(
         links
             .into_iter()
@@ -67,10 +74,40 @@ fn before(row: u32, later: u32) -> String {
     format!("row {row} before row {later}")
 }
 
+const NO_CHANGE: &str = "18 of a description without a change";
+const OTHER_LEVEL: &str = "18 for another level";
+
+fn before_change(damage: &str) -> String {
+    format!("18 before {damage}")
+}
+
+fn no_level(level: u32) -> String {
+    format!("18 for level {level}")
+}
+
+/// A description at level 2 that a row refuses, or that none of 1 to 6 does.
+pub fn at_level_2(row: u32) -> String {
+    if row == 0 { "level 2: accepted by rows 1 to 6".to_owned() } else { format!("level 2: row {row}") }
+}
+
+/// Notes of a description that is refused for its level what else would have refused it.
+fn note_level(damages: &[usize], level: u32, coverage: &mut Coverage) {
+    let known = NO_LEVELS.contains(&level);
+    coverage.add(if known { no_level(level) } else { OTHER_LEVEL.to_owned() }, 1);
+    coverage.add_if(NO_CHANGE.to_owned(), damages.is_empty());
+    for damage in damages.iter().map(|damage| &DAMAGES[*damage]) {
+        coverage.add(before_change(damage.name), 1);
+        coverage.add_if(before(NO_LEVEL, damage.row), damage.row > 0);
+    }
+}
+
 /// Notes which changes were made, and by what the description is refused.
-pub fn note(damages: &[usize], refused: Option<&Refused>, coverage: &mut Coverage) {
+pub fn note(damages: &[usize], level: u32, refused: Option<&Refused>, coverage: &mut Coverage) {
     let row = refused.map_or(0, |refused| refused.number);
-    if let [damage] = damages {
+    coverage.add_if(at_level_2(row), level == UNSIGNED);
+    if row == NO_LEVEL {
+        note_level(damages, level, coverage);
+    } else if let [damage] = damages {
         coverage.add(alone(DAMAGES[*damage].name, row), 1);
     }
     if let Some(Refused { clauses, .. }) = refused
@@ -79,7 +116,7 @@ pub fn note(damages: &[usize], refused: Option<&Refused>, coverage: &mut Coverag
         coverage.add(returned_for(clause), 1);
     }
     let rows = damages.iter().map(|damage| DAMAGES[*damage].row);
-    for later in rows.filter(|later| row >= 2 && *later > row) {
+    for later in rows.filter(|later| (2..NO_LEVEL).contains(&row) && *later > row) {
         coverage.add(before(row, later), 1);
     }
 }

@@ -1,4 +1,4 @@
-//! Small descriptions with the Rust's answers, as theorems: the checker computes our definitions and
+//! Small descriptions at both levels with the Rust's answers, as theorems: the checker computes our definitions and
 //! finds them equal to the answers, or does not.
 
 use std::{
@@ -13,14 +13,16 @@ use crate::{
     by_01::{self, lower::Lowered, rows::Refusal},
     coverage::{Coverage, FULL_TEXT},
     generate::{Case, Size},
+    levels::{self, has_expression},
     random::Random,
-    records::{RECORD, Records},
+    records::{RECORD, Records, SIGNED, UNSIGNED},
     small,
+    tree::Rec,
     trees::{Judged, judged, judged_case},
 };
 
 mod theorems;
-use theorems::{File, HEAD};
+use theorems::File;
 
 /// Generated descriptions when no number is given.
 pub const COUNT: usize = 150;
@@ -35,6 +37,9 @@ const TRIED: usize = 24;
 const ASKED: usize = 5;
 /// Descriptions in one file.
 const IN_A_FILE: usize = 10;
+
+/// Numbers of which some are levels.
+const LEVELS: [u32; 7] = [0, SIGNED, UNSIGNED, 3, 4, 1 << 31, u32::MAX];
 
 /// What no small description can show.
 const LIMITS: [&str; 4] = ["2048 records", FULL_TEXT, "64 links", "path of 40 components"];
@@ -60,7 +65,8 @@ struct Sample {
 /// Writes the crate `judged` into `folder`/crates: `count` generated descriptions beside the known small
 /// ones. The definitions' names are read from the specs in `crates`.
 pub fn write(folder: &str, crates: &str, count: usize, from: u64) -> Result<String, String> {
-    let samples = samples(count, from)?;
+    let mut samples = samples(SIGNED, count, from)?;
+    samples.extend(self::samples(UNSIGNED, count / 2, from)?);
     let missing = missing(&samples);
     if count >= COUNT && !missing.is_empty() {
         return Err(format!("not in the sample: {}", missing.join(", ")));
@@ -76,41 +82,63 @@ pub fn write(folder: &str, crates: &str, count: usize, from: u64) -> Result<Stri
     }
     put(home.join("src/lib.rt"), "// Descriptions with the Rust's answers: no code, theorems in specs/.\n")?;
     put(home.join("specs/Computed.antt"), &computed(Path::new(crates))?)?;
+    let files = files(&samples);
     let mut modules = "pub mod Computed\n".to_owned();
-    let mut theorems = 0;
-    for (number, part) in samples.chunks(IN_A_FILE).enumerate() {
-        let mut file = File { out: HEAD.to_owned(), theorems: 0 };
-        for (place, sample) in part.iter().enumerate() {
-            file.sample(number * IN_A_FILE + place, sample);
-        }
-        theorems += file.theorems;
+    for (number, file) in files.iter().enumerate() {
         let _ = writeln!(modules, "pub mod J{number:03}");
         put(home.join(format!("specs/J{number:03}.antt")), &file.out)?;
     }
     put(home.join("specs/Lib.antt"), &modules)?;
+    let theorems: usize = files.iter().map(|file| file.theorems).sum();
     Ok(format!("{theorems} theorems on {} descriptions", samples.len()))
+}
+
+/// The files: of the samples, and of the levels.
+fn files(samples: &[Sample]) -> Vec<File> {
+    let of_part = |(number, part): (usize, &[Sample])| {
+        let mut file = File::new();
+        for (place, sample) in part.iter().enumerate() {
+            file.sample(number * IN_A_FILE + place, sample);
+        }
+        file
+    };
+    let mut levels = File::new();
+    levels.levels(&LEVELS);
+    samples.chunks(IN_A_FILE).enumerate().map(of_part).chain([levels]).collect()
 }
 
 fn put(file: PathBuf, text: &str) -> Result<(), String> {
     fs::write(&file, text).map_err(|error| format!("{}: {error}", file.display()))
 }
 
+/// The known small descriptions: at level 2 those that have an expression cell.
+fn known(level: u32) -> Result<Vec<Vec<Rec>>, String> {
+    let mut known = small::descriptions()?;
+    known.extend(small::more_descriptions()?);
+    if level == UNSIGNED {
+        known.extend(small::level_2_descriptions()?);
+        known.retain(|top| has_expression(top));
+    }
+    Ok(known)
+}
+
 /// The known small descriptions, then generated ones that differ: each shows something that few before it
 /// did.
-fn samples(count: usize, from: u64) -> Result<Vec<Sample>, String> {
+fn samples(level: u32, count: usize, from: u64) -> Result<Vec<Sample>, String> {
     let mut random = Random::new(from);
     let mut seen: BTreeMap<String, usize> = BTreeMap::new();
     let mut samples = Vec::new();
-    for top in small::descriptions()?.into_iter().chain(small::more_descriptions()?) {
-        let (sample, features) = noted("known".to_owned(), judged_case(Case::known(top), TRIED));
+    for top in known(level)? {
+        let (sample, features) = noted("known".to_owned(), judged_case(Case::known(top, level), TRIED));
         for feature in features {
             *seen.entry(feature).or_default() += 1;
         }
         samples.push(sample);
     }
     let mut pool: Vec<(Sample, Vec<String>)> = (from..from + SEEDS)
-        .map(|seed| (seed, judged(seed, Size::Small, TRIED)))
+        .map(|seed| (seed, judged(seed, Size::Small, level, TRIED)))
         .filter(|(_, judged)| is_small(&judged.case.records))
+        .filter(|(_, judged)| level == SIGNED || has_expression(&judged.case.top))
         .map(|(seed, judged)| noted(format!("seed {seed}"), judged))
         .collect();
     // In each round a feature may have been shown once more; what was known before counts as one time.
@@ -133,7 +161,8 @@ fn samples(count: usize, from: u64) -> Result<Vec<Sample>, String> {
         }
     }
     let mut rows = [0; 7];
-    for sample in &mut samples {
+    // Which descriptions are refused does not depend on the level.
+    for sample in samples.iter_mut().filter(|_| level == SIGNED) {
         sample.damaged = damaged(&sample.judged.case.records, &mut rows, &mut random);
     }
     Ok(samples)
@@ -145,21 +174,32 @@ fn is_small(records: &Records) -> bool {
 
 /// A description with what it shows.
 fn noted(about: String, judged: Judged) -> (Sample, Vec<String>) {
-    let by_01 = by_01::lower::lower(&judged.case.top);
+    let by_01 = by_01::lower::lower(&judged.case.top, judged.case.records.level);
     let mut coverage = Coverage::empty();
-    coverage.note(&judged, &by_01);
+    note(&judged, &by_01, &mut coverage);
     let features = coverage.features().cloned().collect();
     (Sample { about, judged, by_01, damaged: None }, features)
 }
 
-/// What is to come up and does not.
-fn missing(samples: &[Sample]) -> Vec<String> {
-    let mut coverage = Coverage::of_descriptions();
-    for sample in samples {
-        coverage.note(&sample.judged, &sample.by_01);
+/// Notes what a description shows, by the list of its level.
+fn note(judged: &Judged, by_01: &Lowered, coverage: &mut Coverage) {
+    match judged.case.records.level {
+        UNSIGNED => levels::note(judged, by_01, coverage),
+        _ => coverage.note(judged, by_01),
     }
-    let (_, missing) = coverage.report();
-    missing.into_iter().filter(|feature| !LIMITS.contains(feature)).map(str::to_owned).collect()
+}
+
+/// What is to come up at a level and does not.
+fn missing(samples: &[Sample]) -> Vec<String> {
+    let mut missing = Vec::new();
+    for (level, mut coverage) in [(SIGNED, Coverage::of_descriptions()), (UNSIGNED, levels::wanted())] {
+        for sample in samples.iter().filter(|sample| sample.judged.case.records.level == level) {
+            note(&sample.judged, &sample.by_01, &mut coverage);
+        }
+        let never = coverage.report().1.into_iter().filter(|feature| !LIMITS.contains(feature));
+        missing.extend(never.map(|feature| format!("{feature} at level {level}")));
+    }
+    missing
 }
 
 /// The description with one word another, or one too few, so that rows 1 to 6 refuse it; by the number that
@@ -225,7 +265,10 @@ fn computed(crates: &Path) -> Result<String, String> {
             );
         }
     }
-    Ok(format!("{COMPUTED}unfolding {}\ncomputed words text = meaning words text\n", names.join(" ")))
+    Ok(format!(
+        "{COMPUTED}unfolding {}\ncomputed level words text = meaning level words text\n",
+        names.join(" ")
+    ))
 }
 
 /// The names of a file's definitions that are computed only where they are named.
@@ -267,5 +310,5 @@ abbrev pub diagnostic : ℕ → List ℕ → Span → Span → Diag
 diagnostic c t s n = record { code = c; text = t; span = s; nameSpan = n }
 
 -- all that is computed through
-unfoldable pub computed : List ℕ → List ℕ → State
+unfoldable pub computed : ℕ → List ℕ → List ℕ → State
 ";

@@ -7,13 +7,12 @@ use crate::{
     answer::{Answer, Binding, Cell, Definition, Diagnosis, Extension, Query, Target, Value},
     by_01::lower::Lowered,
     notation,
-    records::Records,
+    records::{Records, SIGNED, UNSIGNED},
     tree::Span,
 };
 
 /// How a file begins.
-pub const HEAD: &str =
-    "-- Descriptions with the Rust's answers, in the judge's notation and as words and text.
+const HEAD: &str = "-- Descriptions with the Rust's answers, in the judge's notation and as words and text.
 use Prim.Native.Nat.{ℕ}
 use mathlib.Core.Bool.{true, false}
 use mathlib.Core.Path.{_≡_, refl}
@@ -26,6 +25,7 @@ use Rattle.queries.specs.meaning.History.{history}
 use Rattle.making.specs.meaning.State.{State}
 use Rattle.post_checks.specs.meaning.Post.{postChecks}
 use Rattle.input.specs.meaning.Rows.{verdict, accepted, refused}
+use Rattle.levels.specs.meaning.Rules.{isLevel}
 use Rattle.lowering.specs.meaning.Lowered.{meaning, recordsMade, bytesMade}
 use Rattle.judged.specs.Computed.{computed, span, definition, extension, binding, diagnostic}
 ";
@@ -37,6 +37,18 @@ pub struct File {
 }
 
 impl File {
+    pub fn new() -> Self {
+        Self { out: HEAD.to_owned(), theorems: 0 }
+    }
+
+    /// Which numbers are levels.
+    pub fn levels(&mut self, numbers: &[u32]) {
+        for number in numbers {
+            let is = [SIGNED, UNSIGNED].contains(number);
+            self.theorem(&format!("level-{number}"), &format!("isLevel {number}"), &is.to_string());
+        }
+    }
+
     fn theorem(&mut self, name: &str, left: &str, right: &str) {
         self.theorems += 1;
         let _ = write!(self.out, "\npub {name} : {left} ≡ {right}\nunfolding computed\n{name} = refl\n");
@@ -49,27 +61,29 @@ impl File {
     pub fn sample(&mut self, number: usize, sample: &Sample) {
         let Sample { about, judged, by_01, damaged } = sample;
         let at = format!("{number:03}");
-        let _ = write!(self.out, "\n-- {at}, {about}: {}\n", notation::written(&judged.case.top));
-        let Records { words, text: bytes } = &judged.case.records;
+        let Records { words, text: bytes, level } = &judged.case.records;
+        let _ =
+            write!(self.out, "\n-- {at}, {about}, level {level}: {}\n", notation::written(&judged.case.top));
         self.named(&format!("words-{at}"), "List ℕ", &listed(words, u32::to_string));
         self.named(&format!("text-{at}"), "List ℕ", &listed(bytes, u8::to_string));
-        let input = format!("words-{at} text-{at}");
-        self.theorem(&format!("accepted-{at}"), &format!("verdict {input}"), "accepted");
+        if *level == SIGNED {
+            self.theorem(&format!("accepted-{at}"), &format!("verdict words-{at} text-{at}"), "accepted");
+        }
         if let Some((records, (cause, returned))) = damaged {
             let words = listed(&records.words, u32::to_string);
             let left = format!("verdict ({words}) text-{at}");
             self.theorem(&format!("refused-{at}"), &left, &format!("refused {cause} {returned}"));
         }
-        self.answer(&at, &judged.answer, by_01);
-        self.queries(&at, &judged.queries);
+        let state = format!("meaning {level} words-{at} text-{at}");
+        self.answer(&at, &state, &judged.answer, by_01);
+        self.queries(&at, &state, &judged.queries);
     }
 
-    fn answer(&mut self, at: &str, answer: &Answer, by_01: &Lowered) {
+    fn answer(&mut self, at: &str, state: &str, answer: &Answer, by_01: &Lowered) {
         for (place, made) in answer.definitions.iter().enumerate() {
             self.named(&format!("d{at}-{place}"), "Def", &definition(made));
         }
         let places: Vec<usize> = (0..answer.definitions.len()).collect();
-        let state = format!("meaning words-{at} text-{at}");
         for (part, due) in [
             ("defs", by_place(at, &places)),
             ("exts", listed(&answer.extensions, extension)),
@@ -87,8 +101,8 @@ impl File {
         }
     }
 
-    fn queries(&mut self, at: &str, queries: &[Query]) {
-        let defs = format!("(meaning words-{at} text-{at} .defs)");
+    fn queries(&mut self, at: &str, state: &str, queries: &[Query]) {
+        let defs = format!("({state} .defs)");
         for (place, query) in asked(queries).into_iter().enumerate() {
             let path = text(&query.path);
             for (name, of, due) in [

@@ -4,6 +4,7 @@
 //! another, deleted and added again, labels bound twice, references found and not found.
 
 mod nodes;
+mod unsigned;
 mod values;
 
 use crate::{
@@ -30,9 +31,9 @@ pub enum Size {
 
 impl Case {
     /// A known description, written in the plainest way.
-    pub fn known(top: Vec<Rec>) -> Self {
+    pub fn known(top: Vec<Rec>, level: u32) -> Self {
         let layout = Layout { order: Order::Down, shared: false, noise: false };
-        let records = records::write(&top, layout, &mut Random::new(0));
+        let records = records::write(&top, level, layout, &mut Random::new(0));
         Self { top, records, layout, look: 0 }
     }
 }
@@ -46,14 +47,14 @@ pub struct Case {
     pub look: u64,
 }
 
-/// The description of a seed.
-pub fn generate(seed: u64, size: Size) -> Case {
+/// The description of a seed at a level: the levels have expressions of their own.
+pub fn generate(seed: u64, size: Size, level: u32) -> Case {
     let mut random = Random::new(seed);
     loop {
-        let top = tree_of(&mut random, size);
+        let top = tree_of(&mut random, size, level);
         let order = random.pick(&[Order::Down, Order::Across, Order::Any]);
         let layout = Layout { order, shared: random.once_in(2), noise: random.once_in(3) };
-        let mut records = records::write(&top, layout, &mut random);
+        let mut records = records::write(&top, level, layout, &mut random);
         // At the limit, bytes that no record leads to fill the text up.
         if size == Size::Limit && records.text.len() < MOST_TEXT && random.once_in(3) {
             records.text.resize(MOST_TEXT, b'/');
@@ -66,7 +67,7 @@ pub fn generate(seed: u64, size: Size) -> Case {
     }
 }
 
-fn tree_of(random: &mut Random, size: Size) -> Vec<Rec> {
+fn tree_of(random: &mut Random, size: Size, level: u32) -> Vec<Rec> {
     let deep = random.once_in(match size {
         Size::Small => 16,
         Size::Middle => 4,
@@ -82,13 +83,23 @@ fn tree_of(random: &mut Random, size: Size) -> Vec<Rec> {
     let names = 2 + random.below(3) + random.weighted(&[20, 1]) * 7;
     let overlay = random.once_in(3);
     let random = Random::new(random.next());
-    let mut maker =
-        Maker { random, room: room as isize, deep, spans, names, overlay, place: 0, paths: Vec::new() };
+    let mut maker = Maker {
+        random,
+        level,
+        room: room as isize,
+        deep,
+        spans,
+        names,
+        overlay,
+        place: 0,
+        paths: Vec::new(),
+    };
     maker.top(room)
 }
 
 struct Maker {
     random: Random,
+    level: u32,
     /// Records that may still be made.
     room: isize,
     deep: bool,

@@ -3,6 +3,7 @@
 use super::{MOST_LINKS, Maker};
 use crate::{
     inputs::OCTAL,
+    records::UNSIGNED,
     tree::{self, Place, Rec},
 };
 
@@ -207,7 +208,10 @@ impl Maker {
             _ => {
                 let mut cell = self.rec(tree::EXPRESSION);
                 let levels = if self.random.once_in(100) { MOST_LINKS } else { self.random.below(5) as u32 };
-                if self.random.once_in(8) && Self::fits(depth, 3) {
+                if self.level == UNSIGNED && Self::fits(depth, 3) && self.random.once_in(3) {
+                    let edge = self.unsigned_edge();
+                    cell.child.push(edge);
+                } else if self.random.once_in(8) && Self::fits(depth, 3) {
                     let edge = self.edge();
                     cell.child.push(edge);
                 } else {
@@ -258,7 +262,7 @@ impl Maker {
         }
     }
 
-    fn number(&mut self, from: &[&str]) -> Rec {
+    pub(super) fn number(&mut self, from: &[&str]) -> Rec {
         if self.random.once_in(6) {
             let bits = self.random.below(64);
             let number = (self.random.next() >> bits).wrapping_add(self.random.below(3) as u64);
@@ -311,6 +315,7 @@ impl Maker {
         match self.random.weighted(kinds) {
             0 => self.invocation(),
             1 => match self.random.weighted(&[12, 2, 1]) {
+                0 if self.level == UNSIGNED && Self::fits(depth, 1) => self.unsigned_operand(),
                 0 => self.number(&OPERANDS),
                 1 => self.number(&["0"]),
                 _ => self.number(&NUMBERS),

@@ -20,6 +20,7 @@ use crate::{
     coverage::Coverage,
     library::Queries,
     random::{self, Random},
+    records::SIGNED,
     trees::{judged, size_of_case},
 };
 
@@ -139,7 +140,7 @@ fn returned_for(rule: Rule) -> String {
 /// The log of a seed.
 fn log(seed: u64, random: &mut Random, coverage: &mut Coverage) -> Log {
     let (origin, answer) = if seed.is_multiple_of(2) {
-        ("the Rust's lowering", judged(seed / 2, size_of_case(seed / 2), 0).answer)
+        ("the Rust's lowering", judged(seed / 2, size_of_case(seed / 2), SIGNED, 0).answer)
     } else {
         ("any log", made::made(seed))
     };

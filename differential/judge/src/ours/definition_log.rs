@@ -1,9 +1,9 @@
 //! The functions of include/definition_log.h.
 
-use crate::library::{Library, Queries};
-
-/// The level that keeps 01's signed rule.
-const SIGNED: u32 = 1;
+use crate::{
+    library::{Library, Queries},
+    records::Records,
+};
 
 #[repr(C)]
 struct Answer {
@@ -57,9 +57,9 @@ const QUERIES: Queries = Queries {
 #[rustfmt::skip]
 pub const LIBRARY: Library = Library {
     lower: |records, out, bytes| unsafe {
-        let (words, text) = (&records.words, &records.text);
+        let Records { words, text, level } = records;
         dl_lower(
-            start(words), words.len(), start(text), text.len(), SIGNED, start_mut(out), out.len(), start_mut(bytes), bytes.len(),
+            start(words), words.len(), start(text), text.len(), *level, start_mut(out), out.len(), start_mut(bytes), bytes.len(),
         )
         .read()
     },

@@ -5,7 +5,6 @@ use std::{
     cell::RefCell,
     fs,
     io::{self, Read, Write},
-    iter,
     process::{self, Child, ChildStdin, ChildStdout, Command, ExitStatus, Stdio},
 };
 
@@ -21,6 +20,9 @@ const HISTORY: u64 = 2;
 const CONTAINS_NODE: u64 = 3;
 pub const FAULTS: u64 = 4;
 
+/// The level in a call that has none.
+pub const NO_LEVEL: u32 = 0;
+
 /// The status with which valgrind ends if it has found something.
 pub const FOUND: i32 = 9;
 
@@ -28,8 +30,8 @@ pub const FOUND: i32 = 9;
 const OPTIONS: [&str; 5] =
     ["-q", "--error-exitcode=9", "--leak-check=no", "--redzone-size=1024", "--vgdb=no"];
 
-/// A request has a function and four lengths before its slices, a reply the two numbers of the answer.
-const HEAD: usize = 5 * size_of::<u64>();
+/// A request has a function, a level and four lengths before its slices, a reply the two numbers of the answer.
+const HEAD: usize = 6 * size_of::<u64>();
 const ANSWER: usize = 2 * size_of::<u32>();
 
 thread_local! {
@@ -39,17 +41,18 @@ thread_local! {
 /// Our functions under valgrind; `serving` must have started the program.
 pub const LIBRARY: Library = Library {
     lower: |records, out, bytes| {
-        call(LOWER, &[bytes_of(&records.words), &records.text], &mut [bytes_of_mut(out), bytes])
+        let read = [bytes_of(&records.words), &records.text];
+        call(LOWER, records.level, &read, &mut [bytes_of_mut(out), bytes])
     },
     queries: Queries {
         live: |words, bytes, base, list| {
-            call(LIVE, &[bytes_of(words), bytes, base], &mut [bytes_of_mut(list)])
+            call(LIVE, NO_LEVEL, &[bytes_of(words), bytes, base], &mut [bytes_of_mut(list)])
         },
         history: |words, bytes, path, list| {
-            call(HISTORY, &[bytes_of(words), bytes, path], &mut [bytes_of_mut(list)])
+            call(HISTORY, NO_LEVEL, &[bytes_of(words), bytes, path], &mut [bytes_of_mut(list)])
         },
         contains_node: |words, bytes, path| {
-            call(CONTAINS_NODE, &[bytes_of(words), bytes, path], &mut [&mut []])
+            call(CONTAINS_NODE, NO_LEVEL, &[bytes_of(words), bytes, path], &mut [&mut []])
         },
     },
 };
@@ -66,10 +69,10 @@ fn bytes_of_mut(words: &mut [u32]) -> &mut [u8] {
 }
 
 /// A call of this thread's program; what goes wrong there ends the run.
-fn call(function: u64, read: &[&[u8]], written: &mut [&mut [u8]]) -> (u32, u32) {
+fn call(function: u64, level: u32, read: &[&[u8]], written: &mut [&mut [u8]]) -> (u32, u32) {
     SERVED.with_borrow_mut(|served| {
         let served = served.as_mut().expect("the program has been started");
-        served.ask(function, read, written).unwrap_or_else(|fault| served.stop(&fault))
+        served.ask(function, level, read, written).unwrap_or_else(|fault| served.stop(&fault))
     })
 }
 
@@ -113,11 +116,12 @@ impl Served {
     pub fn ask(
         &mut self,
         function: u64,
+        level: u32,
         read: &[&[u8]],
         written: &mut [&mut [u8]],
     ) -> Result<(u32, u32), String> {
         self.calls += 1;
-        self.put(function, read, written);
+        self.put(function, level, read, written);
         self.reply.resize(ANSWER + self.request.len() - HEAD, 0);
         let through =
             self.input.write_all(&self.request).and_then(|()| self.output.read_exact(&mut self.reply));
@@ -142,11 +146,11 @@ impl Served {
     }
 
     /// Puts a request together.
-    fn put(&mut self, function: u64, read: &[&[u8]], written: &[&mut [u8]]) {
+    fn put(&mut self, function: u64, level: u32, read: &[&[u8]], written: &[&mut [u8]]) {
         let slices = || read.iter().copied().chain(written.iter().map(|slice| &**slice));
         let lengths = slices().map(|slice| slice.len() as u64);
         self.request.clear();
-        self.request.extend(iter::once(function).chain(lengths).flat_map(u64::to_ne_bytes));
+        self.request.extend([function, level.into()].into_iter().chain(lengths).flat_map(u64::to_ne_bytes));
         assert_eq!(self.request.len(), HEAD, "a call has four slices");
         slices().for_each(|slice| self.request.extend_from_slice(slice));
     }

@@ -106,16 +106,27 @@ impl Maker {
     }
 
     fn value(&mut self) -> Rec {
-        match self.random.below(4) {
+        match self.random.below(5) {
             0 => self.text(tree::STRING, b"okay"),
             1 => self.text(tree::BYTESTRING, b"[0f 1]0"),
             2 => self.reference(),
+            3 => self.shifted(),
             _ => {
                 let number = self.text(tree::NUMBER, b"0x10");
                 let reference = self.reference();
                 Rec { child: vec![number, reference], ..self.rec(tree::CELL_LIST) }
             }
         }
+    }
+
+    /// A cell list of 64 bits with -1 >> 60, which the levels answer differently.
+    fn shifted(&mut self) -> Rec {
+        let one = self.text(tree::NUMBER, b"1");
+        let minus = Rec { w: 2, child: vec![one], ..self.rec(tree::PREFIX) };
+        let amount = self.text(tree::NUMBER, b"60");
+        let shift = Rec { w: 10, child: vec![minus, amount], ..self.rec(tree::INFIX) };
+        let cell = Rec { child: vec![shift], ..self.rec(tree::EXPRESSION) };
+        Rec { child: vec![cell], ..self.text(tree::CELL_LIST, b"64") }
     }
 
     /// A reference that can be read.

@@ -22,7 +22,7 @@ use crate::{
     notation,
     output::RECORD,
     random::{self, Random},
-    records::{self, Layout, MOST_RECORDS, Order, Records},
+    records::{self, Layout, MOST_RECORDS, Order, Records, SIGNED, UNSIGNED},
     room::Room,
     tree::{self, Rec},
 };
@@ -68,7 +68,7 @@ pub fn compare(side: &Library, from: u64, cases: u64, coverage: &mut Coverage) -
 /// Places tried for an insertion.
 const TRIES: usize = 30;
 
-/// Compares a pair of runs of a seed; one in two meets all premises.
+/// Compares a pair of runs of a seed, both at level 2 once in three times; one in two meets all premises.
 pub fn compare_seed(
     side: &Library,
     seed: u64,
@@ -81,7 +81,8 @@ pub fn compare_seed(
         380..398 => Size::Middle,
         _ => Size::Limit,
     };
-    let case = with_room(generate(seed, size));
+    let level = if (seed / 2).is_multiple_of(3) { UNSIGNED } else { SIGNED };
+    let case = with_room(generate(seed, size, level));
     let kind = if seed.is_multiple_of(2) { 0 } else { 1 + (seed / 2) as usize % (KINDS.len() - 1) };
     for _ in 0..TRIES {
         if let Some(pair) = Pair::made(&case, &KINDS[kind], random) {
@@ -96,11 +97,11 @@ fn with_room(case: Case) -> Case {
     if tree::count(&case.top) < MOST_RECORDS - ROOM {
         return case;
     }
-    let mut top = case.top;
+    let (mut top, level) = (case.top, case.records.level);
     while tree::count(&top) > MOST_RECORDS - ROOM {
         top.pop();
     }
-    Case::known(top)
+    Case::known(top, level)
 }
 
 /// Records left for the two.
@@ -127,7 +128,8 @@ impl<'a> Pair<'a> {
         if spot.is_top() != wants_top {
             return None;
         }
-        let ground = Ground::at(&case.top, &spot);
+        let level = case.records.level;
+        let ground = Ground::at(&case.top, level, &spot);
         let inserted = (kind.make)(&mut Hand::new(Random::new(random.next()), &ground))?;
         let (new, broken) = premises::judged(&case.top, &spot, &ground, &inserted);
         let top = inserted.put_into(&case.top, &spot);
@@ -136,13 +138,15 @@ impl<'a> Pair<'a> {
         }
         let order = random.pick(&[Order::Down, Order::Across, Order::Any]);
         let layout = Layout { order, shared: random.once_in(2), noise: false };
-        let records = records::write(&top, layout, random);
+        let records = records::write(&top, level, layout, random);
         let accepted = by_01::rows::refusal(&records).is_none();
         accepted.then_some(Self { case, kind, spot, inserted, ground, new, top, records })
     }
 
     fn compare(&self, side: &Library, counts: &mut Counts, coverage: &mut Coverage) -> Result<(), String> {
-        let (of_a, of_b) = (by_01::lower::lower(&self.case.top), by_01::lower::lower(&self.top));
+        let level = self.case.records.level;
+        let (of_a, of_b) =
+            (by_01::lower::lower(&self.case.top, level), by_01::lower::lower(&self.top, level));
         let a = run(side, &self.case.records, &of_a)?;
         let b = run(side, &self.records, &of_b)?;
         let asked = alike::asked(&a, &b, &self.new, PATHS);
@@ -155,6 +159,7 @@ impl<'a> Pair<'a> {
         counts.broken += 1;
         counts.seen += u64::from(!found.is_empty());
         coverage.add(shows(self.kind), (!found.is_empty()).into());
+        coverage.add_if(LEVEL_2.to_owned(), level == UNSIGNED && !found.is_empty());
         for part in found {
             coverage.add(part_differs(part), 1);
         }
@@ -176,7 +181,7 @@ impl<'a> Pair<'a> {
 
     /// Notes what a pair that meets the premises has.
     fn note(&self, of_a: &Lowered, of_b: &Lowered, coverage: &mut Coverage) {
-        let (new, before) = (&self.new, &self.ground.before);
+        let (new, before, level) = (&self.new, &self.ground.before, self.case.records.level);
         let (a, b) = (&of_a.answer, &of_b.answer);
         let labels = b.definitions.iter().filter(|made| under(&made.path, new)).flat_map(|made| &made.labels);
         let known = |label: &Vec<u8>| a.bindings.iter().any(|binding| binding.label == *label);
@@ -198,6 +203,9 @@ impl<'a> Pair<'a> {
             inner.iter().any(|item| item.kind == tree::PROPERTY),
             inner.iter().any(|item| item.kind == tree::DIRECTIVE && item.w == 4),
             tree::count(&self.case.top) > 1000,
+            level == UNSIGNED,
+            level == UNSIGNED && by_01::lower::lower(&self.case.top, SIGNED).answer != *a,
+            level == UNSIGNED && by_01::lower::lower(&self.top, SIGNED).answer.definitions != b.definitions,
         ];
         for (what, holds) in MET.into_iter().zip(holds) {
             coverage.add(met(what), holds.into());
@@ -206,7 +214,7 @@ impl<'a> Pair<'a> {
 }
 
 /// What is to come up among pairs that meet the premises.
-const MET: [&str; 13] = [
+const MET: [&str; 16] = [
     "in a body that a reference reopened",
     "more than five links deep",
     "where something was deleted before",
@@ -220,7 +228,13 @@ const MET: [&str; 13] = [
     "with a property in it",
     "with a deletion in it",
     "in a description of more than 1,000 records",
+    "at level 2",
+    "at level 2, with an expression that level 1 answers differently",
+    "at level 2, with a property in run B that level 1 gives otherwise",
 ];
+
+/// A pair at level 2 that breaks a premise.
+const LEVEL_2: &str = "a premise broken at level 2: a difference";
 
 fn met(what: &str) -> String {
     format!("premises met, {what}")
@@ -239,7 +253,7 @@ fn part_differs(part: &str) -> String {
 pub fn wanted() -> Coverage {
     let kinds = KINDS[1..].iter().map(shows);
     let parts = alike::PARTS.into_iter().map(part_differs);
-    Coverage::wanting(kinds.chain(parts).chain(MET.map(met)))
+    Coverage::wanting(kinds.chain(parts).chain(MET.map(met)).chain([LEVEL_2.to_owned()]))
 }
 
 /// Paths asked for in a pair of runs, about.

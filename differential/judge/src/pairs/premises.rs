@@ -55,11 +55,12 @@ pub enum Premise {
     NothingBound,
 }
 
-/// The ground on which two items are put: what the description up to there lowers to, and the path of
+/// The ground on which two items are put: what the description up to there lowers to at its level, and the path of
 /// the body, if that enters the main log.
 pub struct Ground {
     pub before: Answer,
     pub parent: Option<Text>,
+    level: u32,
 }
 
 /// The name of a property that no description has.
@@ -67,24 +68,24 @@ const PROBE: &[u8] = b"\x01";
 
 impl Ground {
     /// A body enters the main log if a property put there would be the log's next definition.
-    pub fn at(top: &[Rec], spot: &Spot) -> Self {
-        let before = lower(&spot.until(top, &[])).answer;
+    pub fn at(top: &[Rec], level: u32, spot: &Spot) -> Self {
+        let before = lower(&spot.until(top, &[]), level).answer;
         let name = Rec { kind: tree::NAME, text: PROBE.to_vec(), ..Rec::default() };
         let probe = Rec { kind: tree::PROPERTY, child: vec![name], ..Rec::default() };
-        let with = lower(&spot.until(top, &[probe])).answer.definitions;
+        let with = lower(&spot.until(top, &[probe]), level).answer.definitions;
         let next = with.get(before.definitions.len());
         let above = next.and_then(|next| next.path.strip_suffix(PROBE)?.strip_suffix(b"/"));
         let parent = above.map(|above| if above.is_empty() { b"/".to_vec() } else { above.to_vec() });
-        Self { before, parent }
+        Self { before, parent, level }
     }
 }
 
 /// The new path, empty if there is none, and the premises that are broken.
 pub fn judged(top: &[Rec], spot: &Spot, ground: &Ground, inserted: &Inserted) -> (Text, Vec<Premise>) {
-    let (Inserted { first, second, apart }, Ground { before, parent }) = (inserted, ground);
+    let (Inserted { first, second, apart }, Ground { before, parent, level }) = (inserted, ground);
     let named = |rec: &Rec| Some(join(parent.as_ref()?, &full_name(rec)?));
     let new = named(first);
-    let after = lower(&spot.until(top, &[first.clone(), second.clone()])).answer;
+    let after = lower(&spot.until(top, &[first.clone(), second.clone()]), *level).answer;
     let deletes = second.kind == tree::DIRECTIVE && second.w == 4 && named(second) == new;
     let live_there = |path: &Text| !live(&before.definitions, path).is_empty();
     let bound_there = |path: &Text| before.bindings.iter().any(|binding| under(&binding.path, path));

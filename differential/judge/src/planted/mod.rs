@@ -3,6 +3,7 @@
 //! Of 01's slips, counting "" as under "/" does not show in what lowering writes: only nodes are
 //! resolved and unbound, and no node has the path "". It is planted into the queries (`logs::faults`).
 
+mod level_2;
 mod slips;
 mod words;
 mod wrong;
@@ -11,8 +12,10 @@ use crate::{
     by_01,
     coverage::Coverage,
     damaged,
+    levels::{alike, has_expression},
     library::{Library, Lower, Queries},
     ours, pairs,
+    records::{Records, SIGNED, UNSIGNED},
     trees::{self, judged, size_of_case},
 };
 
@@ -21,6 +24,10 @@ use crate::{
 enum By {
     /// The Rust's lowerings of generated descriptions.
     Rust,
+    /// The same at level 2.
+    Level2,
+    /// Descriptions without an expression cell at both levels.
+    Alike,
     /// Rows 1 to 7.
     Rows,
     /// Pairs of runs.
@@ -35,7 +42,7 @@ const SEEDS: u64 = 4_000;
 
 /// Where each planted fault is found first, if it is. Our library must be there.
 pub fn found() -> Vec<(&'static str, Option<String>)> {
-    let lowerings = wrong::FAULTS.iter().chain(&words::FAULTS).chain(&slips::FAULTS);
+    let lowerings = wrong::FAULTS.iter().chain(&words::FAULTS).chain(&slips::FAULTS).chain(&level_2::FAULTS);
     let sides = lowerings.map(|(name, by, lower)| (*name, *by, Library { lower: *lower, ..ours() }));
     let queries = Queries { live: slips::deleted_live, ..ours().queries };
     let pairs = ("pairs: deleted definitions stay live", By::Pairs, Library { queries, ..ours() });
@@ -48,17 +55,25 @@ fn ours() -> Library {
 }
 
 /// Our lowering.
-fn lower(records: &crate::records::Records, words: &mut [u32], bytes: &mut [u8]) -> (u32, u32) {
+fn lower(records: &Records, words: &mut [u32], bytes: &mut [u8]) -> (u32, u32) {
     (ours().lower)(records, words, bytes)
+}
+
+/// Compares a side with the Rust on the description of a seed at a level.
+fn compare_judged(side: &Library, seed: u64, level: u32) -> Result<(), String> {
+    let judged = judged(seed, size_of_case(seed), level, 3);
+    trees::whole_side(side, seed, &judged, &by_01::lower::lower(&judged.case.top, level))
 }
 
 fn first_difference(side: &Library, by: By) -> Option<String> {
     let coverage = &mut Coverage::empty();
     (0..SEEDS).find_map(|seed| {
         let result = match by {
-            By::Rust => {
-                let judged = judged(seed, size_of_case(seed), 3);
-                trees::whole_side(side, seed, &judged, &by_01::lower::lower(&judged.case.top))
+            By::Rust => compare_judged(side, seed, SIGNED),
+            By::Level2 => compare_judged(side, seed, UNSIGNED),
+            By::Alike => {
+                let judged = judged(seed, size_of_case(seed), UNSIGNED, 0);
+                if has_expression(&judged.case.top) { Ok(()) } else { alike(side, seed, &judged) }
             }
             By::Rows => damaged::compare_seed(side, seed, &mut damaged::Counts::default(), coverage),
             By::Pairs => pairs::compare_seed(side, seed, &mut pairs::Counts::default(), coverage),
