@@ -39,7 +39,8 @@ fn read_crate(name: &str, names: &[String], from: &Path, to: &Path) {
     }
 }
 
-/// A source without ghost lines and contracts, its own crate and the others as modules of one.
+/// A source without ghost lines and contracts, its own crate and the others as modules of one, and the
+/// prover's sums that wrap as Rust's.
 fn as_rust(name: &str, names: &[String], source: &str) -> String {
     let mut out = String::new();
     let mut open = 0;
@@ -56,6 +57,9 @@ fn as_rust(name: &str, names: &[String], source: &str) -> String {
                 out += "#[derive(Clone, Copy)]\n";
             }
             let line = line.replace("pub extern \"C\" fn", "pub fn");
+            let line = ["add", "sub"].iter().fold(line, |line, op| {
+                line.replace(&format!("std::num::wrapping_{op}_u64"), &format!("u64::wrapping_{op}"))
+            });
             let line = line.replace("crate::", &format!("crate::{name}::"));
             out += &names.iter().fold(line, |line, other| as_module(&line, other));
             out += "\n";

@@ -274,13 +274,17 @@ fn computed(crates: &Path) -> Result<String, String> {
 /// The names of a file's definitions that are computed only where they are named.
 fn unfoldable(text: &str) -> Vec<String> {
     let mut names = Vec::new();
-    let mut in_mutual = false;
-    for line in text.lines() {
-        if !line.is_empty() && !line.starts_with(' ') {
-            in_mutual = line == "unfoldable mutual";
+    // How far the mutual definitions at hand are moved in; a module moves all in that it has.
+    let mut mutual = None;
+    for line in text.lines().filter(|line| !line.is_empty()) {
+        let start = line.trim_start();
+        let moved = line.len() - start.len();
+        mutual = mutual.filter(|outer| moved > *outer);
+        let begins = if mutual.is_some_and(|outer| moved == outer + 2) { "pub " } else { "unfoldable pub " };
+        names.extend(start.strip_prefix(begins).and_then(|rest| rest.split(' ').next()).map(str::to_owned));
+        if start == "unfoldable mutual" {
+            mutual = Some(moved);
         }
-        let name = if in_mutual { line.strip_prefix("  pub ") } else { line.strip_prefix("unfoldable pub ") };
-        names.extend(name.and_then(|rest| rest.split(' ').next()).map(str::to_owned));
     }
     names
 }
