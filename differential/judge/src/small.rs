@@ -60,16 +60,14 @@ pub fn level_2_descriptions() -> Result<Vec<Vec<Rec>>, String> {
     all_of(LEVEL_2)
 }
 
-fn all_of(file: &'static str) -> Result<Vec<Vec<Rec>>, String> {
-    lines(file).map(|line| notation::read(Known::of_line(line, &[UNSIGNED, SIGNED])[0].description)).collect()
-}
-
 /// The descriptions of cases/definitions.txt, which have no lines of their own.
 pub fn more_descriptions() -> Result<Vec<Vec<Rec>>, String> {
-    lines(MORE)
-        .map(|line| line.split_once(" | ").map_or(line, |(_, description)| description))
-        .map(notation::read)
-        .collect()
+    all_of(MORE)
+}
+
+/// The descriptions of a file: each stands behind what it shows.
+fn all_of(file: &'static str) -> Result<Vec<Vec<Rec>>, String> {
+    lines(file).map(|line| notation::read(line.split(" | ").nth(1).unwrap_or(line))).collect()
 }
 
 /// Compares the Rust with the lines, with 01's sentences, and with a side.

@@ -109,7 +109,7 @@ const NO_LEVELS: [u32; 3] = [0, 3, u32::MAX];
 fn level(random: &mut Random) -> u32 {
     match random.below(8) {
         0 => match random.below(4) {
-            3 => random.next() as u32 | 1 << 31,
+            3 => 4 + random.below(u32::MAX as usize - 4) as u32,
             place => NO_LEVELS[place],
         },
         1 | 2 => UNSIGNED,

@@ -11,7 +11,7 @@ use crate::{
 /// What is to come up: each change alone with its row, each clause as the one returned, each row before
 /// a later one, 18 before each row and each change, each answer at level 2, and each sort of room.
 pub fn wanted() -> Coverage {
-    let mut levels: Vec<String> = (1..=6).map(|row| before(NO_LEVEL, row)).collect();
+    let mut levels: Vec<String> = (1..=6).map(before_row).collect();
     levels.extend(DAMAGES.iter().map(|damage| before_change(damage.name)));
     levels.extend(NO_LEVELS.map(no_level));
     levels.extend([NO_CHANGE, OTHER_LEVEL].map(str::to_owned));
@@ -77,6 +77,10 @@ fn before(row: u32, later: u32) -> String {
 const NO_CHANGE: &str = "18 of a description without a change";
 const OTHER_LEVEL: &str = "18 for another level";
 
+fn before_row(row: u32) -> String {
+    format!("18 before row {row}")
+}
+
 fn before_change(damage: &str) -> String {
     format!("18 before {damage}")
 }
@@ -97,7 +101,7 @@ fn note_level(damages: &[usize], level: u32, coverage: &mut Coverage) {
     coverage.add_if(NO_CHANGE.to_owned(), damages.is_empty());
     for damage in damages.iter().map(|damage| &DAMAGES[*damage]) {
         coverage.add(before_change(damage.name), 1);
-        coverage.add_if(before(NO_LEVEL, damage.row), damage.row > 0);
+        coverage.add_if(before_row(damage.row), damage.row > 0);
     }
 }
 

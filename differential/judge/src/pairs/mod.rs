@@ -14,6 +14,7 @@ use premises::{Ground, Inserted, Premise};
 use spot::Spot;
 
 use crate::{
+    answer::{Answer, Definition},
     by_01::{self, lower::Lowered, paths::under},
     counts,
     coverage::Coverage,
@@ -154,12 +155,13 @@ impl<'a> Pair<'a> {
         if self.kind.breaks.is_empty() {
             counts.alike += 1;
             self.note(&of_a, &of_b, coverage);
+            self.note_level(&of_a.answer, &of_b.answer, coverage);
             return if found.is_empty() { Ok(()) } else { Err(self.shown(&found)) };
         }
         counts.broken += 1;
         counts.seen += u64::from(!found.is_empty());
         coverage.add(shows(self.kind), (!found.is_empty()).into());
-        coverage.add_if(LEVEL_2.to_owned(), level == UNSIGNED && !found.is_empty());
+        coverage.add_if(BROKEN_AT_LEVEL_2.to_owned(), level == UNSIGNED && !found.is_empty());
         for part in found {
             coverage.add(part_differs(part), 1);
         }
@@ -179,13 +181,28 @@ impl<'a> Pair<'a> {
         )
     }
 
+    /// Notes of a pair at level 2 that meets the premises what level 1 gives otherwise.
+    fn note_level(&self, a: &Answer, b: &Answer, coverage: &mut Coverage) {
+        if self.case.records.level != UNSIGNED {
+            return;
+        }
+        let signed = |top: &[Rec]| by_01::lower::lower(top, SIGNED).answer;
+        let in_new = |log: &Answer| -> Vec<Definition> {
+            log.definitions.iter().filter(|made| under(&made.path, &self.new)).cloned().collect()
+        };
+        let holds = [true, signed(&self.case.top) != *a, in_new(&signed(&self.top)) != in_new(b)];
+        for (what, holds) in MET_AT_LEVEL_2.into_iter().zip(holds) {
+            coverage.add(met(what), holds.into());
+        }
+    }
+
     /// Notes what a pair that meets the premises has.
     fn note(&self, of_a: &Lowered, of_b: &Lowered, coverage: &mut Coverage) {
-        let (new, before, level) = (&self.new, &self.ground.before, self.case.records.level);
+        let (new, before) = (&self.new, &self.ground.before);
         let (a, b) = (&of_a.answer, &of_b.answer);
         let labels = b.definitions.iter().filter(|made| under(&made.path, new)).flat_map(|made| &made.labels);
         let known = |label: &Vec<u8>| a.bindings.iter().any(|binding| binding.label == *label);
-        let there = |log: &[crate::answer::Definition]| log.iter().any(|made| under(&made.path, new));
+        let there = |log: &[Definition]| log.iter().any(|made| under(&made.path, new));
         let node = self.spot.node(&self.case.top);
         let next = self.spot.next(&self.case.top);
         let inner = &self.inserted.first.more;
@@ -203,9 +220,6 @@ impl<'a> Pair<'a> {
             inner.iter().any(|item| item.kind == tree::PROPERTY),
             inner.iter().any(|item| item.kind == tree::DIRECTIVE && item.w == 4),
             tree::count(&self.case.top) > 1000,
-            level == UNSIGNED,
-            level == UNSIGNED && by_01::lower::lower(&self.case.top, SIGNED).answer != *a,
-            level == UNSIGNED && by_01::lower::lower(&self.top, SIGNED).answer.definitions != b.definitions,
         ];
         for (what, holds) in MET.into_iter().zip(holds) {
             coverage.add(met(what), holds.into());
@@ -214,7 +228,7 @@ impl<'a> Pair<'a> {
 }
 
 /// What is to come up among pairs that meet the premises.
-const MET: [&str; 16] = [
+const MET: [&str; 13] = [
     "in a body that a reference reopened",
     "more than five links deep",
     "where something was deleted before",
@@ -228,13 +242,17 @@ const MET: [&str; 16] = [
     "with a property in it",
     "with a deletion in it",
     "in a description of more than 1,000 records",
+];
+
+/// What is to come up among those at level 2.
+const MET_AT_LEVEL_2: [&str; 3] = [
     "at level 2",
-    "at level 2, with an expression that level 1 answers differently",
-    "at level 2, with a property in run B that level 1 gives otherwise",
+    "at level 2, where level 1 gives another log",
+    "at level 2, with a value in the new subnode that level 1 gives otherwise",
 ];
 
 /// A pair at level 2 that breaks a premise.
-const LEVEL_2: &str = "a premise broken at level 2: a difference";
+const BROKEN_AT_LEVEL_2: &str = "a premise broken at level 2: a difference";
 
 fn met(what: &str) -> String {
     format!("premises met, {what}")
@@ -253,7 +271,8 @@ fn part_differs(part: &str) -> String {
 pub fn wanted() -> Coverage {
     let kinds = KINDS[1..].iter().map(shows);
     let parts = alike::PARTS.into_iter().map(part_differs);
-    Coverage::wanting(kinds.chain(parts).chain(MET.map(met)).chain([LEVEL_2.to_owned()]))
+    let pairs = MET.into_iter().chain(MET_AT_LEVEL_2).map(met);
+    Coverage::wanting(kinds.chain(parts).chain(pairs).chain([BROKEN_AT_LEVEL_2.to_owned()]))
 }
 
 /// Paths asked for in a pair of runs, about.

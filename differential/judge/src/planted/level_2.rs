@@ -1,17 +1,17 @@
 //! Faults at level 2. A wrong operator or rule is planted by lowering another description, in which each
 //! expression that the fault touches is put in other words, with the same spans.
 
-use super::{By, Fault, lower};
+use super::{By, Fault, lower, slips::rewritten};
 use crate::{
     by_01::{rows, values},
     by_02::level_2,
     output,
     random::Random,
-    records::{self, Layout, Order, Records, SIGNED, UNSIGNED},
+    records::{self, Layout, Order, RECORD, Records, SIGNED, UNSIGNED},
     tree::{self, Rec},
 };
 
-pub static FAULTS: [Fault; 12] = [
+pub static FAULTS: [Fault; 14] = [
     ("level 2: level 1 is taken", By::Level2, |records, words, bytes| {
         lower(&Records { level: records.level.min(SIGNED), ..records.clone() }, words, bytes)
     }),
@@ -41,6 +41,18 @@ pub static FAULTS: [Fault; 12] = [
     }),
     ("levels: number cells are read as expressions", By::Alike, |records, words, bytes| {
         reworded(records, words, bytes, numbers_as_expressions)
+    }),
+    ("levels: the same log in other records at level 2", By::Alike, |records, words, bytes| {
+        match records.level {
+            UNSIGNED => rewritten(records, words, bytes, |_, _| {}),
+            _ => lower(records, words, bytes),
+        }
+    }),
+    ("pairs: level 1 is taken for 2 by every other deletion", By::Pairs, |records, words, bytes| {
+        let deletions =
+            records.words.chunks(RECORD).filter(|record| record[0] == tree::DIRECTIVE && record[5] == 4);
+        let level = if deletions.count() % 2 == 1 { SIGNED } else { records.level };
+        lower(&Records { level, ..records.clone() }, words, bytes)
     }),
     ("levels: 3 is taken for 2", By::Rows, |records, words, bytes| {
         let level = if records.level == 3 { UNSIGNED } else { records.level };

@@ -55,7 +55,7 @@ pub static FAULTS: [Fault; 9] = [
 ];
 
 /// Changes the log that was written, and writes it again.
-fn rewritten(
+pub fn rewritten(
     records: &Records,
     words: &mut [u32],
     bytes: &mut [u8],
