@@ -16,12 +16,7 @@ pub static FAULTS: [Fault; 14] = [
         lower(&Records { level: records.level.min(SIGNED), ..records.clone() }, words, bytes)
     }),
     ("level 2: a signed comparison", By::Level2, |records, words, bytes| {
-        reworded(
-            records,
-            words,
-            bytes,
-            |rec| if (13..=16).contains(&infix(&rec)) { turned(rec) } else { rec },
-        )
+        reworded(records, words, bytes, |rec| if matches!(infix(&rec), 13..=16) { turned(rec) } else { rec })
     }),
     ("level 2: >> keeps the sign", By::Level2, |records, words, bytes| {
         reworded(records, words, bytes, |rec| if infix(&rec) == 10 { sign_kept(&rec) } else { rec })
