@@ -6,7 +6,7 @@ use judge::{
     answer::{Answer, Query},
     by_01,
     counts::Counts,
-    definitions, dtc, generate,
+    definitions, dtc, generate, levels,
     library::Library,
     listing_input, logs, memory, notation, ours, panics,
     parts::{self, ALL, SHORT, Sizes},
@@ -125,7 +125,8 @@ fn short() -> Result<(), String> {
 fn speed_part() -> Result<(), String> {
     let ours = ours::library()?;
     logs::speed::run(&ours.queries)?;
-    speed::run(&ours)
+    speed::run(&ours)?;
+    levels::speed::run(&ours)
 }
 
 /// Theorems on small descriptions, for the checker.

@@ -1,6 +1,7 @@
 //! Descriptions at level 2 (02, request 10): those with an expression cell against the Rust, which is shown
 //! what 02's sentences give for it; those without one at both levels, which must lower alike.
 
+pub mod speed;
 mod wanted;
 
 pub use wanted::{note, wanted};
