@@ -50,3 +50,6 @@ pub const OUTSIDE_64_BITS: u32 = 24;
 pub const ZERO_DIVISOR: u32 = 25;
 
 pub const SHIFT_AMOUNT: u32 = 26;
+
+// 02, request 5.
+pub const NODE_AMBIGUOUS: u32 = 29;

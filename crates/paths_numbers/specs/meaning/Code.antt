@@ -83,3 +83,7 @@ zeroDivisor = 25
 
 abbrev pub shiftAmount : ℕ
 shiftAmount = 26
+
+-- 02, request 5: "More than one match counts as not found, with code 29 and 4's text in place of 4"
+abbrev pub nodeAmbiguous : ℕ
+nodeAmbiguous = 29

@@ -1,0 +1,2 @@
+-- Steps of the code.
+pub mod Front
