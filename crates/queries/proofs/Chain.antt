@@ -15,7 +15,7 @@ use Rattle.log.proofs.Reached.{count-most as most-records}
 use Rattle.queries.specs.machine.Pass.{goesOn}
 
 -- a chain goes on where a record is left and the link leads to one
-going : (words : List ℕ) (r left : ℕ) → goesOn words r left ≡ true → (left ≡ 0 → ⊥) × (leads words r ≡ true)
+pub going : (words : List ℕ) (r left : ℕ) → goesOn words r left ≡ true → (left ≡ 0 → ⊥) × (leads words r ≡ true)
 unfolding goesOn
 going words r left t =
     by-test (eqb left 0)

@@ -12,7 +12,7 @@ use Rattle.paths_numbers.proofs.Under.{under-trans, under-refl}
 use Rattle.log.specs.meaning.Contents.{DefValue, node, property, deletedNode, deletedProperty, version, plugin, Def}
 use Rattle.queries.specs.meaning.Kind.{isProperty, isDeletedNode, isDeletion, isOfProperty, isPlugin, setsOverlay}
 use Rattle.paths_numbers.specs.meaning.Lists.{any}
-use Rattle.queries.specs.meaning.Live.{deletes, overwrites, gone, isLive, live, nodeAt, containsNode}
+use Rattle.queries.specs.meaning.Live.{deletes, overwrites, gone, isLive, live}
 use Rattle.queries.specs.meaning.History.{definedBy, historyFrom, history}
 use Rattle.paths_numbers.proofs.Lists.{any-head, any-front, any-back, any-middle}
 
@@ -216,11 +216,6 @@ module _ {new : List ℕ} {a b : List Def} (g : Gap new a b) where
   unfolding setsOverlay
   gap-overlay = rw (g .first, g .second) (sym (any-middle (λ (d : Def). isPlugin (d .value)) (g .before) _ (g .after)
       (within-plugin gap-within)))
-
-  -- in which nodes are live
-  pub gap-contains : (path : List ℕ) → containsNode path a ≡ containsNode path b
-  unfolding containsNode
-  gap-contains path = ap (λ (l : List Def). any (nodeAt path) l) (gap-live path)
 
   -- in the history of each path that is not at or under the new one
   pub gap-history : (path : List ℕ) → atOrUnder path new ≡ false → history path a ≡ history path b

@@ -4,6 +4,11 @@ pub mod Gap
 pub mod Chain
 pub mod Records
 pub mod Fold
+pub mod Distinct
+pub mod Meant
+pub mod Picked
+pub mod Another
+pub mod LookedUp
 pub mod Table
 pub mod Fronts
 pub mod Turn

@@ -2,3 +2,4 @@
 pub mod Lists
 pub mod Pass
 pub mod Table
+pub mod Looked

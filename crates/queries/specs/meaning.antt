@@ -3,4 +3,5 @@ pub mod Kind
 pub mod Live
 pub mod Labels
 pub mod History
+pub mod Lookup
 pub mod Query

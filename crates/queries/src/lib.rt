@@ -4,5 +4,6 @@ pub mod history;
 mod later;
 mod list;
 pub mod live;
+pub mod lookup;
 pub mod mir;
 pub mod query;
