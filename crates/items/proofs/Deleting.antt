@@ -1,4 +1,4 @@
--- Deletions of nodes: by name, by a live node's path, by a label's first binding.
+-- Deletions of nodes: by name, by a live node's path, by a definition of it.
 use Prim.Native.Nat.{ℕ}
 use mathlib.Core.Path.{_≡_, refl, ap, subst, _∙_}
 use mathlib.Core.Bool.{Bool, true, false, cond}
@@ -13,11 +13,12 @@ use Rattle.making.specs.declared.recs.DefKind.the-variants as D
 use Rattle.making.specs.machine.Recs.{bareDef}
 use Rattle.log.specs.machine.Parts.{meant}
 use Rattle.log.specs.meaning.Contents.{Span, Def, deletedNode}
+use Rattle.log.specs.meaning.Record.{firstText}
 use Rattle.log.specs.meaning.ReadBack.{chainOf, defAt, readDefs}
 use Rattle.making.specs.machine.PathPlaces.{pathIn, placedIn}
 use Rattle.making.specs.meaning.State.{State, define}
 use Rattle.making.specs.machine.Represents.{withPlace, Represents, Steps}
-use Rattle.making.proofs.InHand.{represents-defs, place-reads, def-path}
+use Rattle.making.proofs.InHand.{represents-defs, place-reads, def-path, def-place, forget-place}
 use Rattle.queries.specs.meaning.Kind.{isNode}
 use Rattle.paths_numbers.specs.meaning.Lists.{any}
 use Rattle.queries.specs.meaning.Live.{isLive, live, nodeAt, containsNode}
@@ -25,10 +26,10 @@ use Rattle.items.specs.meaning.Unbind.{unbind}
 use Rattle.items.specs.meaning.Lower.{bare, deleteNode}
 use Rattle.resolving.specs.machine.Lowers.{Lowers, LowersAt}
 use Rattle.resolving.specs.machine.Leading.{hasText, FirstWith}
-use Rattle.items.specs.machine.Unbinding.{at-named, at-given, UnbindsAll}
-use Rattle.items.specs.machine.Deleting.{DeletesAt}
+use Rattle.items.specs.machine.Unbinding.{at-named, at-there, at-given, UnbindsAll}
+use Rattle.items.specs.machine.Deleting.{DeletesAt, DeletesThere}
 use Rattle.resolving.specs.declared.resolve.Found.{Found}
-use Rattle.items.specs.declared.unbind.Base.the-variants.{Named, Given}
+use Rattle.items.specs.declared.unbind.Base.the-variants.{Named, There, Given}
 use Rattle.resolving.proofs.Lowers.{Grows, define-grows, stays-over}
 
 -- counts never fall
@@ -122,4 +123,22 @@ deletes-at {path} span {f} {d = d} {e} {w = w} {b} {v} {u} x m g =
           subst (λ (q : List ℕ). Represents k e v u (define (bare q deletedNode (meant span)) (unbind path s)))
           (def-path (y .0) (y .1) (at .before) (at .after) (f .number) (at .chain) ∙ at .has)
           (g .steps k (unbind path s) (y .0) (y .1));
+    }
+
+-- by a definition of it, whose path stands at a place while bindings go
+pub deletes-there : (r : ℕ) (span : LogSpan) {place : PathAt} {name unit : List ℕ} {c d e : LowerCtx} {words bytes w b v u : List ℕ}
+    → place ≡ placedIn words r 2 → UnbindsAll (There place) name unit c d words bytes w b
+    → Steps d e w b v u (define (bareDef D.DeletedNode span span (pathIn (d .bytes) b place)))
+    → DeletesThere r (meant span) c e words bytes v u
+unfolding deleteNode
+deletes-there r span {place} {c = c} {e = e} {words} {bytes} {v = v} {u} q x f =
+    record {
+      deletes = λ k s h n i.
+          let p = firstText words bytes r in
+          let k' = withPlace (record { at = place; path = p }) k in
+          let h' : Represents k' c words bytes s = rw q (def-place h (i .before) (i .after) r (i .chain)) in
+          let y = x .unbinds k' s p h' n (at-there place k refl) in
+          forget-place (subst (λ (z : List ℕ). Represents k' e v u (define (bare z deletedNode (meant span)) (unbind p s)))
+          (place-reads (y .0) (y .1))
+          (f .steps k' (unbind p s) (y .0) (y .1)));
     }

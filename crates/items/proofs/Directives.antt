@@ -39,7 +39,7 @@ use Rattle.input.specs.machine.NameRead.{nameText, isThere, fullRead, FullNameR
 use Rattle.input.specs.machine.PhandleRead.{labelAt, pathAt, phandleRead}
 use Rattle.input.specs.meaning.GoodName.{goodNamesIn}
 use Rattle.resolving.specs.machine.Leading.{resolution, boundBy, Leads, ReportsMissing}
-use Rattle.items.specs.machine.Deleting.{DeletesAt, DeletesBound}
+use Rattle.items.specs.machine.Deleting.{DeletesAt, DeletesThere, DeletesBound}
 use Rattle.input.specs.declared.name.NameOrMacro.the-variants as N
 use Rattle.input.specs.declared.name.FullName.{FullName}
 use Rattle.input.specs.declared.phandle.PhandleRead.{PhandleRead}
@@ -124,6 +124,12 @@ module _ (t : Target) (rec : Tree) (span : Span) (c : LowerCtx) {out bytes l p :
               (x .deletes k s h n (ap (containsNode p) (sym (represents-defs h n)) ∙ i .alive q));
         }
 
+    pub target-there : {d : LowerCtx} {w b : List ℕ} (r : ℕ) → v ≡ R.Node r → DeletesThere r span c d out bytes w b
+        → Deletes t rec span c d out bytes w b
+    unfolding resolution
+    target-there r q x =
+        record { lowers = λ k s h. rw (resolved h ∙ ap (resolution out bytes l p) q) (x .deletes k s h n (i .named r q)) }
+
     target-missing : {d : LowerCtx} {w b : List ℕ} (code : ℕ) (text : List ℕ) → resolution out bytes l p v ≡ missing code text → {at : Span}
         → at ≡ spanOf rec → ReportsMissing v l p at c d out bytes w b → Deletes t rec span c d out bytes w b
     target-missing code text q m x =
@@ -134,13 +140,13 @@ module _ (t : Target) (rec : Tree) (span : Span) (c : LowerCtx) {out bytes l p :
       unfolding resolution
       target-label q = target-missing 3 l (ap (resolution out bytes l p) q) m x
 
-      pub target-node : v ≡ R.NoNode → Deletes t rec span c d out bytes w b
+      pub target-node : (code : ℕ) → v ≡ R.NoNode code → Deletes t rec span c d out bytes w b
       unfolding resolution
-      target-node q = target-missing 4 p (ap (resolution out bytes l p) q) m x
+      target-node code q = target-missing code p (ap (resolution out bytes l p) q) m x
 
-      pub target-nowhere : (r : ℕ) → v ≡ R.NoNodeBelow r → Deletes t rec span c d out bytes w b
+      pub target-nowhere : (code r : ℕ) → v ≡ R.NoNodeBelow code r → Deletes t rec span c d out bytes w b
       unfolding resolution
-      target-nowhere r q = target-missing 4 (joined (secondText out bytes r) p []) (ap (resolution out bytes l p) q) m x
+      target-nowhere code r q = target-missing code (joined (secondText out bytes r) p []) (ap (resolution out bytes l p) q) m x
 
 -- what a reference was read as
 module _ (words text : List ℕ) (r : ℕ) (read : PhandleRead) (span : Span) {c d : LowerCtx} {out bytes w b : List ℕ} where

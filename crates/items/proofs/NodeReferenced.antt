@@ -15,13 +15,13 @@ use Rattle.making.specs.declared.recs.DefKind.{DefKind}
 use Rattle.log.specs.declared.parts.TargetKind.{TargetKind}
 use Rattle.log.specs.meaning.Contents.{Span, node, Def, Binding}
 use Rattle.making.specs.machine.PathPlaces.{pathIn, placedIn}
-use Rattle.log.specs.meaning.Record.{secondText}
+use Rattle.log.specs.meaning.Record.{firstText, secondText}
 use Rattle.log.specs.meaning.ReadBack.{readBindings, readDefs}
 use Rattle.making.specs.machine.Recs.{bareValue, bareDef}
 use Rattle.log.specs.machine.Parts.{meant, targetMade}
 use Rattle.making.specs.meaning.State.{State, define, emit}
 use Rattle.making.specs.machine.Represents.{Context, withPlace, Represents, Steps}
-use Rattle.making.proofs.InHand.{represents-defs, represents-bindings, binding-path}
+use Rattle.making.proofs.InHand.{represents-defs, represents-bindings, binding-path, def-path}
 use Rattle.queries.specs.meaning.Kind.{setsOverlay}
 use Rattle.input.specs.meaning.Tree.{Tree, Trees, has, omitKind}
 use Rattle.input.specs.meaning.Report.{Got}
@@ -63,9 +63,10 @@ module _ (words bytes l path : List ℕ) where
   leads-to (R.Bound r) e = (secondText words bytes r, refl)
   leads-to (R.BoundPath r) e = (joined (secondText words bytes r) path [], refl)
   leads-to R.AtPath e = (path, refl)
+  leads-to (R.Node r) e = (firstText words bytes r, refl)
   leads-to R.NoLabel e = absurd (not-both e refl)
-  leads-to R.NoNode e = absurd (not-both e refl)
-  leads-to (R.NoNodeBelow r) e = absurd (not-both e refl)
+  leads-to (R.NoNode code) e = absurd (not-both e refl)
+  leads-to (R.NoNodeBelow code r) e = absurd (not-both e refl)
 
   pub leads-nowhere : (v : Resolved) → leadsOn v ≡ false → (code : ℕ) × (text : List ℕ)
       × (resolution words bytes l path v ≡ missing code text)
@@ -73,9 +74,10 @@ module _ (words bytes l path : List ℕ) where
   leads-nowhere (R.Bound r) e = absurd (not-both {t = true} refl e)
   leads-nowhere (R.BoundPath r) e = absurd (not-both {t = true} refl e)
   leads-nowhere R.AtPath e = absurd (not-both {t = true} refl e)
+  leads-nowhere (R.Node r) e = absurd (not-both {t = true} refl e)
   leads-nowhere R.NoLabel e = (3, l, refl)
-  leads-nowhere R.NoNode e = (4, path, refl)
-  leads-nowhere (R.NoNodeBelow r) e = (4, joined (secondText words bytes r) path [], refl)
+  leads-nowhere (R.NoNode code) e = (code, path, refl)
+  leads-nowhere (R.NoNodeBelow code r) e = (code, joined (secondText words bytes r) path [], refl)
 
 -- the definition there
 module _ {c d : LowerCtx} {words bytes w b : List ℕ} {parts : Trees} (v : Resolved) (l path : List ℕ) (kind : DefKind)
@@ -111,6 +113,14 @@ module _ {c d : LowerCtx} {words bytes w b : List ℕ} {parts : Trees} (v : Reso
   pub defines-path : v ≡ R.AtPath → q ≡ path → DefinesLeading v l path c d words bytes w b parts found
   unfolding resolution
   defines-path e g = defines-at (λ k s p r z i h. g ∙ same-path (rw e at h))
+
+  pub defines-named : (n : ℕ) → v ≡ R.Node n → q ≡ pathIn (c .bytes) bytes (placedIn words n 2)
+      → DefinesLeading v l path c d words bytes w b parts found
+  unfolding resolution
+  defines-named n e g =
+      defines-at (λ k s p r z i h.
+      let x = i .named n e in
+      g ∙ def-path r z (x .before) (x .after) n (x .chain) ∙ same-path (rw e at h))
 
 -- none where it leads nowhere
 pub defines-none : {c d : LowerCtx} {words bytes w b : List ℕ} {parts : Trees} {span : Span} (v : Resolved) (l path : List ℕ)

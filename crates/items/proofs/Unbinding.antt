@@ -28,9 +28,9 @@ use Rattle.queries.specs.machine.Pass.{goesOn}
 use Rattle.queries.proofs.Chain.{goes, stops, goes-left}
 use Rattle.items.specs.meaning.Unbind.{bindsLabelOf, without, unbind}
 use Rattle.items.specs.machine.Unbinding.{baseOf, goesWith, passesAt, withBinds, Passes, takes, leaves, Stays, passed, ahead, BaseAt}
-use Rattle.items.specs.machine.Unbinding.{at-named, at-given, at-bound, at-below, Walk}
+use Rattle.items.specs.machine.Unbinding.{at-named, at-there, at-given, at-bound, at-below, Walk}
 use Rattle.items.specs.declared.unbind.Base.{Base}
-use Rattle.items.specs.declared.unbind.Base.the-variants.{Named, Given, Bound, BoundPath}
+use Rattle.items.specs.declared.unbind.Base.the-variants.{Named, There, Given, Bound, BoundPath}
 use Rattle.resolving.proofs.Leading.{last-snoc, any-append}
 
 -- lists: two that are equal in two parts, the first of which are as long
@@ -160,6 +160,7 @@ base-reads : {k : Context} {w b name unit : List ℕ} {stops : Bool} {label ns m
 unfolding baseOf
 base-reads {w = w} {b} {name} {unit} {d = d} {t} (at-named place parent k e q) h n =
     ap (λ (x : List ℕ). joined x name unit) (place-reads (subst (λ (y : Context). Represents y d w b t) e h) n) ∙ sym q
+base-reads {w = w} {b} {d = d} {t} (at-there place k e) h n = place-reads (subst (λ (y : Context). Represents y d w b t) e h) n
 base-reads (at-given q) h n = sym q
 base-reads (at-bound r m q) h n = sym q
 base-reads (at-below r m q) h n = sym q
@@ -205,6 +206,7 @@ module _ {k : Context} {w b name unit : List ℕ} {stops : Bool} {label : List �
   base-passed : {base : Base} → BaseAt k w b name unit stops label ns (x ∷ ms) p base
       → BaseAt k w b name unit stops label (ns ++ x ∷ []) ms p base
   base-passed (at-named place parent k' e q) = at-named place parent k' e q
+  base-passed (at-there place k' e) = at-there place k' e
   base-passed (at-given q) = at-given q
   base-passed (at-bound r m q) = at-bound r (stays-passed w b stops label r x ns ms m) q
   base-passed (at-below r m q) = at-below r (stays-passed w b stops label r x ns ms m) q
@@ -213,6 +215,7 @@ module _ {k : Context} {w b name unit : List ℕ} {stops : Bool} {label : List �
       (agree : map (bindingAt v c) (ns ++ ms) ≡ map (bindingAt w b) (ns ++ ms)) where
     base-taken : {base : Base} → BaseAt k w b name unit stops label ns (x ∷ ms) p base → BaseAt k v c name unit stops label ns ms p base
     base-taken (at-named place parent k' e q) = at-named place parent k' e q
+    base-taken (at-there place k' e) = at-there place k' e
     base-taken (at-given q) = at-given q
     base-taken (at-bound r m q) = at-bound r (stays-taken w b stops label r x ns ms v c other agree m)
         (q ∙ same-path w b stops label r x ns ms v c other agree m)
@@ -450,6 +453,10 @@ module _ (used : ℕ) (words bytes name unit : List ℕ) (base : Base) where
   pub base-named : (p : PathAt) → base ≡ Named p → joined (pathIn used bytes p) name unit ≡ baseOf used words bytes name unit base
   unfolding baseOf
   base-named p e = sym (ap (baseOf used words bytes name unit) e)
+
+  pub base-there : (p : PathAt) → base ≡ There p → pathIn used bytes p ≡ baseOf used words bytes name unit base
+  unfolding baseOf
+  base-there p e = sym (ap (baseOf used words bytes name unit) e)
 
   pub base-given : base ≡ Given → name ≡ baseOf used words bytes name unit base
   unfolding baseOf

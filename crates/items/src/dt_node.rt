@@ -179,9 +179,10 @@ fn leads_on(v: Resolved) -> bool
         Resolved::Bound(_) => true,
         Resolved::BoundPath(_) => true,
         Resolved::AtPath => true,
+        Resolved::Node(_) => true,
         Resolved::NoLabel => false,
-        Resolved::NoNode => false,
-        Resolved::NoNodeBelow(_) => false,
+        Resolved::NoNode(_) => false,
+        Resolved::NoNodeBelow(_, _) => false,
     }
 }
 

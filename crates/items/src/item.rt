@@ -18,7 +18,7 @@ ghost use Rattle.input.specs.meaning.GoodName.{goodNamesIn};
 ghost use Rattle.items.specs.meaning.Lower.{deleteNode, deleteResolved, deleteTarget, deleteReferenced, lowerDeleteNode};
 ghost use Rattle.items.specs.meaning.Lower.{deletePropertyNamed, lowerDirective};
 ghost use Rattle.resolving.specs.machine.Lowers.{Lowers, LowersAt};
-ghost use Rattle.items.specs.machine.Deleting.{DeletesAt, DeletesBound, DefinesBound};
+ghost use Rattle.items.specs.machine.Deleting.{DeletesAt, DeletesThere, DeletesBound, DefinesBound};
 use crate::directive::DELETE_NODE;
 use crate::directive::DELETE_PROPERTY;
 use crate::directive::INCLUDE;
@@ -238,9 +238,10 @@ fn delete_target(
         Resolved::Bound(_) => delete_bound(ctx, out, bytes, false, label, path, span),
         Resolved::BoundPath(_) => delete_bound(ctx, out, bytes, true, label, path, span),
         Resolved::AtPath => delete_at(ctx, out, bytes, path, span),
+        Resolved::Node(n) => delete_there(ctx, out, bytes, n, span),
         Resolved::NoLabel => report_unresolved(ctx, out, bytes, leads, label, path, at),
-        Resolved::NoNode => report_unresolved(ctx, out, bytes, leads, label, path, at),
-        Resolved::NoNodeBelow(_) => report_unresolved(ctx, out, bytes, leads, label, path, at),
+        Resolved::NoNode(_) => report_unresolved(ctx, out, bytes, leads, label, path, at),
+        Resolved::NoNodeBelow(_, _) => report_unresolved(ctx, out, bytes, leads, label, path, at),
     }
 }
 
@@ -290,6 +291,22 @@ fn delete_at(
     let without = unbind_all(ctx, out, bytes, Base::Given, path, path);
     let found = first_with(out, bytes, without.defs.first, path);
     let place = first_place(out, found.number);
+    without.define_at(out, bytes, DefKind::DeletedNode, span, span, place)
+}
+
+// A node deleted by a definition of it.
+fn delete_there(
+    ctx: LowerCtx,
+    out: &mut [u32],
+    bytes: &mut [u8],
+    r: u32,
+    span: log::parts::Span,
+) -> LowerCtx
+    ensures { λ d. ⌜ DeletesThere r (meant span) ctx d (now (out .entry)) (now (bytes .entry)) (now (out .exit)) (now (bytes .exit)) ⌝ }
+{
+    let none: [u8; 0] = [];
+    let place = first_place(out, r);
+    let without = unbind_all(ctx, out, bytes, Base::There(place), &none, &none);
     without.define_at(out, bytes, DefKind::DeletedNode, span, span, place)
 }
 

@@ -34,6 +34,7 @@ use input::record::span_at;
 use input::record::text_at;
 use making::ctx::LowerCtx;
 use making::place::PathAt;
+use making::place::first_place;
 use making::place::second_place;
 use making::recs::DefKind;
 use resolving::resolve::Resolved;
@@ -130,9 +131,13 @@ pub fn define_leading(
             ctx.define(out, bytes, kind, span, name_span, place, path, unit)
         }
         Resolved::AtPath => ctx.define_text(out, bytes, kind, span, name_span, path),
+        Resolved::Node(r) => {
+            let place = first_place(out, r);
+            ctx.define_at(out, bytes, kind, span, name_span, place)
+        }
         Resolved::NoLabel => ctx,
-        Resolved::NoNode => ctx,
-        Resolved::NoNodeBelow(_) => ctx,
+        Resolved::NoNode(_) => ctx,
+        Resolved::NoNodeBelow(_, _) => ctx,
     }
 }
 

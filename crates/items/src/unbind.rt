@@ -21,10 +21,11 @@ use queries::mir::unbinds;
 use queries::mir::unbinds_path;
 use resolving::resolve::first_with;
 
-// The path of a deletion: of a name below a place, the name itself, a binding's path, or of the name
-// below that.
+// The path of a deletion: of a name below a place, that of a place, the name itself, a binding's path, or of
+// the name below that.
 pub enum Base {
     Named(PathAt),
+    There(PathAt),
     Given,
     Bound(u32),
     BoundPath(u32),
@@ -140,6 +141,7 @@ pub fn goes_with(
     let defs = ctx.defs.first;
     match base {
         Base::Named(place) => unbinds_named(ctx, out, bytes, place, name, unit, label, path),
+        Base::There(place) => unbinds_there(ctx, out, bytes, place, label, path),
         Base::Given => unbinds(out, bytes, defs, name, label, path),
         Base::Bound(b) => unbinds(out, bytes, defs, second_text(out, bytes, b), label, path),
         Base::BoundPath(b) => unbinds_path(
@@ -182,6 +184,34 @@ fn unbinds_named(
         place_text(bytes, ctx.bytes, place),
         name,
         unit,
+        label,
+        path,
+    )
+}
+
+// The same where the base is the path of a place.
+fn unbinds_there(
+    ctx: LowerCtx,
+    out: &[u32],
+    bytes: &[u8],
+    place: PathAt,
+    label: &[u8],
+    path: &[u8],
+) -> bool
+    ensures { λ t. ⌜ t ≡ any (hasLabelAt (now (label .entry)) (now (path .entry)))
+        (live (pathIn (ctx .bytes) (now (bytes .entry)) place)
+        (readDefs (now (out .entry)) (now (bytes .entry)) (ctx .defs .first))) ⌝ }
+{
+    let defs = ctx.defs.first;
+    if place.root {
+        let root = [b'/'];
+        return unbinds(out, bytes, defs, &root, label, path);
+    }
+    unbinds(
+        out,
+        bytes,
+        defs,
+        place_text(bytes, ctx.bytes, place),
         label,
         path,
     )

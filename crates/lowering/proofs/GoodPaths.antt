@@ -16,7 +16,9 @@ use Rattle.making.specs.meaning.State.{State}
 use Rattle.log.specs.machine.Good.{all, pathFits, goodDef, goodBinding}
 use Rattle.queries.specs.meaning.Kind.{isNode}
 use Rattle.queries.specs.meaning.Live.{live, nodeAt, containsNode}
-use Rattle.resolving.specs.meaning.Resolve.{firstBinding, Resolution, reaches, missing, liveAt, byLabel, belowLabel, resolve}
+use Rattle.queries.specs.meaning.Lookup.{LookedUp, found, noNode, several, lookup}
+use Rattle.queries.proofs.LookedUp.{found-live}
+use Rattle.resolving.specs.meaning.Resolve.{firstBinding, Resolution, reaches, missing, byLookup, liveAt, byLabel, belowLabel, resolve}
 use Rattle.input.proofs.GoodNames.{never, Plain, join-filled}
 use Rattle.lowering.proofs.GoodLists.{all-found}
 use Rattle.lowering.proofs.GoodState.{GoodState, def-parts, binding-parts, live-good}
@@ -79,7 +81,12 @@ goodResolution (missing code text) = true
 
 module _ {s : State} (g : GoodState s) where
   live-resolution : (p : List ℕ) → goodResolution (liveAt p (s .defs)) ≡ true
-  live-resolution p = by-test (containsNode p (s .defs)) (λ e. rw e (contained-path p (s .defs) (g .defs) e)) (λ e. rw e refl)
+  live-resolution p = go (lookup p (s .defs)) refl
+    where
+      go : (o : LookedUp) → lookup p (s .defs) ≡ o → goodResolution (byLookup p o) ≡ true
+      go (found q) e = contained-path q (s .defs) (g .defs) (found-live p (s .defs) q e)
+      go noNode e = refl
+      go several e = refl
 
   label-resolution : (l : List ℕ) (o : Option (List ℕ)) → firstBinding l (s .binds) ≡ o → goodResolution (byLabel l o) ≡ true
   label-resolution l (some p) e = binding-path l (s .binds) p (g .binds) e

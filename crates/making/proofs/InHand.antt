@@ -24,7 +24,7 @@ use Rattle.making.specs.machine.Represents.{more-places, Represents, goi
 use Rattle.making.proofs.ReadEvents.{numbersOf}
 use Rattle.making.proofs.ReadLog.{chain-of, defs-read, bindings-read}
 use Rattle.making.proofs.Removing.{starts, end-above}
-use Rattle.making.proofs.Paths.{placeOf, path-read, path-first}
+use Rattle.making.proofs.Paths.{placeOf, path-read, text-first, path-first}
 use Rattle.making.proofs.Cuts.{cut, last-of}
 use Rattle.making.proofs.Represented.{common-as}
 
@@ -89,6 +89,14 @@ root-read : (used : ℕ) (bytes : List ℕ) (p : PathAt) → p .root ≡ true �
 unfolding pathOf settled
 root-read used bytes p t = by-test (stands used bytes p) (λ a. rw (a, t) refl) (λ a. rw (a, t) refl)
 
+-- the place of a definition's text
+placed : {start size : ℕ} (es xs : List Event) (e : Event) (ys : List Event) (j : ℕ) (text path : List ℕ) → e .text ≡ text
+    → es ≡ xs ++ e ∷ ys → e .alive ≡ true → e .chain ≡ defsOf j → start ≡ startOf (endOf 0 xs) text → size ≡ length text → path ≡ text
+    → Stands es (record { at = placeOf start size; path = path })
+unfolding isEmpty
+placed es xs e ys j [] path z q t i x y p = at-top refl x y p
+placed es xs e ys j (v ∷ text) path z q t i x y p = at-definition xs e ys j q t i refl x (y ∙ ap length (sym z)) (p ∙ sym z)
+
 -- of the log in hand
 module _ {k : Context} {c : LowerCtx} {words bytes : List ℕ} {s : State} where
   pub represents-defs : Represents k c words bytes s → c .short ≡ false → readDefs words bytes (c .defs .first) ≡ s .defs
@@ -135,6 +143,25 @@ module _ {k : Context} {c : LowerCtx} {words bytes : List ℕ} {s : State} where
       → Represents (withPlace p k) c words bytes s
   top-place p a b d e h = gain-place p (λ es l o. at-top a b d e) h
 
+  -- of a definition's path
+  pub def-place : Represents k c words bytes s → (ns ms : List ℕ) (r : ℕ) → chainOf words (c .defs .first) ≡ ns ++ r ∷ ms
+      → Represents (withPlace (record { at = placeOf (textStart words r) (textLength words r); path = firstText words bytes r }) k) c words
+      bytes s
+  def-place h ns ms r q =
+      gain-place (record { at = placeOf (textStart words r) (textLength words r); path = firstText words bytes r })
+      (λ es l o.
+      let j = logOf (k .waiting) in
+      let t = cut (defsOf j) 1 es ns r ms (sym (chain-reads l (defsOf j)) ∙ rw (o .defsRun .firstIs) at q) in
+      let in₀ = both (t .event .alive) _ (t .within) in
+      let here : Layout words bytes (c .records) (c .bytes) (t .xs ++ t .event ∷ t .ys) = subst
+      (λ (v : List Event). Layout words bytes (c .records) (c .bytes) v) (t .is) l in
+      let at = starts (t .xs) (t .event) (t .ys) here (in₀ .0) in
+      let a = ap (textStart words) (t .number) ∙ at .0 in
+      let b = ap (textLength words) (t .number) ∙ at .1 in
+      placed es (t .xs) (t .event) (t .ys) j (t .event .text) (firstText words bytes r) refl (t .is) (in₀ .0) (eqb-true _ _ (in₀ .1)) a b
+      (rw (a, b) (text-first (t .xs) (t .event) (t .ys) here (in₀ .0))))
+      h
+
   -- a place less
   pub forget-place : {p : Place} → Represents (withPlace p k) c words bytes s → Represents k c words bytes s
   forget-place (over h m) = over h m
@@ -167,19 +194,13 @@ module _ {k : Context} {c : LowerCtx} {words bytes : List ℕ} {s : State} where
 -- the newest definition's path
 pub newest : (c : LowerCtx) (words : List ℕ) (start size : ℕ) → start ≡ outField words (c .defs .last) 2
     → size ≡ outField words (c .defs .last) 3 → Newest c words (placeOf start size)
-unfolding defsIn defOf isEmpty
+unfolding defsIn defOf
 newest c words start size a b =
     record {
       stands = λ k bytes s ds d h n q. gain-place (record { at = placeOf start size; path = d .path })
           (λ es l o. found k bytes s ds d es l o q) h;
     }
   where
-    placed : (es xs : List Event) (e : Event) (ys : List Event) (j : ℕ) (text path : List ℕ) → e .text ≡ text → es ≡ xs ++ e ∷ ys
-        → e .alive ≡ true → e .chain ≡ defsOf j
-        → start ≡ startOf (endOf 0 xs) text → size ≡ length text → path ≡ text → Stands es (record { at = placeOf start size; path = path })
-    placed es xs e ys j [] path z q t i x y p = at-top refl x y p
-    placed es xs e ys j (v ∷ text) path z q t i x y p = at-definition xs e ys j q t i refl x (y ∙ ap length (sym z)) (p ∙ sym z)
-
     found : (k : Context) (bytes : List ℕ) (s : State) (ds : List Def) (d : Def) (es : List Event)
         → Layout words bytes (c .records) (c .bytes) es → Open (k .waiting) c es s
         → s .defs ≡ ds ++ d ∷ [] → Stands es (record { at = placeOf start size; path = d .path })

@@ -36,11 +36,16 @@ from-start bytes at (a ∷ text) e = e
 
 module _ {words bytes : List ℕ} {records used : ℕ} (xs : List Event) (e : Event) (ys : List Event)
     (l : Layout words bytes records used (xs ++ e ∷ ys)) (alive : e .alive ≡ true) where
-  -- the first text of a record, where those before it end
+  -- the first text of a record
+  pub text-first : textIn bytes (startOf (endOf 0 xs) (e .text)) (length (e .text)) ≡ e .text
+  text-first =
+      ap (λ (b : List ℕ). textIn b (startOf (endOf 0 xs) (e .text)) (length (e .text))) (l .bytesAre)
+      ∙ text-at (xs ++ e ∷ ys) (length bytes - endOf 0 (xs ++ e ∷ ys)) (splits-of 1 0 xs e ys) alive
+
+  -- the same where those before it end
   pub path-first : pathIn used bytes (placeOf (endOf 0 xs) (length (e .text))) ≡ e .text
   path-first =
       let h = end-above 0 xs e ys in
       path-read bytes used (endOf 0 xs) (length (e .text)) (e .text)
-      (ap (λ (b : List ℕ). textIn b (endOf 0 xs) (length (e .text))) (l .bytesAre)
-      ∙ from-start _ (endOf 0 xs) (e .text) (text-at (xs ++ e ∷ ys) (length bytes - endOf 0 (xs ++ e ∷ ys)) (splits-of 1 0 xs e ys) alive))
+      (from-start bytes (endOf 0 xs) (e .text) text-first)
       (omega (arith, l .usedAre)) (omega (arith, l .bytesFit))

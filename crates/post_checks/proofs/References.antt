@@ -220,19 +220,19 @@ module _ {c : LowerCtx} {words bytes : List ℕ} (r : ℕ) (span : declared.Span
     unfolding said resolution
     target-label at q p t = rw (← e, q) (reports-as (reports-one h t) (λ k s rep z a. rw (p, label-read rep z (all-first a)) refl))
 
-    pub target-node : (at : PathAt) → v ≡ R.NoNode → at ≡ placedIn words r 4
-        → Steps c d words bytes w b (emit (diagMade 4 (pathIn (c .bytes) bytes at) span noSpan ∷ []))
+    pub target-node : (code : ℕ) (at : PathAt) → v ≡ R.NoNode code → at ≡ placedIn words r 4
+        → Steps c d words bytes w b (emit (diagMade code (pathIn (c .bytes) bytes at) span noSpan ∷ []))
         → Reports c d words bytes w b (r ∷ []) (onTarget c words bytes span r)
     unfolding said resolution
-    target-node at q p t = rw (← e, q) (reports-as (reports-one h t) (λ k s rep z a. rw (p, second-place rep z (all-first a)) refl))
+    target-node code at q p t = rw (← e, q) (reports-as (reports-one h t) (λ k s rep z a. rw (p, second-place rep z (all-first a)) refl))
 
-    pub target-below : (x : ℕ) (base at : PathAt) → v ≡ R.NoNodeBelow x → base ≡ placedIn words x 4 → at ≡ placedIn words r 4
+    pub target-below : (code x : ℕ) (base at : PathAt) → v ≡ R.NoNodeBelow code x → base ≡ placedIn words x 4 → at ≡ placedIn words r 4
         → Leads words bytes (c .binds .first) (c .defs .first) (targetLabel words bytes r) (secondText words bytes r) v
-        → Steps c d words bytes w b (emit (diagMade 4 (joined (pathIn (c .bytes) bytes base) (pathIn (c .bytes) bytes at) []) span noSpan
+        → Steps c d words bytes w b (emit (diagMade code (joined (pathIn (c .bytes) bytes base) (pathIn (c .bytes) bytes at) []) span noSpan
         ∷ []))
         → Reports c d words bytes w b (r ∷ []) (onTarget c words bytes span r)
     unfolding said resolution
-    target-below x base at q f p i t =
+    target-below code x base at q f p i t =
         rw (← e, q)
         (reports-as (reports-one h t)
         (λ k s rep z a. rw (f, p, second-place rep z (all-first a), below-text x (secondText words bytes r) rep z (rw q at i)) refl))
@@ -248,6 +248,10 @@ module _ {c : LowerCtx} {words bytes : List ℕ} (r : ℕ) (span : declared.Span
   pub target-there : v ≡ R.AtPath → Reports c c words bytes words bytes (r ∷ []) (onTarget c words bytes span r)
   unfolding said resolution
   target-there q = rw (← e, q) (reports-none c words bytes (r ∷ []))
+
+  pub target-named : (x : ℕ) → v ≡ R.Node x → Reports c c words bytes words bytes (r ∷ []) (onTarget c words bytes span r)
+  unfolding said resolution
+  target-named x q = rw (← e, q) (reports-none c words bytes (r ∷ []))
 
 -- the reports on a cell, a value and a definition, by their kinds
 module _ (c : LowerCtx) (words bytes : List ℕ) (s : State) (span : Span) (r n : ℕ) (e : n ≡ kindOf words r) where

@@ -34,7 +34,6 @@ use making::place::PathAt;
 use making::place::first_place;
 use making::place::second_place;
 use paths_numbers::codes::LABEL_NOT_FOUND;
-use paths_numbers::codes::NODE_NOT_FOUND;
 use queries::definition::goes_on;
 use queries::live::live_list;
 use queries::mir::sets_overlay_in;
@@ -191,13 +190,14 @@ fn check_phandle(out: &mut [u32], bytes: &mut [u8], ctx: LowerCtx, span: Span, r
     let path = second_place(out, r);
     match resolve_target(out, bytes, ctx.binds.first, ctx.defs.first, r) {
         Resolved::NoLabel => ctx.emit_copied(out, bytes, LABEL_NOT_FOUND, span, none, label),
-        Resolved::NoNode => ctx.emit_copied(out, bytes, NODE_NOT_FOUND, span, none, path),
-        Resolved::NoNodeBelow(b) => {
-            ctx.emit_joined_at(out, bytes, NODE_NOT_FOUND, span, second_place(out, b), path)
+        Resolved::NoNode(code) => ctx.emit_copied(out, bytes, code, span, none, path),
+        Resolved::NoNodeBelow(code, b) => {
+            ctx.emit_joined_at(out, bytes, code, span, second_place(out, b), path)
         }
         Resolved::Bound(_) => ctx,
         Resolved::BoundPath(_) => ctx,
         Resolved::AtPath => ctx,
+        Resolved::Node(_) => ctx,
     }
 }
 

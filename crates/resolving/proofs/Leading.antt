@@ -8,6 +8,7 @@ use native.Mathlib.Omega.{arith}
 use borrow.Author.Tests.{eqb-true, eqb-false}
 use lib.Dec.{eqb}
 use lib.Seq.{append-snoc}
+use Rattle.paths_numbers.specs.meaning.Code.{nodeNotFound, nodeAmbiguous}
 use Rattle.paths_numbers.specs.meaning.Text.{isEmpty}
 use Rattle.paths_numbers.specs.meaning.Path.{join, joined, withUnit}
 use Rattle.paths_numbers.proofs.Texts.{by-test, not-both, same-true, same-refl}
@@ -19,13 +20,20 @@ use Rattle.paths_numbers.specs.meaning.Lists.{any}
 use Rattle.paths_numbers.proofs.Lists.{any-append as any-both, any-head, any-back}
 use Rattle.queries.specs.machine.Pass.{goesOn}
 use Rattle.queries.specs.meaning.Live.{containsNode}
+use Rattle.queries.specs.meaning.Lookup.{lookup}
+use Rattle.queries.specs.machine.Looked.{lookedUp, AnswersLookup}
+use Rattle.queries.specs.declared.lookup.Lookup.{Lookup}
+use Rattle.queries.specs.declared.lookup.Lookup.the-variants as L
 use Rattle.queries.proofs.Chain.{goes, stops}
+use Rattle.queries.proofs.LookedUp.{found-live}
 use Rattle.paths_numbers.specs.meaning.Reference.{Target, label, labelPath, path}
-use Rattle.resolving.specs.meaning.Resolve.{firstBinding, byLabel, belowLabel, liveAt, resolve, reaches, missing}
+use Rattle.resolving.specs.meaning.Resolve.{firstBinding, byLookup, byLabel, belowLabel, liveAt, resolve, reaches}
+use Rattle.resolving.specs.meaning.Resolve.{missing}
 use Rattle.input.specs.machine.PhandleRead.{labelAt, pathAt, phandleRead}
 use Rattle.input.specs.declared.phandle.PhandleRead.{PhandleRead}
 use Rattle.input.specs.declared.phandle.PhandleRead.the-variants as P
-use Rattle.resolving.specs.machine.Leading.{hasText, FirstAt, FirstWith, resolution, InChain, boundBy, Leads, ReportsMissing}
+use Rattle.resolving.specs.machine.Leading.{hasText, FirstAt, FirstWith, resolution, InChain, boundBy, Leads}
+use Rattle.resolving.specs.machine.Leading.{AnswersBelow, AnswersPath, ReportsMissing}
 use Rattle.making.specs.machine.PathPlaces.{placedIn, pathIn}
 use Rattle.making.specs.declared.ctx.LowerCtx.{LowerCtx}
 use Rattle.making.specs.declared.place.PathAt.{PathAt}
@@ -188,6 +196,35 @@ pub joined-plain : (parent name : List ℕ) → joined parent name [] ≡ join p
 unfolding joined withUnit isEmpty
 joined-plain parent name = refl
 
+-- where a reference leads by the look-up of its own path, and of the path below binding n's
+abbrev pub pathLed : Lookup → Resolved
+pathLed L.Exact = R.AtPath
+pathLed L.NoNode = R.NoNode nodeNotFound
+pathLed (L.Node r) = R.Node r
+pathLed L.Several = R.NoNode nodeAmbiguous
+
+abbrev pub belowLed : ℕ → Lookup → Resolved
+belowLed n L.Exact = R.BoundPath n
+belowLed n L.NoNode = R.NoNodeBelow nodeNotFound n
+belowLed n (L.Node r) = R.Node r
+belowLed n L.Several = R.NoNodeBelow nodeAmbiguous n
+
+module _ (words bytes l p : List ℕ) where
+  path-led : (v : Lookup) → resolution words bytes l p (pathLed v) ≡ byLookup p (lookedUp words bytes p v)
+  unfolding resolution
+  path-led L.Exact = refl
+  path-led L.NoNode = refl
+  path-led (L.Node r) = refl
+  path-led L.Several = refl
+
+  below-led : (n : ℕ) (v : Lookup) → resolution words bytes l p (belowLed n v) ≡ byLookup (joined (secondText words bytes n) p [])
+      (lookedUp words bytes (joined (secondText words bytes n) p []) v)
+  unfolding resolution
+  below-led n L.Exact = refl
+  below-led n L.NoNode = refl
+  below-led n (L.Node r) = refl
+  below-led n L.Several = refl
+
 -- where a reference leads
 module _ (words bytes : List ℕ) {first : ℕ} (l p : List ℕ) {f : Found} (w : FirstWith words bytes first l f) where
   pub leads-label : (f .number ≡ 0 → ⊥) → resolution words bytes l p (R.Bound (f .number)) ≡ byLabel l
@@ -205,29 +242,18 @@ module _ (words bytes : List ℕ) {first : ℕ} (l p : List ℕ) {f : Found} (w 
     unfolding resolution
     no-label-below e = rw (label-missing words bytes l w e) refl
 
-    module _ (n : f .number ≡ 0 → ⊥) where
-      pub leads-below : containsNode (joined (secondText words bytes (f .number)) p []) defs ≡ true
-          → resolution words bytes l p (R.BoundPath (f .number)) ≡ belowLabel l p (firstBinding l (readBindings words bytes first)) defs
-      unfolding resolution
-      leads-below h =
-          let j = joined-plain (secondText words bytes (f .number)) p in
-          rw (label-there words bytes l w n, ← j, h) refl
+    leads-below : (n : f .number ≡ 0 → ⊥) (v : Lookup)
+        → lookedUp words bytes (joined (secondText words bytes (f .number)) p []) v
+        ≡ lookup (joined (secondText words bytes (f .number)) p []) defs
+        → resolution words bytes l p (belowLed (f .number) v) ≡ belowLabel l p (firstBinding l (readBindings words bytes first)) defs
+    leads-below n v e =
+        let j = joined-plain (secondText words bytes (f .number)) p in
+        below-led words bytes l p (f .number) v ∙ ap (byLookup (joined (secondText words bytes (f .number)) p [])) e
+        ∙ rw (label-there words bytes l w n, ← j) refl
 
-      pub no-node-below : containsNode (joined (secondText words bytes (f .number)) p []) defs ≡ false
-          → resolution words bytes l p (R.NoNodeBelow (f .number)) ≡ belowLabel l p (firstBinding l (readBindings words bytes first)) defs
-      unfolding resolution
-      no-node-below h =
-          let j = joined-plain (secondText words bytes (f .number)) p in
-          rw (label-there words bytes l w n, ← j, h) refl
-
-module _ (words bytes l p : List ℕ) (defs : List Def) where
-  pub leads-path : containsNode p defs ≡ true → resolution words bytes l p R.AtPath ≡ liveAt p defs
-  unfolding resolution
-  leads-path h = rw h refl
-
-  pub no-node : containsNode p defs ≡ false → resolution words bytes l p R.NoNode ≡ liveAt p defs
-  unfolding resolution
-  no-node h = rw h refl
+leads-path : (words bytes l p : List ℕ) (defs : List Def) (v : Lookup) → lookedUp words bytes p v ≡ lookup p defs
+    → resolution words bytes l p (pathLed v) ≡ liveAt p defs
+leads-path words bytes l p defs v e = path-led words bytes l p v ∙ ap (byLookup p) e
 
 -- a reference by what it was read as
 module _ (words text : List ℕ) (r : ℕ) (k : PhandleRead) (t : Target) (e : phandleRead words text r k .result ≡ some t) where
@@ -264,30 +290,87 @@ pub bound-there : {words bytes : List ℕ} {first : ℕ} {t : List ℕ} {f : Fou
     → InChain words first (f .number)
 bound-there w n = let x = w .there n in record { before = x .before; after = x .after; chain = x .chain }
 
-module _ {words bytes : List ℕ} {binds defs : ℕ} {l p : List ℕ} (v : Resolved) where
-  pub bound-in : {f : Found} → FirstWith words bytes binds l f → (f .number ≡ 0 → ⊥) → boundBy v ≡ some (f .number)
+-- a definition that was found is one of the log's
+number-in : (r : ℕ) (ns : List ℕ) → any (eqb r) ns ≡ true → (before : List ℕ) × (after : List ℕ) × (ns ≡ before ++ r ∷ after)
+unfolding any
+number-in r [] h = absurd (not-both {t = false} h refl)
+number-in r (n ∷ ns) h =
+    by-test (eqb r n)
+    (λ q. ([], ns, ap (λ (m : ℕ). m ∷ ns) (sym (eqb-true r n q))))
+    (λ q. let i = number-in r ns (rw q at h) in (n ∷ i .0, i .1, ap (λ (m : List ℕ). n ∷ m) (i .2)))
+
+node-there : (words : List ℕ) (first r : ℕ) → any (eqb r) (chainOf words first) ≡ true → InChain words first r
+node-there words first r h = let i = number-in r (chainOf words first) h in record { before = i .0; after = i .1; chain = i .2 }
+
+module _ {words bytes : List ℕ} {binds defs : ℕ} {l p : List ℕ} where
+  bound-in : (v : Resolved) {f : Found} → FirstWith words bytes binds l f → (f .number ≡ 0 → ⊥) → boundBy v ≡ some (f .number)
       → Leads words bytes binds defs l p v
-  bound-in {f} w z e =
+  bound-in v {f} w z e =
       record {
         there = λ r q. let i : f .number ≡ r = cc in rw (← i) (bound-there w z);
         first = λ r q. let i : f .number ≡ r = cc in rw (← i) (label-there words bytes l w z);
         alive = λ q. let i : none ≡ some (f .number) = sym (ap boundBy q) ∙ e in let x : _≡_ {A = ℕ} 0 1 = cc in absurd (omega arith);
+        named = λ r q. let i : none ≡ some (f .number) = sym (ap boundBy q) ∙ e in let x : _≡_ {A = ℕ} 0 1 = cc in absurd (omega arith);
       }
 
-  pub none-in : boundBy v ≡ none → (v ≡ R.AtPath → containsNode p (readDefs words bytes defs) ≡ true) → Leads words bytes binds defs l p v
-  none-in e a =
+  none-in : (v : Resolved) → boundBy v ≡ none → (v ≡ R.AtPath → containsNode p (readDefs words bytes defs) ≡ true)
+      → ((r : ℕ) → v ≡ R.Node r → InChain words defs r) → Leads words bytes binds defs l p v
+  none-in v e a n =
       record {
         there = λ r q. let z : _≡_ {A = ℕ} 0 1 = cc in absurd (omega arith);
         first = λ r q. let z : _≡_ {A = ℕ} 0 1 = cc in absurd (omega arith);
         alive = a;
+        named = n;
       }
 
--- one that leads nowhere by its label
-pub never-at : {A : Type 0} → R.NoLabel ≡ R.AtPath → A
-never-at q = let z : _≡_ {A = ℕ} 0 1 = cc in absurd (omega arith)
+  -- by the label's binding, and nowhere for its label
+  pub label-in : {f : Found} → FirstWith words bytes binds l f → (f .number ≡ 0 → ⊥)
+      → Leads words bytes binds defs l p (R.Bound (f .number))
+  label-in {f} w z = bound-in (R.Bound (f .number)) w z refl
 
-pub never-there : {A : Type 0} → R.NoNode ≡ R.AtPath → A
-never-there q = let z : _≡_ {A = ℕ} 0 1 = cc in absurd (omega arith)
+  pub no-label-in : Leads words bytes binds defs l p R.NoLabel
+  no-label-in =
+      none-in R.NoLabel refl (λ q. let z : _≡_ {A = ℕ} 0 1 = cc in absurd (omega arith))
+      (λ r q. let z : _≡_ {A = ℕ} 0 1 = cc in absurd (omega arith))
+
+  -- by a definition, and nowhere for its path
+  node-in : (n : ℕ) → any (eqb n) (chainOf words defs) ≡ true → Leads words bytes binds defs l p (R.Node n)
+  node-in n h =
+      none-in (R.Node n) refl (λ q. let z : _≡_ {A = ℕ} 0 1 = cc in absurd (omega arith))
+      (λ r q. let i : n ≡ r = cc in rw (← i) (node-there words defs n h))
+
+  no-node-in : (code : ℕ) → Leads words bytes binds defs l p (R.NoNode code)
+  no-node-in code =
+      none-in (R.NoNode code) refl (λ q. let z : _≡_ {A = ℕ} 0 1 = cc in absurd (omega arith))
+      (λ r q. let z : _≡_ {A = ℕ} 0 1 = cc in absurd (omega arith))
+
+  path-in : (v : Lookup) → AnswersLookup words bytes defs p v → Leads words bytes binds defs l p (pathLed v)
+  path-in L.Exact a =
+      none-in R.AtPath refl (λ q. found-live p (readDefs words bytes defs) p (sym (a .0)))
+      (λ r q. let z : _≡_ {A = ℕ} 0 1 = cc in absurd (omega arith))
+  path-in L.NoNode a = no-node-in nodeNotFound
+  path-in (L.Node n) a = node-in n (a .1)
+  path-in L.Several a = no-node-in nodeAmbiguous
+
+  below-in : {f : Found} → FirstWith words bytes binds l f → (f .number ≡ 0 → ⊥) → (v : Lookup) (q : List ℕ)
+      → AnswersLookup words bytes defs q v
+      → Leads words bytes binds defs l p (belowLed (f .number) v)
+  below-in {f} w z L.Exact q a = bound-in (R.BoundPath (f .number)) w z refl
+  below-in {f} w z L.NoNode q a = bound-in (R.NoNodeBelow nodeNotFound (f .number)) w z refl
+  below-in w z (L.Node n) q a = node-in n (a .1)
+  below-in {f} w z L.Several q a = bound-in (R.NoNodeBelow nodeAmbiguous (f .number)) w z refl
+
+-- what the look-ups answer
+pub answers-path : {words bytes : List ℕ} {defs : ℕ} {p : List ℕ} (v : Lookup) (o : Resolved) → o ≡ pathLed v
+    → AnswersLookup words bytes defs p v → AnswersPath words bytes defs p o
+answers-path {words} {bytes} {defs} {p} v o e a =
+    rw e ((λ l. leads-path words bytes l p (readDefs words bytes defs) v (a .0)), (λ l k. path-in v a))
+
+pub answers-below : {words bytes : List ℕ} {binds defs : ℕ} {l p : List ℕ} {f : Found} → FirstWith words bytes binds l f
+    → (f .number ≡ 0 → ⊥) → (v : Lookup) (o : Resolved) → o ≡ belowLed (f .number) v
+    → AnswersLookup words bytes defs (joined (secondText words bytes (f .number)) p []) v → AnswersBelow words bytes binds defs l p o
+answers-below {words} {bytes} {defs = defs} {l} {p} w z v o e a =
+    rw e (leads-below words bytes l p w (readDefs words bytes defs) z v (a .0), below-in w z v _ a)
 
 -- what a reference that leads nowhere reports
 pub reports-overlay : {v : Resolved} {l p : List ℕ} {span : Span} {c : LowerCtx} {words bytes : List ℕ}
@@ -321,7 +404,7 @@ module _ {v : Resolved} {l p : List ℕ} {span : Span} {c d : LowerCtx} {words b
 -- the text of a path below a binding's
 pub below-text : {k : Context} {c : LowerCtx} {words bytes : List ℕ} {s : State} (r : ℕ) {l : List ℕ} (p : List ℕ)
     → Represents k c words bytes s → c .short ≡ false
-    → Leads words bytes (c .binds .first) (c .defs .first) l p (R.NoNodeBelow r)
+    → {code : ℕ} → Leads words bytes (c .binds .first) (c .defs .first) l p (R.NoNodeBelow code r)
     → joined (pathIn (c .bytes) bytes (placedIn words r 4)) p [] ≡ joined (secondText words bytes r) p []
 below-text r p h n i =
     let x = i .there r refl in
@@ -335,19 +418,19 @@ module _ {v : Resolved} {l p : List ℕ} {span : LogSpan} {c d : LowerCtx} {word
   unfolding resolution
   missing-label e o f = rw e (reports-one o 3 l l refl (λ k s h n i. refl) f)
 
-  pub missing-node : v ≡ R.NoNode → setsOverlay (readDefs words bytes (c .defs .first)) ≡ false
-      → Steps c d words bytes w b (emit (diagMade 4 p span noSpan ∷ []))
+  pub missing-node : (code : ℕ) → v ≡ R.NoNode code → setsOverlay (readDefs words bytes (c .defs .first)) ≡ false
+      → Steps c d words bytes w b (emit (diagMade code p span noSpan ∷ []))
       → ReportsMissing v l p (meant span) c d words bytes w b
   unfolding resolution
-  missing-node e o f = rw e (reports-one o 4 p p refl (λ k s h n i. refl) f)
+  missing-node code e o f = rw e (reports-one o code p p refl (λ k s h n i. refl) f)
 
-  pub missing-below : {r : ℕ} {place : PathAt} {unit : List ℕ} → v ≡ R.NoNodeBelow r → place ≡ placedIn words r 4 → unit ≡ []
+  pub missing-below : (code r : ℕ) {place : PathAt} {unit : List ℕ} → v ≡ R.NoNodeBelow code r → place ≡ placedIn words r 4 → unit ≡ []
       → setsOverlay (readDefs words bytes (c .defs .first)) ≡ false
-      → Steps c d words bytes w b (emit (diagMade 4 (joined (pathIn (c .bytes) bytes place) p unit) span noSpan ∷ []))
+      → Steps c d words bytes w b (emit (diagMade code (joined (pathIn (c .bytes) bytes place) p unit) span noSpan ∷ []))
       → ReportsMissing v l p (meant span) c d words bytes w b
   unfolding resolution
-  missing-below {r} e x y o f =
-      rw e (reports-one o 4 (joined (secondText words bytes r) p []) (joined (pathIn (c .bytes) bytes (placedIn words r 4)) p []) refl
+  missing-below code r e x y o f =
+      rw e (reports-one o code (joined (secondText words bytes r) p []) (joined (pathIn (c .bytes) bytes (placedIn words r 4)) p []) refl
       (λ k s h n i. below-text r p h n i) (rw (x, y) at f))
 
   pub never-bound : {r : ℕ} → v ≡ R.Bound r → ReportsMissing v l p (meant span) c d words bytes w b
@@ -361,3 +444,7 @@ module _ {v : Resolved} {l p : List ℕ} {span : LogSpan} {c d : LowerCtx} {word
   pub never-path : v ≡ R.AtPath → ReportsMissing v l p (meant span) c d words bytes w b
   unfolding resolution
   never-path e = rw e (reports-never p refl)
+
+  pub never-node : {r : ℕ} → v ≡ R.Node r → ReportsMissing v l p (meant span) c d words bytes w b
+  unfolding resolution
+  never-node {r} e = rw e (reports-never (firstText words bytes r) refl)

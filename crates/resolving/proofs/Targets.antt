@@ -10,7 +10,7 @@ use Rattle.resolving.specs.meaning.Resolve.{firstBinding, byLabel, below
 use Rattle.resolving.specs.machine.Leading.{resolution, targetLabel, Leads, AnswersTarget}
 use Rattle.resolving.specs.declared.resolve.Resolved.{Resolved}
 use Rattle.resolving.specs.declared.resolve.Resolved.the-variants as R
-use Rattle.resolving.proofs.Leading.{none-in, never-at}
+use Rattle.resolving.proofs.Leading.{no-label-in}
 
 -- with a label, with a label and a path, with a path, or with none of them
 module _ (words bytes : List ℕ) (r n : ℕ) (e : n ≡ nOf words r) where
@@ -48,4 +48,4 @@ module _ (words bytes : List ℕ) (r n : ℕ) (e : n ≡ nOf words r) where
       let a = ne-eqb (nOf words r) 1 (λ q. f (e ∙ q)) in
       let b = ne-eqb (nOf words r) 2 (λ q. g (e ∙ q)) in
       let c = ne-eqb (nOf words r) 3 (λ q. h (e ∙ q)) in
-      rw (a, b, c) (refl, none-in R.NoLabel refl never-at)
+      rw (a, b, c) (refl, no-label-in)

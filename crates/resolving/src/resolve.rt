@@ -17,22 +17,26 @@ use log::record::second_text;
 use making::ctx::LowerCtx;
 use making::place::second_place;
 use paths_numbers::codes::LABEL_NOT_FOUND;
+use paths_numbers::codes::NODE_AMBIGUOUS;
 use paths_numbers::codes::NODE_NOT_FOUND;
 use paths_numbers::text::equals;
 use queries::definition::goes_on;
-use queries::mir::contains_node_in;
-use queries::mir::contains_node_path;
+use queries::lookup::Lookup;
+use queries::lookup::lookup_in;
+use queries::lookup::lookup_path;
 use queries::mir::sets_overlay_in;
 
-// Where a reference leads: to the path of a binding, to its own path below that, or to its own path;
-// or nowhere, for its label, for its own path, or for the path below a binding's.
+// Where a reference leads: to the path of a binding, to its own path below that, to its own path, or to the
+// path of a definition; or nowhere, for its label, or with a code for its own path or the path below a
+// binding's.
 pub enum Resolved {
     Bound(u32),
     BoundPath(u32),
     AtPath,
+    Node(u32),
     NoLabel,
-    NoNode,
-    NoNodeBelow(u32),
+    NoNode(u32),
+    NoNodeBelow(u32, u32),
 }
 
 // A record of a chain, and the one before it, 0 where there is none.
@@ -112,20 +116,24 @@ pub fn resolve_below(
         return Resolved::NoLabel;
     }
     let base = second_text(out, bytes, number);
-    if contains_node_path(out, bytes, defs, base, path, no_text(path)) {
-        return Resolved::BoundPath(number);
+    match lookup_path(out, bytes, defs, base, path) {
+        Lookup::Exact => Resolved::BoundPath(number),
+        Lookup::Node(node) => Resolved::Node(node),
+        Lookup::NoNode => Resolved::NoNodeBelow(NODE_NOT_FOUND, number),
+        Lookup::Several => Resolved::NoNodeBelow(NODE_AMBIGUOUS, number),
     }
-    Resolved::NoNodeBelow(number)
 }
 
 // Where a path leads.
 pub fn resolve_path(out: &[u32], bytes: &[u8], defs: u32, path: &[u8]) -> Resolved
     ensures { λ v. ⌜ AnswersPath (now (out .entry)) (now (bytes .entry)) defs (now (path .entry)) v ⌝ }
 {
-    if contains_node_in(out, bytes, defs, path) {
-        return Resolved::AtPath;
+    match lookup_in(out, bytes, defs, path) {
+        Lookup::Exact => Resolved::AtPath,
+        Lookup::Node(r) => Resolved::Node(r),
+        Lookup::NoNode => Resolved::NoNode(NODE_NOT_FOUND),
+        Lookup::Several => Resolved::NoNode(NODE_AMBIGUOUS),
     }
-    Resolved::NoNode
 }
 
 // The first record of a chain with this first text, number 0 where there is none: a label's first
@@ -172,11 +180,11 @@ pub fn report_unresolved(
     let none = Span { from: 0, to: 0 };
     match v {
         Resolved::NoLabel => ctx.emit(out, bytes, LABEL_NOT_FOUND, label, span, none),
-        Resolved::NoNode => ctx.emit(out, bytes, NODE_NOT_FOUND, path, span, none),
-        Resolved::NoNodeBelow(b) => ctx.emit_joined(
+        Resolved::NoNode(code) => ctx.emit(out, bytes, code, path, span, none),
+        Resolved::NoNodeBelow(code, b) => ctx.emit_joined(
             out,
             bytes,
-            NODE_NOT_FOUND,
+            code,
             span,
             second_place(out, b),
             path,
@@ -185,5 +193,6 @@ pub fn report_unresolved(
         Resolved::Bound(_) => ctx,
         Resolved::BoundPath(_) => ctx,
         Resolved::AtPath => ctx,
+        Resolved::Node(_) => ctx,
     }
 }

@@ -13,7 +13,7 @@ use Rattle.levels.specs.meaning.Rules.{unsignedLevel}
 use Rattle.log.specs.meaning.Contents.{Span, Def, Binding, Diag}
 use Rattle.making.specs.meaning.State.{State, start, define, bind, emit, apart, dropped, extended}
 use Rattle.queries.specs.meaning.Kind.{setsOverlay}
-use Rattle.queries.specs.meaning.Live.{containsNode}
+use Rattle.queries.specs.meaning.Lookup.{LookedUp, found, noNode, several, lookup}
 use Rattle.input.specs.meaning.Tree.{Tree, Trees, tree, empty, more, kindOf, spanOf, childrenOf, firstOf, has, nodeKind, propertyKind}
 use Rattle.input.specs.meaning.Tree.{directiveKind, preprocessorKind, nameKind, labelKind, referenceKind, slashKind}
 use Rattle.input.specs.meaning.Input.{description}
@@ -21,7 +21,8 @@ use Rattle.input.specs.meaning.Report.{Got, Made, report}
 use Rattle.input.specs.meaning.Name.{nameOrMacro, fullName, labelled, labelsOf, nodeNameSpan}
 use Rattle.input.specs.meaning.Phandle.{lowerPhandle}
 use Rattle.input.specs.meaning.NeverGiven.{neverGiven}
-use Rattle.resolving.specs.meaning.Resolve.{Resolution, reaches, missing, firstBinding, liveAt, byLabel, belowLabel, resolve, unresolved}
+use Rattle.resolving.specs.meaning.Resolve.{Resolution, reaches, missing, firstBinding, byLookup, liveAt, byLabel, belowLabel, resolve}
+use Rattle.resolving.specs.meaning.Resolve.{unresolved}
 use Rattle.items.specs.meaning.Unbind.{unbind}
 use Rattle.items.specs.meaning.Lower.{Place, at, aside, discarded, nowhere, Placed, byResolution, byTarget, placedAs, byName, byParts}
 use Rattle.items.specs.meaning.Lower.{placeOf, opened, settled, lowerPlaced, lowerNode, namedProperty, lowerProperty, deleteNode}
@@ -31,7 +32,7 @@ use Rattle.lowering.specs.meaning.Lowered.{meaning}
 use Rattle.input.proofs.NeverGiven.{Quiet, quiet-none, quiet-report, quiet-append}
 use Rattle.two_levels.proofs.QuietValues.{name-quiet, full-quiet, phandle-quiet, values-quiet}
 
--- references that lead nowhere: codes 3 and 4
+-- references that lead nowhere: codes 3, 4 and 29
 
 abbrev pub codedSo : Resolution → Bool
 codedSo (reaches p) = false
@@ -41,7 +42,12 @@ abbrev pub QuietResolution : Resolution → Type 0
 QuietResolution r = codedSo r ≡ false
 
 live-quiet : (p : List ℕ) (defs : List Def) → QuietResolution (liveAt p defs)
-live-quiet p defs = cond-in QuietResolution (containsNode p defs) refl refl
+live-quiet p defs = go (lookup p defs)
+  where
+    go : (o : LookedUp) → QuietResolution (byLookup p o)
+    go (found q) = refl
+    go noNode = refl
+    go several = refl
 
 pub resolution-quiet : (t : Target) (binds : List Binding) (defs : List Def) → QuietResolution (resolve t binds defs)
 unfolding resolve

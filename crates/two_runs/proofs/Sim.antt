@@ -11,14 +11,15 @@ use Rattle.paths_numbers.specs.meaning.Path.{root, join}
 use Rattle.paths_numbers.specs.meaning.Reference.{Target, label, labelPath, path, unreadable}
 use Rattle.log.specs.meaning.Contents.{Span, Def, deletedNode, version, plugin, Binding, Diag}
 use Rattle.queries.specs.meaning.Kind.{setsOverlay}
-use Rattle.queries.specs.meaning.Live.{live, containsNode}
-use Rattle.queries.proofs.Gap.{Gap, gap-live, gap-overlay, gap-contains, gap-more}
+use Rattle.queries.specs.meaning.Live.{live}
+use Rattle.queries.proofs.LookedUp.{lookup-same}
+use Rattle.queries.proofs.Gap.{Gap, gap-live, gap-overlay, gap-more}
 use Rattle.input.specs.meaning.Tree.{Tree, Trees, tree, empty, more, firstOf, nodeKind, propertyKind, directiveKind}
 use Rattle.input.specs.meaning.Tree.{preprocessorKind, nameKind, referenceKind}
 use Rattle.input.specs.meaning.Report.{report}
 use Rattle.input.specs.meaning.Name.{fullName, nodeNameSpan, labelsOf}
 use Rattle.input.specs.meaning.Phandle.{lowerPhandle}
-use Rattle.resolving.specs.meaning.Resolve.{firstBinding, Resolution, reaches, missing, liveAt, belowLabel, resolve, unresolved}
+use Rattle.resolving.specs.meaning.Resolve.{firstBinding, Resolution, reaches, missing, byLookup, liveAt, belowLabel, resolve, unresolved}
 use Rattle.input.specs.meaning.Property.{lowerValues}
 use Rattle.making.specs.meaning.State.{State, define, bind, emit, apart, dropped, extended}
 use Rattle.items.specs.meaning.Unbind.{without, unbind}
@@ -39,10 +40,6 @@ like-live (gap g) base = gap-live g base
 pub like-overlay : {new : List ℕ} {t : Bool} {a b : List Def} → Like new t a b → setsOverlay a ≡ setsOverlay b
 like-overlay equal = refl
 like-overlay (gap g) = gap-overlay g
-
-like-contains : {new : List ℕ} {t : Bool} {a b : List Def} → Like new t a b → (p : List ℕ) → containsNode p a ≡ containsNode p b
-like-contains equal p = refl
-like-contains (gap g) p = gap-contains g p
 
 like-more : {new : List ℕ} {t : Bool} {a b : List Def} → Like new t a b → (d : Def) → Like new t (a ++ d ∷ []) (b ++ d ∷ [])
 like-more equal d = equal
@@ -108,7 +105,7 @@ module _ {new : List ℕ} {t : Bool} {a b : State} (s : Sim new t a b) where
 
   -- references lead to the same place
   same-live-at : (p : List ℕ) → liveAt p (a .defs) ≡ liveAt p (b .defs)
-  same-live-at p = rw (like-contains (s .logs) p) refl
+  same-live-at p = ap (byLookup p) (lookup-same p (a .defs) (b .defs) (like-live (s .logs)))
 
   same-below : (l p : List ℕ) (o : Option (List ℕ)) → belowLabel l p o (a .defs) ≡ belowLabel l p o (b .defs)
   same-below l p (some base) = same-live-at (join base p)

@@ -80,6 +80,7 @@ abbrev pub leadsOn : Resolved → Bool
 leadsOn (R.Bound r) = true
 leadsOn (R.BoundPath r) = true
 leadsOn R.AtPath = true
+leadsOn (R.Node r) = true
 leadsOn R.NoLabel = false
-leadsOn R.NoNode = false
-leadsOn (R.NoNodeBelow r) = false
+leadsOn (R.NoNode code) = false
+leadsOn (R.NoNodeBelow code r) = false

@@ -19,12 +19,13 @@ use Rattle.queries.specs.meaning.Live.{live}
 use Rattle.queries.specs.machine.Pass.{goesOn}
 use Rattle.items.specs.meaning.Unbind.{bindsLabelOf, without, unbind}
 use Rattle.items.specs.declared.unbind.Base.{Base}
-use Rattle.items.specs.declared.unbind.Base.the-variants.{Named, Given, Bound, BoundPath}
+use Rattle.items.specs.declared.unbind.Base.the-variants.{Named, There, Given, Bound, BoundPath}
 use Rattle.items.specs.declared.unbind.Unbound.{Unbound}
 
--- a path as it is read: of a name below a place, the name itself, a binding's path, or of the name below that
+-- a path as it is read: of a name below a place, that of a place, the name itself, a binding's path, or of the name below that
 unfoldable pub baseOf : ℕ → List ℕ → List ℕ → List ℕ → List ℕ → Base → List ℕ
 baseOf used words bytes name unit (Named p) = joined (pathIn used bytes p) name unit
+baseOf used words bytes name unit (There p) = pathIn used bytes p
 baseOf used words bytes name unit Given = name
 baseOf used words bytes name unit (Bound r) = secondText words bytes r
 baseOf used words bytes name unit (BoundPath r) = joined (secondText words bytes r) name unit
@@ -57,6 +58,8 @@ pub data BaseAt (k : Context) (w b name unit : List ℕ) (stops : Bool) (label :
   at-named : (place : PathAt) (parent : List ℕ) (k' : Context) → k ≡ withPlace (record { at = place; path = parent }) k'
       → p ≡ joined parent name unit
       → BaseAt k w b name unit stops label ns ms p (Named place)
+  at-there : (place : PathAt) (k' : Context) → k ≡ withPlace (record { at = place; path = p }) k'
+      → BaseAt k w b name unit stops label ns ms p (There place)
   at-given : p ≡ name → BaseAt k w b name unit stops label ns ms p Given
   at-bound : (r : ℕ) → Stays w b stops label r ns ms → p ≡ secondText w b r → BaseAt k w b name unit stops label ns ms p (Bound r)
   at-below : (r : ℕ) → Stays w b stops label r ns ms → p ≡ joined (secondText w b r) name unit

@@ -30,9 +30,10 @@ unfoldable pub resolution : List ℕ → List ℕ → List ℕ → List ℕ → 
 resolution words bytes l p (R.Bound r) = reaches (secondText words bytes r)
 resolution words bytes l p (R.BoundPath r) = reaches (joined (secondText words bytes r) p [])
 resolution words bytes l p R.AtPath = reaches p
+resolution words bytes l p (R.Node r) = reaches (firstText words bytes r)
 resolution words bytes l p R.NoLabel = missing 3 l
-resolution words bytes l p R.NoNode = missing 4 p
-resolution words bytes l p (R.NoNodeBelow r) = missing 4 (joined (secondText words bytes r) p [])
+resolution words bytes l p (R.NoNode code) = missing code p
+resolution words bytes l p (R.NoNodeBelow code r) = missing code (joined (secondText words bytes r) p [])
 
 -- the label that a reference of a log names, empty where it names none
 unfoldable pub targetLabel : List ℕ → List ℕ → ℕ → List ℕ
@@ -68,15 +69,18 @@ abbrev pub boundBy : Resolved → Option ℕ
 boundBy (R.Bound r) = some r
 boundBy (R.BoundPath r) = some r
 boundBy R.AtPath = none
+boundBy (R.Node r) = none
 boundBy R.NoLabel = none
-boundBy R.NoNode = none
-boundBy (R.NoNodeBelow r) = some r
+boundBy (R.NoNode code) = none
+boundBy (R.NoNodeBelow code r) = some r
 
--- is one of the log's, the label's first; and at the path by which a reference leads there is a live node
+-- is one of the log's, the label's first; and at the path by which a reference leads there is a live node, which a definition of the log
+-- names where it is another path than the reference's
 pub record Leads (words bytes : List ℕ) (binds defs : ℕ) (l p : List ℕ) (v : Resolved) : Type 0 where
   pub there : (r : ℕ) → boundBy v ≡ some r → InChain words binds r
   pub first : (r : ℕ) → boundBy v ≡ some r → firstBinding l (readBindings words bytes binds) ≡ some (secondText words bytes r)
   pub alive : v ≡ R.AtPath → containsNode p (readDefs words bytes defs) ≡ true
+  pub named : (r : ℕ) → v ≡ R.Node r → InChain words defs r
 
 -- What the functions of resolve.rt answer of a log, by the heads of its chains of bindings and definitions: v stands for where the
 -- reference leads, and leads there as above.

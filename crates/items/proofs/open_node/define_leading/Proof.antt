@@ -5,7 +5,7 @@ use Rattle.input.specs.meaning.Input.{spanAt}
 use Rattle.input.specs.machine.PhandleRead.{labelAt, pathAt}
 use Rattle.items.specs.machine.NodePlaced.{leadsOn}
 use Rattle.input.proofs.Read.{child-there}
-use Rattle.items.proofs.NodeReferenced.{defines-bound, defines-below, defines-path, defines-none}
+use Rattle.items.proofs.NodeReferenced.{defines-bound, defines-below, defines-path, defines-named, defines-none}
 use borrow.Author.Needs.{needs}
 use Rattle.items.proofs.open_node.define_leading.Statement.{statement}
 use Rattle.items.proofs.open_node.define_leading.Tie as tie
@@ -59,6 +59,15 @@ enum-told c = search needs
 
 define-text-requires : tie.Need-define-text-requires
 define-text-requires c κs = search needs
+
+enum-known-leads-3 : tie.Need-enum-known-leads-3
+enum-known-leads-3 c = search needs
+
+first-place-requires : tie.Need-first-place-requires
+first-place-requires c κs = search needs
+
+define-at-requires-2 : tie.Need-define-at-requires-2
+define-at-requires-2 c κs = search needs
 
 enum-told-2 : tie.Need-enum-told-2
 enum-told-2 c = search needs
@@ -167,16 +176,50 @@ returns-3 c =
     (c .before .before .before .before .before .before .before .enum-told .given .1)
     (c .before .before .before .before .before .before .before .before .before .phandle-path-at .ensures)
 
+same-length-7 : tie.Need-same-length-7
+same-length-7 c = search needs
+
+same-length-8 : tie.Need-same-length-8
+same-length-8 c = search needs
+
 returns-4 : tie.Need-returns-4
-returns-4 c = let a = c .before .before .before .before .before .before .before .before .before .before .before .args in defines-none
-    (a .leads) _ _ (ap leadsOn (c .enum-told2 .given .1))
+returns-4 c =
+    let a = c .before .before .before .before .before .before .before .before .before .before .before .before .before .before .before
+    .before .before .before .before .before .before .args in
+    let words = a .words .now in
+    let text = a .text .now in
+    let part = c .before .before .before .before .before .before .before .before .before .before .before .before .before .before .before
+    .before .child-at .ensures in
+    defines-named (a .leads) (labelAt words text (a .reference)) (pathAt words text (a .reference))
+    (c .before .before .before .before .before .before .before .before .before .before .before .before .before .before .before
+    .node-kind .result)
+    (c .before .before .before .before .before .before .before .before .before .before .before .before .before .before .span-at .result)
+    (c .before .before .before .before .before .before .before .before .before .before .before .before .before .node-name-span .result)
+    (spanAt words (a .r)) _ (c .before .before .before .before .define-at2 .ensures)
+    (rw part at
+    (c .before .before .before .before .before .before .before .before .before .before .before .before .before .before .before
+    .node-kind .ensures text))
+    (c .before .before .before .before .before .before .before .before .before .before .before .before .before .before .span-at
+    .ensures)
+    (c .before .before .before .before .before .before .before .before .before .before .before .before .before .node-name-span .ensures
+    text ∙ rw (
+      part,
+      c .before .before .before .before .before .before .before .before .before .before .before .before .before .before .span-at .ensures,
+    )
+    refl)
+    _ (c .before .before .before .before .before .before .before .before .before .before .leads3 .given .1)
+    (ap (pathIn (a .ctx .bytes) (a .bytes .now)) (c .before .before .before .before .before .before .before .first-place .ensures))
 
 returns-5 : tie.Need-returns-5
 returns-5 c = let a = c .before .before .before .before .before .before .before .before .before .before .before .args in defines-none
-    (a .leads) _ _ (ap leadsOn (c .enum-told3 .given .1))
+    (a .leads) _ _ (ap leadsOn (c .enum-told2 .given .1))
 
 returns-6 : tie.Need-returns-6
 returns-6 c = let a = c .before .before .before .before .before .before .before .before .before .before .before .args in defines-none
+    (a .leads) _ _ (ap leadsOn (c .enum-told3 .given .1))
+
+returns-7 : tie.Need-returns-7
+returns-7 c = let a = c .before .before .before .before .before .before .before .before .before .before .before .args in defines-none
     (a .leads) _ _ (ap leadsOn (c .enum-told4 .given .1))
 
 pub define-leading-spec : {M : Type 1} → statement M
@@ -197,6 +240,9 @@ define-leading-spec =
     define-requires
     enum-told
     define-text-requires
+    enum-known-leads-3
+    first-place-requires
+    define-at-requires-2
     enum-told-2
     enum-told-3
     enum-told-4
@@ -209,6 +255,9 @@ define-leading-spec =
     same-length-5
     same-length-6
     returns-3
+    same-length-7
+    same-length-8
     returns-4
     returns-5
-    returns-6)
+    returns-6
+    returns-7)

@@ -1,7 +1,7 @@
 -- By whether the log in hand is an overlay, and by what was not found (Leading).
 use mathlib.Core.Path.{sym, _∙_}
 use Rattle.resolving.proofs.Leading.{reports-overlay, missing-label, missing-node, missing-below, never-bound, never-below}
-use Rattle.resolving.proofs.Leading.{never-path}
+use Rattle.resolving.proofs.Leading.{never-path, never-node}
 use borrow.Author.Needs.{needs}
 use Rattle.resolving.proofs.resolve.report_unresolved.Statement.{statement}
 use Rattle.resolving.proofs.resolve.report_unresolved.Tie as tie
@@ -21,14 +21,14 @@ enum-told c = search needs
 emit-requires : tie.Need-emit-requires
 emit-requires c κs = search needs
 
-enum-told-2 : tie.Need-enum-told-2
-enum-told-2 c = search needs
+enum-known-v : tie.Need-enum-known-v
+enum-known-v c = search needs
 
 emit-requires-2 : tie.Need-emit-requires-2
 emit-requires-2 c κs = search needs
 
-enum-known-v : tie.Need-enum-known-v
-enum-known-v c = search needs
+enum-known-v-2 : tie.Need-enum-known-v-2
+enum-known-v-2 c = search needs
 
 second-place-requires : tie.Need-second-place-requires
 second-place-requires c κs = search needs
@@ -38,6 +38,9 @@ no-text-requires c κs = search needs
 
 emit-joined-requires : tie.Need-emit-joined-requires
 emit-joined-requires c κs = search needs
+
+enum-told-2 : tie.Need-enum-told-2
+enum-told-2 c = search needs
 
 enum-told-3 : tie.Need-enum-told-3
 enum-told-3 c = search needs
@@ -56,8 +59,8 @@ same-length-3 c = search needs
 
 returns-2 : tie.Need-returns-2
 returns-2 c = missing-label (c .before .before .before .before .before .before .before .enum-told .given .1)
-    (sym (c .before .before .before .before .before .before .before .before .before .before .sets-overlay-in .ensures _)
-    ∙ c .before .before .before .before .before .before .before .before .before .if1 .left)
+    (sym (c .before .before .before .before .before .before .before .before .before .before .sets-overlay-in .ensures _) ∙ c .before
+    .before .before .before .before .before .before .before .before .if1 .left)
     (c .before .before .before .before .emit .ensures)
 
 same-length-4 : tie.Need-same-length-4
@@ -67,9 +70,9 @@ same-length-5 : tie.Need-same-length-5
 same-length-5 c = search needs
 
 returns-3 : tie.Need-returns-3
-returns-3 c = missing-node (c .before .before .before .before .before .before .before .enum-told2 .given .1)
-    (sym (c .before .before .before .before .before .before .before .before .before .before .sets-overlay-in .ensures _)
-    ∙ c .before .before .before .before .before .before .before .before .before .if1 .left)
+returns-3 c = missing-node _ (c .before .before .before .before .before .before .before .before .v .given .1)
+    (sym (c .before .before .before .before .before .before .before .before .before .before .before .sets-overlay-in .ensures _) ∙ c
+    .before .before .before .before .before .before .before .before .before .before .if1 .left)
     (c .before .before .before .before .emit2 .ensures)
 
 same-length-6 : tie.Need-same-length-6
@@ -79,29 +82,36 @@ same-length-7 : tie.Need-same-length-7
 same-length-7 c = search needs
 
 returns-4 : tie.Need-returns-4
-returns-4 c = missing-below (c .before .before .before .before .before .before .before .before .before .before .before .v .given .1)
+returns-4 c = missing-below _ _ (c .before .before .before .before .before .before .before .before .before .before .before .v2 .given .1)
     (c .before .before .before .before .before .before .second-place .ensures) (c .before .before .before .before .before .no-text .ensures)
-    (sym (c .before .before .before .before .before .before .before .before .before .before .before .before .before .before .sets-overlay-in
-    .ensures _) ∙ c .before .before .before .before .before .before .before .before .before .before .before .before .before .if1 .left)
+    (sym (c .before .before .before .before .before .before .before .before .before .before .before .before .before .before
+    .sets-overlay-in .ensures _) ∙ c .before .before .before .before .before .before .before .before .before .before .before .before
+    .before .if1 .left)
     (c .before .before .before .before .emit-joined .ensures)
 
 same-length-8 : tie.Need-same-length-8
 same-length-8 c = search needs
 
 returns-5 : tie.Need-returns-5
-returns-5 c = never-bound (c .enum-told3 .given .1)
+returns-5 c = never-bound (c .enum-told2 .given .1)
 
 same-length-9 : tie.Need-same-length-9
 same-length-9 c = search needs
 
 returns-6 : tie.Need-returns-6
-returns-6 c = never-below (c .enum-told4 .given .1)
+returns-6 c = never-below (c .enum-told3 .given .1)
 
 same-length-10 : tie.Need-same-length-10
 same-length-10 c = search needs
 
 returns-7 : tie.Need-returns-7
-returns-7 c = never-path (c .enum-told5 .given .1)
+returns-7 c = never-path (c .enum-told4 .given .1)
+
+same-length-11 : tie.Need-same-length-11
+same-length-11 c = search needs
+
+returns-8 : tie.Need-returns-8
+returns-8 c = never-node (c .enum-told5 .given .1)
 
 pub report-unresolved-spec : {M : Type 1} → statement M
 report-unresolved-spec =
@@ -112,12 +122,13 @@ report-unresolved-spec =
     returns
     enum-told
     emit-requires
-    enum-told-2
-    emit-requires-2
     enum-known-v
+    emit-requires-2
+    enum-known-v-2
     second-place-requires
     no-text-requires
     emit-joined-requires
+    enum-told-2
     enum-told-3
     enum-told-4
     enum-told-5
@@ -135,4 +146,6 @@ report-unresolved-spec =
     same-length-9
     returns-6
     same-length-10
-    returns-7)
+    returns-7
+    same-length-11
+    returns-8)

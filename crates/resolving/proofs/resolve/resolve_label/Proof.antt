@@ -1,6 +1,5 @@
 -- By the label's first binding (Leading).
-use mathlib.Core.Path.{refl}
-use Rattle.resolving.proofs.Leading.{leads-label, no-label, bound-in, none-in, never-at}
+use Rattle.resolving.proofs.Leading.{leads-label, no-label, label-in, no-label-in}
 use borrow.Author.Needs.{needs}
 use Rattle.resolving.proofs.resolve.resolve_label.Statement.{statement}
 use Rattle.resolving.proofs.resolve.resolve_label.Tie as tie
@@ -12,16 +11,14 @@ returns : tie.Need-returns
 returns c =
     let a = c .before .before .before .before .before .before .args in (
       λ p. no-label (a .out .now) (a .bytes .now) (a .label .now) p (c .before .before .first-with .ensures) (c .if1 .taken),
-      λ p k. none-in
-          _ refl never-at,
+      λ p k. no-label-in,
     )
 
 returns-2 : tie.Need-returns-2
 returns-2 c =
     let a = c .before .before .before .before .before .before .args in (
       λ p. leads-label (a .out .now) (a .bytes .now) (a .label .now) p (c .before .before .first-with .ensures) (c .if1 .left),
-      λ p k.
-          bound-in _ (c .before .before .first-with .ensures) (c .if1 .left) refl,
+      λ p k. label-in (c .before .before .first-with .ensures) (c .if1 .left),
     )
 
 pub resolve-label-spec : {M : Type 1} → statement M

@@ -1,7 +1,7 @@
 -- By what the reference was read as (Leading).
 use mathlib.Core.Path.{refl, _∙_}
 use Rattle.input.specs.machine.PhandleRead.{pathAt, labelAt}
-use Rattle.resolving.proofs.Leading.{read-label, read-below, read-path, read-macro, read-nothing, none-in, never-at}
+use Rattle.resolving.proofs.Leading.{read-label, read-below, read-path, read-macro, read-nothing, no-label-in}
 use borrow.Author.Needs.{needs}
 use Rattle.resolving.proofs.resolve.resolve_phandle.Statement.{statement}
 use Rattle.resolving.proofs.resolve.resolve_phandle.Tie as tie
@@ -73,12 +73,12 @@ returns-3 c =
 returns-4 : tie.Need-returns-4
 returns-4 c =
     let a = c .before .before .before .before .before .before .before .before .args in
-    (λ t e. absurd (read-macro (a .words .now) (a .text .now) (a .r) (a .read) t e _ (c .enum-told4 .given .1)), none-in _ refl never-at)
+    (λ t e. absurd (read-macro (a .words .now) (a .text .now) (a .r) (a .read) t e _ (c .enum-told4 .given .1)), no-label-in)
 
 returns-5 : tie.Need-returns-5
 returns-5 c =
     let a = c .before .before .before .before .before .before .before .before .args in
-    (λ t e. absurd (read-nothing (a .words .now) (a .text .now) (a .r) (a .read) t e (c .enum-told5 .given .1)), none-in _ refl never-at)
+    (λ t e. absurd (read-nothing (a .words .now) (a .text .now) (a .r) (a .read) t e (c .enum-told5 .given .1)), no-label-in)
 
 pub resolve-phandle-spec : {M : Type 1} → statement M
 resolve-phandle-spec =
