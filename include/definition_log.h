@@ -235,7 +235,7 @@ enum {
     DL_N_PATH = 3
 };
 
-/* N of a diagnostic. Its text is the label of 3 and 20, the path of 4, the macro's text of 10, else empty. */
+/* N of a diagnostic. Its text is the label of 3 and 20, the path of 4 and 29, the macro's text of 10, else empty. 27 and 28 are none. */
 enum {
     DL_CODE_PREPROCESSOR = 1, /* preprocessor directives are not read */
     DL_CODE_INCLUDE = 2, /* includes are not read */
@@ -262,7 +262,8 @@ enum {
     DL_CODE_BEFORE_VERSION = 23, /* a definition before the version directive */
     DL_CODE_OVERFLOW = 24, /* a result outside of 64 bits */
     DL_CODE_ZERO_DIVISOR = 25,
-    DL_CODE_SHIFT_AMOUNT = 26 /* a shift amount outside of 0 to 63 */
+    DL_CODE_SHIFT_AMOUNT = 26, /* a shift amount outside of 0 to 63 */
+    DL_CODE_AMBIGUOUS_NODE = 29 /* a path that leaves out unit addresses and may mean more than one node */
 };
 
 /* The rules that number 8 speaks of: the count of words is 16 times 1 or more; each link leads to a record of the log, up or down, and no
@@ -277,6 +278,12 @@ enum {
  * and a cell of 32 bits or less takes a result that fits unsigned, or one whose upper bits are all ones and which fits signed. What has
  * no expression cell (DL_IN_EXPRESSION) lowers alike at both. Any other level is DL_NO_LEVEL. */
 enum { DL_LEVEL_SIGNED = 1, DL_LEVEL_UNSIGNED = 2 };
+
+/* A reference by a path, `&{/rack/bay}` or `&{label/bay}`, leads to the live node exactly there. If there is none, unit addresses may be
+ * left out (request 5 of docs/02-change-requests.md): a component without "@" means each component that equals it up to the first "@", one
+ * with "@" only itself, and of the paths of live nodes with as many components exactly one may be meant. That node is reopened or deleted
+ * under its full path. None meant is DL_CODE_NO_NODE, more than one DL_CODE_AMBIGUOUS_NODE. References in the log stay as written, and the
+ * queries below take full paths only. */
 
 /* Lowers the description in `words` and `text` at a level into `out` and `bytes`: the log of its top items, then of the post checks. What
  * the buffers held before does not matter. `out` holds as many records as it has times 16 words, and DL_RECORDS_USED and DL_BYTES_USED of
@@ -297,7 +304,7 @@ struct DlAnswer dl_iter_live_defs_under(const uint32_t *words, size_t words_len,
 struct DlAnswer dl_history(const uint32_t *words, size_t words_len, const uint8_t *bytes, size_t bytes_len,
                            const uint8_t *path, size_t path_len, uint32_t *list, size_t list_len);
 
-/* Whether a node is live at `path`: returned is 1 or 0. */
+/* Whether a node is live exactly at `path`: returned is 1 or 0. */
 struct DlAnswer dl_contains_node(const uint32_t *words, size_t words_len, const uint8_t *bytes, size_t bytes_len,
                                  const uint8_t *path, size_t path_len);
 

@@ -13,6 +13,12 @@ const DIAGNOSTIC: u32 = 15;
 /// The code whose name span is the earlier binding's.
 const DUPLICATE_LABEL: u32 = 20;
 
+/// The code of a path that leaves out unit addresses and may mean more than one node.
+const AMBIGUOUS_NODE: u32 = 29;
+
+/// What that code stands for.
+const AMBIGUOUS: &str = "without its unit addresses the path may mean more than one node";
+
 /// What each code stands for, from code 1 on.
 const MEANINGS: [&str; 26] = [
     "preprocessor directives are not read",
@@ -61,9 +67,9 @@ const MEANINGS: [&str; 26] = [
 pub struct Diagnostic<'a> {
     /// The number of its record.
     pub record: u32,
-    /// 01's code, 1 to 26.
+    /// 01's code, 1 to 26, or 02's 29.
     pub code: u32,
-    /// The label of codes 3 and 20, the path of 4, the macro of 10; else empty.
+    /// The label of codes 3 and 20, the path of 4 and 29, the macro of 10; else empty.
     pub text: &'a [u8],
     /// Where it stands in the source, in bytes.
     pub span: Range<u32>,
@@ -82,8 +88,11 @@ impl Diagnostic<'_> {
     /// ```
     #[must_use]
     pub fn meaning(&self) -> &'static str {
+        if self.code == AMBIGUOUS_NODE {
+            return AMBIGUOUS;
+        }
         let place = self.code.checked_sub(1).and_then(|place| usize::try_from(place).ok());
-        place.and_then(|place| MEANINGS.get(place)).copied().unwrap_or("a code that 01 does not have")
+        place.and_then(|place| MEANINGS.get(place)).copied().unwrap_or("a code that no diagnostic has")
     }
 }
 
@@ -140,13 +149,14 @@ mod tests {
     use super::*;
 
     #[test]
-    fn codes_go_from_1_to_26() {
+    fn codes_go_from_1_to_26_and_29() {
         let of = |code| Diagnostic { record: 0, code, text: b"", span: 0..0, earlier: None };
         assert_eq!(of(1).meaning(), MEANINGS[0]);
         assert_eq!(of(20).to_string(), "duplicate label (code 20)");
         assert_eq!(of(26).meaning(), MEANINGS[25]);
-        for code in [0, 27, u32::MAX] {
-            assert_eq!(of(code).meaning(), "a code that 01 does not have");
+        assert_eq!(of(29).meaning(), AMBIGUOUS);
+        for code in [0, 27, 28, 30, u32::MAX] {
+            assert_eq!(of(code).meaning(), "a code that no diagnostic has");
         }
     }
 

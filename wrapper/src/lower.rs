@@ -165,7 +165,8 @@ impl<'a> Description<'a> {
         self.text
     }
 
-    /// Lowers it into buffers that grow as needed.
+    /// Lowers it into buffers that grow as needed. A reference by a path may leave out unit addresses:
+    /// the node that is meant is reopened or deleted under its full path.
     ///
     /// # Errors
     ///

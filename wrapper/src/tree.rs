@@ -146,7 +146,8 @@ pub enum InputKind {
     Label,
     /// A reference by name, `&name`: the name is its text, which is empty where it is missing.
     Reference,
-    /// A raw reference, whose text is `&{..}`.
+    /// A raw reference, whose text is `&{..}`: a path, or a label and a path, that may leave out unit
+    /// addresses where one live node alone is meant.
     RawReference,
     /// A macro, in its text.
     Macro,

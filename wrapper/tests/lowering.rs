@@ -194,6 +194,51 @@ fn values_are_lowered() {
     assert_eq!(post, ["label not found: a (code 3)"; 2]);
 }
 
+/// A node with a unit address.
+fn addressed(name: &str, address: &str, items: impl Into<Vec<Tree>>) -> Tree {
+    Tree::node([Tree::name(name), of(InputKind::UnitAddress).with([Tree::name(address)])], items)
+}
+
+/// 02, request 5: `/ { rack@0 { bay@1 { }; bayou@1 { }; }; };` and a reference that leaves out addresses.
+fn rack(bays: &[&str], item: Tree) -> String {
+    let bays = bays.iter().map(|address| addressed("bay", address, []));
+    let bays: Vec<Tree> = bays.chain([addressed("bayou", "1", [])]).collect();
+    listed(&[directive(Directive::Version, []), root([addressed("rack", "0", bays)]), item])
+}
+
+#[test]
+fn a_path_may_leave_out_unit_addresses() {
+    let short = || of(InputKind::RawReference).text("&{/rack/bay}");
+    let reopened = Tree::node([short()], [property("drawer", [])]);
+    let once = rack(&["1"], reopened.clone());
+    assert!(once.ends_with("D N /rack@0/bay@1 0-0 0-0\nD P /rack@0/bay@1/drawer 0-0 0-0\n.\n"), "{once}");
+    let deleted = rack(&["1"], directive(Directive::DeleteNode, [short()]));
+    assert!(deleted.ends_with("D X /rack@0/bay@1 0-0 0-0\n.\n"), "{deleted}");
+    let twice = rack(&["1", "2"], reopened);
+    assert!(twice.ends_with("D N /rack@0/bayou@1 0-0 0-0\nM 29 0-0\n.\n"), "{twice}");
+}
+
+#[test]
+fn a_path_that_may_mean_two_nodes_is_reported() {
+    let bays = [addressed("bay", "1", []), addressed("bay", "2", [])];
+    let bad = property(
+        "bays",
+        [of(InputKind::RawReference).text("&{/bay}"), of(InputKind::RawReference).text("&{/bay@2}")],
+    );
+    let described = OwnedDescription::of(&[
+        directive(Directive::Version, []),
+        root(bays.into_iter().chain([bad]).collect::<Vec<_>>()),
+    ]);
+    let lowered = described.description().lower().unwrap();
+    let log = lowered.log();
+    let post: Vec<String> = log.post_diagnostics().map(|diagnostic| diagnostic.to_string()).collect();
+    assert_eq!(post, ["without its unit addresses the path may mean more than one node: /bay (code 29)"]);
+    assert!(
+        !log.contains_node("/bay").unwrap() && log.contains_node("/bay@1").unwrap(),
+        "queries take full paths"
+    );
+}
+
 /// 02, request 2: "010" is 8, "08" gives code 17, "0" is 0, in cells, expressions and widths.
 #[test]
 fn a_leading_zero_means_base_8() {
