@@ -96,7 +96,7 @@ fn inner_text(raw: &[u8]) -> &[u8]
 }
 
 // The index of the first "/", the length where there is none.
-fn first_slash(s: &[u8]) -> usize
+pub fn first_slash(s: &[u8]) -> usize
     ensures { λ r. ⌜ r ≡ length (beforeSlash (now (s .entry))) ⌝ }
 {
     let mut i = 0;

@@ -8,7 +8,7 @@ use native.Mathlib.Omega.{arith}
 use borrow.Author.Tests.{eq-eqb, ne-eqb, eqb-true, eqb-false, le-leb, leb-true, leb-false}
 use lib.Dec.{eqb, leb}
 use lib.ListN.{length, getD, take, drop, drop-of-length-le, length-drop}
-use lib.Seq.{drop-cons, drop-drop}
+use lib.Seq.{drop-cons, drop-drop, take-all}
 use Rattle.paths_numbers.specs.meaning.Byte.{slash, atSign}
 use Rattle.paths_numbers.specs.meaning.Text.{same, begins, isEmpty, startsWith}
 use Rattle.paths_numbers.specs.meaning.Lists.{any}
@@ -178,6 +178,11 @@ text-at s k =
 
 pub end-within : (s : List ℕ) (k : ℕ) → k ≤ length s → endAt s k ≤ length s
 end-within s k h = omega (arith, before-length (drop k s), length-drop k s)
+
+-- and as it is looked for, in all that stands behind
+pub end-read : (s : List ℕ) (k n : ℕ) → n ≡ length (beforeSlash (take (length s - k) (drop k s))) → n ≡ length (beforeSlash (drop k s))
+end-read s k n e =
+    e ∙ ap (λ (l : List ℕ). length (beforeSlash l)) (take-all (length s - k) (drop k s) (omega (arith, length-drop k s)))
 
 -- the step at a place of each path
 module _ (path full : List ℕ) (i j : ℕ) where

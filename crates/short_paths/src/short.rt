@@ -12,6 +12,7 @@ ghost use Rattle.short_paths.specs.meaning.Short.{hasAt, componentMatche
 ghost use Rattle.short_paths.specs.machine.Front.{frontOf, Matched};
 use paths_numbers::mir::good_path;
 use paths_numbers::mir::is_root;
+use paths_numbers::phandle::first_slash;
 use paths_numbers::text::starts_with;
 
 // Whether the path of a parent and a name may mean `full`.
@@ -98,14 +99,7 @@ fn component_end(path: &[u8], from: usize) -> usize
     ensures { λ n. ⌜ n ≡ from + length (beforeSlash (drop from (now (path .entry)))) ⌝ }
     ensures { λ n. ⌜ n ≤ length (now (path .entry)) ⌝ }
 {
-    let mut i = from;
-    while i < path.len() {
-        if path[i] == b'/' {
-            return i;
-        }
-        i += 1;
-    }
-    i
+    from + first_slash(&path[from..])
 }
 
 // Whether a component matches another: it is the same, or has no "@" and is the other before its first "@".
