@@ -4,10 +4,7 @@ use std::collections::BTreeMap;
 
 use crate::{
     answer::{Answer, Definition, Query, Value},
-    by_01::{
-        lower::{EVENTS, Lowered},
-        numbers, paths, values,
-    },
+    by_01::{lower::EVENTS, numbers, paths, values},
     generate::Case,
     octal,
     records::{MOST_RECORDS, MOST_TEXT, Order, RECORD},
@@ -91,11 +88,11 @@ impl Coverage {
     }
 
     /// Notes all of a case.
-    pub fn note(&mut self, judged: &Judged, by_01: &Lowered) {
+    pub fn note(&mut self, judged: &Judged) {
         self.note_case(&judged.case);
         self.note_answer(&judged.answer);
         self.note_queries(&judged.answer.definitions, &judged.queries);
-        for (event, times) in &by_01.events {
+        for (event, times) in &judged.by_01.events {
             self.add((*event).to_owned(), *times);
         }
     }

@@ -3,7 +3,6 @@
 use std::{env, fs, io::Write, process::ExitCode};
 
 use judge::{
-    answer::{Answer, Query},
     by_01,
     counts::Counts,
     definitions, dtc, generate, levels,
@@ -12,7 +11,9 @@ use judge::{
     parts::{self, ALL, SHORT, Sizes},
     recorded,
     records::{self, RECORD, Records, SIGNED, UNSIGNED},
-    speed, text_form, trees, worked,
+    speed, text_form,
+    trees::{self, Judged},
+    worked,
 };
 
 /// Where the recorded sample is.
@@ -66,11 +67,10 @@ fn command(words: &[&str]) -> Result<(), String> {
         ["show", seed] => show(seed),
         ["input", seed] => input(seed),
         ["write", file] => write(file),
-        ["judge", file] => {
-            judged_file(file).map(|(answer, queries)| print!("{}", text_form::text_form(&answer, &queries)))
-        }
+        ["judge", file] => judged_file(file)
+            .map(|judged| print!("{}", text_form::text_form(&judged.answer, &judged.queries))),
         ["listing", file] => {
-            judged_file(file).and_then(|(answer, _)| print_bytes(&text_form::listing(&answer)))
+            judged_file(file).and_then(|judged| print_bytes(&text_form::listing(&judged.answer)))
         }
         ["dtc"] => dtc::run(dtc::CASES),
         ["dtc", cases] => dtc::run(number(cases)?),
@@ -144,12 +144,19 @@ fn ask(level: u32, description: &str) -> Result<(), String> {
         return Err(format!("{level} is no level"));
     }
     let top = notation::read(description)?;
-    let (answer, queries) = trees::judged_tree(&top, level, 0, 40);
-    print!("{}", text_form::text_form(&answer, &queries));
-    for (by_01, rust) in trees::difference(&top, level, 0) {
+    print_judged(&trees::judged_tree(&top, level, 40));
+    Ok(())
+}
+
+/// The text form of what is due, and where 01's sentences differ.
+fn print_judged(judged: &Judged) {
+    if judged.is_aside() {
+        println!("set aside for a short path: by 01's and 02's sentences");
+    }
+    print!("{}", text_form::text_form(&judged.answer, &judged.queries));
+    for (by_01, rust) in trees::difference(judged) {
         println!("different: 01 {by_01}, Rust {rust}");
     }
-    Ok(())
 }
 
 /// A generated description in the short notation, and its text form.
@@ -157,7 +164,7 @@ fn show(seed: &str) -> Result<(), String> {
     let seed = number(seed)?;
     let judged = trees::judged(seed, trees::size_of_case(seed), SIGNED, 40);
     println!("{}", notation::written(&judged.case.top));
-    print!("{}", text_form::text_form(&judged.answer, &judged.queries));
+    print_judged(&judged);
     Ok(())
 }
 
@@ -174,8 +181,8 @@ fn write(file: &str) -> Result<(), String> {
     print_bytes(&listing_input::of_text(&text).map_err(|error| format!("{file}: {error}"))?)
 }
 
-/// The Rust's answer to the listing program's input, which rows 1 to 6 must accept.
-fn judged_file(file: &str) -> Result<(Answer, Vec<Query>), String> {
+/// The answer that is due to the listing program's input, which rows 1 to 6 must accept.
+fn judged_file(file: &str) -> Result<Judged, String> {
     let bytes = fs::read(file).map_err(|error| format!("{file}: {error}"))?;
     let short = || format!("{file} is cut short");
     let (count, rest) = bytes.split_first_chunk::<4>().ok_or_else(short)?;
@@ -187,5 +194,5 @@ fn judged_file(file: &str) -> Result<(Answer, Vec<Query>), String> {
         return Err(format!("{file} is refused: R {number} {returned}"));
     }
     let top = records::read(&records);
-    Ok(trees::judged_tree(&top, SIGNED, 0, 40))
+    Ok(trees::judged_tree(&top, SIGNED, 40))
 }

@@ -1,7 +1,6 @@
 //! The parts of a run, each with its lines: how many were compared, and how many differ.
 
 use crate::{
-    by_01,
     counts::Counts,
     coverage::Coverage,
     damaged, levels,
@@ -101,10 +100,9 @@ pub fn sentences() -> Counts {
         [SIGNED, UNSIGNED].into_iter().flat_map(|level| (0..BY_01).map(move |seed| (level, seed)))
     {
         let judged = judged(seed, size_of_case(seed), level, 12);
-        let by_01 = by_01::lower::lower(&judged.case.top, level);
         counts.compared += 1;
-        counts.aside += trees::by_rule(&judged.answer);
-        if let Err(fault) = trees::whole_side(&side, seed, &judged, &by_01) {
+        counts.aside += if judged.is_aside() { 1 } else { trees::by_rule(&judged.answer) };
+        if let Err(fault) = trees::whole_side(&side, seed, &judged) {
             counts.different += 1;
             println!("level {level}, seed {seed}: {fault}");
         }

@@ -37,9 +37,8 @@ fn made() -> Result<(Vec<u8>, String, usize), String> {
     let mut coverage = Coverage::of_descriptions();
     for judged in &cases {
         assert_eq!(by_01::rows::refusal(&judged.case.records), None, "a recorded description is refused");
-        let by_01 = by_01::lower::lower(&judged.case.top, SIGNED);
-        coverage.note(judged, &by_01);
-        out.case(judged, &by_01);
+        coverage.note(judged);
+        out.case(judged, &judged.by_01);
     }
     let (report, missing) = coverage.report();
     if !missing.is_empty() {
@@ -82,7 +81,7 @@ fn chosen(seen: &mut BTreeSet<String>, size: Size, wanted: usize, seeds: u64, mo
     for seed in 0..seeds {
         let judged = judged(seed, size, SIGNED, QUERIES);
         let mut coverage = Coverage::empty();
-        coverage.note(&judged, &by_01::lower::lower(&judged.case.top, SIGNED));
+        coverage.note(&judged);
         let before = seen.len();
         let again = judged.case.records.text.len() == MOST_TEXT && seen.contains(FULL_TEXT);
         if judged.case.records.words.len() / RECORD <= most && !again {

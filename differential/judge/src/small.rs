@@ -75,30 +75,30 @@ pub fn compare(side: &Library) -> Result<Counts, String> {
     let mut counts = Counts::default();
     for Known { about, description, level, wanted } in known() {
         let top = notation::read(description).map_err(|fault| format!("{about}: {fault}"))?;
-        let (answer, queries) = trees::judged_tree(&top, level, 0, 40);
-        let rust = text_form(&answer, &queries);
+        let judged = trees::judged_tree(&top, level, 40);
+        let due = text_form(&judged.answer, &judged.queries);
         let mut faults: Vec<String> = wanted
             .split(';')
             .map(str::trim)
-            .filter(|line| !holds(&rust, line))
+            .filter(|line| !holds(&due, line))
             .map(|line| format!("not so: {line}"))
             .collect();
-        let by_01 = trees::difference(&top, level, 0);
+        let by_01 = trees::difference(&judged);
         faults.extend(by_01.iter().map(|(by_01, rust)| format!("01 {by_01}, Rust {rust}")));
         faults.extend(trees::fault_of(side, &top, level));
         counts.compared += 1;
-        counts.aside += trees::by_rule(&answer);
+        counts.aside += if judged.is_aside() { 1 } else { trees::by_rule(&judged.answer) };
         if !faults.is_empty() {
             counts.different += 1;
-            println!("{about}, level {level}: {}\n{rust}", faults.join("; "));
+            println!("{about}, level {level}: {}\n{due}", faults.join("; "));
         }
     }
     Ok(counts)
 }
 
 /// Whether a line of a case holds of the text form.
-fn holds(rust: &str, line: &str) -> bool {
-    let count = |begins: &str| rust.lines().filter(|line| line.starts_with(begins)).count();
+fn holds(form: &str, line: &str) -> bool {
+    let count = |begins: &str| form.lines().filter(|line| line.starts_with(begins)).count();
     if let Some(begins) = line.strip_prefix('!') {
         return count(begins) == 0;
     }

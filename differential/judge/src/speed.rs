@@ -5,7 +5,6 @@ use std::{cell::RefCell, hint::black_box};
 use dt_tools_lowering::{check, database, lower};
 
 use crate::{
-    by_01,
     crate_tree::crate_tree,
     generate::Case,
     library::Library,
@@ -75,8 +74,7 @@ impl<'a> Bench<'a> {
     /// Makes it, and compares the logs.
     fn new(side: &'a Library, mix: &Mix, size: usize) -> Result<Self, String> {
         let judged = judged_case(Case::known(made(mix, size), SIGNED), 0);
-        let by_01 = by_01::lower::lower(&judged.case.top, SIGNED);
-        let made = (by_01.records, by_01.bytes);
+        let made = (judged.by_01.records, judged.by_01.bytes);
         let due = Due { records: &judged.case.records, answer: &judged.answer, made };
         whole::lowered(side, &due, made.0 as usize * RECORD, made.1 as usize)?;
         assert_eq!(judged.case.records.words.len(), size * records::RECORD, "as many records as wanted");

@@ -1,4 +1,5 @@
-//! Descriptions: the Rust against 01's sentences, and what came up.
+//! Descriptions: the Rust against 01's sentences, and what came up. One in which a look-up goes by 02's second rule is
+//! set aside as a whole: 01's and 02's sentences answer it alone.
 
 use crate::{
     answer::{Answer, Query, Text},
@@ -9,20 +10,29 @@ use crate::{
     generate::{Case, Size, generate},
     judge::judge,
     library::Library,
-    notation,
+    logs, notation,
     random::{self, Random},
     records::{RECORD, SIGNED, read},
     shrink::shrunk,
     text_form::text_form,
-    tree::Rec,
+    tree::{self, Place, Rec, walk},
     whole::{self, Due},
 };
 
-/// A case with the Rust's answers.
+/// A case with what 01's sentences give, and the answers that are due: the Rust's, or where the case is set aside
+/// those of the sentences.
 pub struct Judged {
     pub case: Case,
+    pub by_01: Lowered,
     pub answer: Answer,
     pub queries: Vec<Query>,
+}
+
+impl Judged {
+    /// Whether the case is set aside: the Rust does not have 02's second rule.
+    pub fn is_aside(&self) -> bool {
+        self.by_01.is_short()
+    }
 }
 
 /// The size of a case by its number: mostly small, some middle, few at the limits.
@@ -39,8 +49,20 @@ pub fn judged(seed: u64, size: Size, level: u32, most_queries: usize) -> Judged 
 }
 
 pub fn judged_case(case: Case, most_queries: usize) -> Judged {
-    let (answer, queries) = judged_tree(&case.top, case.records.level, case.look, most_queries);
-    Judged { case, answer, queries }
+    let by_01 = by_01::lower::lower(&case.top, case.records.level);
+    let (answer, queries) = if by_01.is_short() {
+        let paths = query_paths(&by_01.answer, most_queries);
+        let queries = logs::rust::queries(&by_01.answer.definitions, paths);
+        (by_01.answer.clone(), queries)
+    } else {
+        by_the_rust(&case, most_queries)
+    };
+    Judged { case, by_01, answer, queries }
+}
+
+/// A known description at a level, and the answers that are due.
+pub fn judged_tree(top: &[Rec], level: u32, most_queries: usize) -> Judged {
+    judged_case(Case::known(top.to_vec(), level), most_queries)
 }
 
 /// How many diagnostics follow 01's rule in the Rust's stead.
@@ -48,9 +70,19 @@ pub fn by_rule(answer: &Answer) -> u64 {
     answer.lowering.iter().filter(|found| matches!(found.code, 9 | 24..=26)).count() as u64
 }
 
-/// The Rust's answers to a description at a level and to queries on it.
-pub fn judged_tree(top: &[Rec], level: u32, look: u64, most_queries: usize) -> (Answer, Vec<Query>) {
-    judge(&crate_tree(top, level, look), |answer| query_paths(answer, most_queries))
+/// The Rust's answers to a description and to queries on it, whatever looks paths up in it.
+pub fn by_the_rust(case: &Case, most_queries: usize) -> (Answer, Vec<Query>) {
+    let tree = crate_tree(&case.top, case.records.level, case.look);
+    judge(&tree, |answer| query_paths(answer, most_queries))
+}
+
+/// Whether a name holds @, by a unit address or by itself.
+fn has_at(top: &[Rec]) -> bool {
+    let mut found = false;
+    walk(top, Place::TopItem, 1, &mut |rec, _, _| {
+        found |= rec.kind == tree::UNIT_ADDRESS || rec.kind == tree::NAME && rec.text.contains(&b'@');
+    });
+    found
 }
 
 /// Paths to ask for: "", "/", those of the log and of the bindings, those above and near them.
@@ -73,12 +105,14 @@ fn query_paths(answer: &Answer, most: usize) -> Vec<Text> {
     asked
 }
 
-/// What a comparison counted: descriptions, those on which 01's sentences and the Rust differ, and
-/// those on which a side and the Rust do.
+/// What a comparison counted: descriptions, those on which 01's sentences and the Rust differ, those set aside as a
+/// whole, those in which no name holds @, and those on which a side differs from what is due.
 #[derive(Default)]
 pub struct Counts {
     pub compared: u64,
     pub different: u64,
+    pub aside: u64,
+    pub without_at: u64,
     pub lowered: u64,
     pub lowered_different: u64,
     pub by_rule: u64,
@@ -87,21 +121,23 @@ pub struct Counts {
 }
 
 impl Counts {
-    /// As a part of a run: each description is compared with 01's sentences and with the side.
+    /// As a part of a run: each description is compared with the side, and with 01's sentences unless it is set aside.
     pub fn total(&self) -> counts::Counts {
         counts::Counts {
             compared: self.compared + self.lowered,
             different: self.different + self.lowered_different,
-            aside: self.by_rule,
+            aside: self.by_rule + self.aside,
         }
     }
 
     pub fn line(&self) -> String {
-        let Self { compared, different, lowered, lowered_different, by_rule, records, queries } = self;
+        let Self { compared, different, aside, without_at, lowered, lowered_different, .. } = self;
+        let Self { by_rule, records, queries, .. } = self;
         format!(
             "{compared} descriptions with {records} records and {queries} queries, {different} different; \
              {by_rule} diagnostics by 01's rule (codes 9, 24 to 26)\n\
-             {lowered} of them lowered by ours, {lowered_different} different"
+             {aside} more set aside as a whole for a short path (02, request 5), none of {without_at} where no name holds @\n\
+             {lowered} of all lowered by ours, {lowered_different} different"
         )
     }
 }
@@ -111,37 +147,48 @@ pub fn compare(side: &Library, from: u64, cases: u64, coverage: &mut Coverage) -
     let mut counts = Counts::default();
     for seed in random::seeds(from, cases) {
         let judged = judged(seed, size_of_case(seed), SIGNED, 40);
-        let by_01 = compare_judged(side, seed, &judged, &mut counts);
-        coverage.note(&judged, &by_01);
+        compare_judged(side, seed, &judged, &mut counts);
+        if !judged.is_aside() {
+            coverage.note(&judged);
+        }
     }
     counts
 }
 
-/// Compares the Rust's answer to a description with 01's sentences, which it gives, and with a side.
-pub fn compare_judged(side: &Library, seed: u64, judged: &Judged, counts: &mut Counts) -> Lowered {
-    let Judged { case, answer, queries } = judged;
+/// Compares what is due for a description with 01's sentences and with a side.
+pub fn compare_judged(side: &Library, seed: u64, judged: &Judged, counts: &mut Counts) {
+    let Judged { case, by_01, answer, queries } = judged;
     assert_eq!(read(&case.records), case.top, "seed {seed}: records and tree differ");
     assert_eq!(by_01::rows::refusal(&case.records), None, "seed {seed}: refused");
-    let by_01 = by_01::lower::lower(&case.top, case.records.level);
-    let queries_by_01 = queries_by_01(&by_01.answer, queries);
-    counts.compared += 1;
-    counts.by_rule += by_rule(answer);
-    counts.queries += 3 * queries.len() as u64;
-    counts.records += (case.records.words.len() / RECORD) as u64;
-    if (&by_01.answer, &queries_by_01) != (answer, queries) {
+    counted(seed, judged, counts);
+    if (&by_01.answer, &queries_by_01(&by_01.answer, queries)) != (answer, queries) {
         counts.different += 1;
         if counts.different <= 3 {
             show_difference(seed, case);
         }
     }
-    compare_side(side, seed, judged, &by_01, counts);
-    by_01
+    compare_side(side, seed, judged, counts);
 }
 
-/// Compares a side with the Rust, and counts it.
-fn compare_side(side: &Library, seed: u64, judged: &Judged, by_01: &Lowered, counts: &mut Counts) {
+/// Counts a description. Where no name holds @, none may be set aside.
+fn counted(seed: u64, judged: &Judged, counts: &mut Counts) {
+    let Judged { case, answer, queries, .. } = judged;
+    counts.without_at += u64::from(!has_at(&case.top));
+    if judged.is_aside() {
+        assert!(has_at(&case.top), "seed {seed}: set aside though no name holds @");
+        counts.aside += 1;
+        return;
+    }
+    counts.compared += 1;
+    counts.by_rule += by_rule(answer);
+    counts.queries += 3 * queries.len() as u64;
+    counts.records += (case.records.words.len() / RECORD) as u64;
+}
+
+/// Compares a side with what is due, and counts it.
+fn compare_side(side: &Library, seed: u64, judged: &Judged, counts: &mut Counts) {
     counts.lowered += 1;
-    if let Err(fault) = whole_side(side, seed, judged, by_01) {
+    if let Err(fault) = whole_side(side, seed, judged) {
         counts.lowered_different += 1;
         if counts.lowered_different <= 3 {
             println!("seed {seed}: {fault}");
@@ -153,17 +200,16 @@ fn compare_side(side: &Library, seed: u64, judged: &Judged, by_01: &Lowered, cou
     }
 }
 
-/// Where a side differs from the Rust; row 7's counts are by 01.
-pub fn whole_side(side: &Library, seed: u64, judged: &Judged, by_01: &Lowered) -> Result<(), String> {
-    let made = (by_01.records, by_01.bytes);
+/// Where a side differs from what is due; row 7's counts are by 01.
+pub fn whole_side(side: &Library, seed: u64, judged: &Judged) -> Result<(), String> {
+    let made = (judged.by_01.records, judged.by_01.bytes);
     let due = Due { records: &judged.case.records, answer: &judged.answer, made };
     whole::compare(side, &due, &judged.queries, &mut Random::new(seed))
 }
 
-/// Where a side differs from the Rust on a description that is written plainly.
+/// Where a side differs from what is due for a description that is written plainly.
 pub fn fault_of(side: &Library, top: &[Rec], level: u32) -> Option<String> {
-    let judged = judged_case(Case::known(top.to_vec(), level), 40);
-    whole_side(side, 0, &judged, &by_01::lower::lower(top, level)).err()
+    whole_side(side, 0, &judged_tree(top, level, 40)).err()
 }
 
 fn queries_by_01(answer: &Answer, asked: &[Query]) -> Vec<Query> {
@@ -173,7 +219,10 @@ fn queries_by_01(answer: &Answer, asked: &[Query]) -> Vec<Query> {
 /// Shows the lines that differ, and a smaller description with a difference.
 fn show_difference(seed: u64, case: &Case) {
     println!("seed {seed}: 01's sentences and the Rust differ");
-    let difference = |top: &[Rec]| difference(top, case.records.level, case.look);
+    let difference = |top: &[Rec]| {
+        let known = Case::known(top.to_vec(), case.records.level);
+        difference(&judged_case(Case { look: case.look, ..known }, 40))
+    };
     let smaller = shrunk(case.top.clone(), &|top| !difference(top).is_empty());
     println!("  {}", notation::written(&smaller));
     for (by_01, rust) in difference(&smaller).iter().take(5) {
@@ -181,12 +230,11 @@ fn show_difference(seed: u64, case: &Case) {
     }
 }
 
-/// The lines of the text form in which 01's sentences and the Rust differ.
-pub fn difference(top: &[Rec], level: u32, look: u64) -> Vec<(String, String)> {
-    let (answer, queries) = judged_tree(top, level, look, 40);
-    let by_01 = by_01::lower::lower(top, level).answer;
-    let by_01 = text_form(&by_01, &queries_by_01(&by_01, &queries));
-    let rust = text_form(&answer, &queries);
+/// The lines of the text form in which 01's sentences and what is due differ.
+pub fn difference(judged: &Judged) -> Vec<(String, String)> {
+    let Judged { by_01: Lowered { answer: by_01, .. }, answer, queries, .. } = judged;
+    let by_01 = text_form(by_01, &queries_by_01(by_01, queries));
+    let rust = text_form(answer, queries);
     let (mut by_01, mut rust) = (by_01.lines(), rust.lines());
     let mut found = Vec::new();
     loop {

@@ -5,13 +5,16 @@ use std::collections::BTreeMap;
 use super::{expressions, numbers, paths::join, post, queries, values};
 use crate::{
     answer::{Answer, Binding, Cell, Definition, Diagnosis, Extension, Target, Text, Value},
-    by_02::level_2,
+    by_02::{
+        level_2,
+        short_paths::{By, Look, Rules},
+    },
     records::UNSIGNED,
     tree::{self, Rec, Span},
 };
 
-/// What lowering gives, row 7's counts, which things came up how often, and the expression cells that
-/// were evaluated, with their widths.
+/// What lowering gives, row 7's counts, which things came up how often, the expression cells that were
+/// evaluated, with their widths, and the paths that were looked up.
 #[derive(Default)]
 pub struct Lowered {
     pub answer: Answer,
@@ -19,6 +22,14 @@ pub struct Lowered {
     pub bytes: u64,
     pub events: BTreeMap<&'static str, u64>,
     pub cells: Vec<(u32, Rec)>,
+    pub looks: Vec<Look>,
+}
+
+impl Lowered {
+    /// Whether a look-up went by 02's second rule, taken or 29: docs/src answers such a description otherwise.
+    pub fn is_short(&self) -> bool {
+        self.looks.iter().any(Look::is_short)
+    }
 }
 
 /// Things that lowering can meet; each is to come up.
@@ -68,13 +79,18 @@ struct Log {
 
 /// Lowers a description's top items at a level and runs the post checks.
 pub fn lower(top: &[Rec], level: u32) -> Lowered {
-    let mut state = State { level, ..State::default() };
+    lower_by(Rules::default(), top, level)
+}
+
+/// The same by other rules for finding nodes.
+pub fn lower_by(rules: Rules, top: &[Rec], level: u32) -> Lowered {
+    let mut state = State { level, rules, ..State::default() };
     let mut log = Log::default();
     state.made(1, &[]);
     for item in top {
         state.item(&mut log, b"", item);
     }
-    let post = post::post_checks(&log.definitions, &state.bindings);
+    let post = post::post_checks(&log.definitions, &state.bindings, rules, &mut state.looks);
     for diagnosis in &post {
         state.made(1, &[&diagnosis.text]);
     }
@@ -90,18 +106,21 @@ pub fn lower(top: &[Rec], level: u32) -> Lowered {
         bytes: state.bytes,
         events: state.events,
         cells: state.cells,
+        looks: state.looks,
     }
 }
 
 #[derive(Default)]
 struct State {
     level: u32,
+    rules: Rules,
     bindings: Vec<Binding>,
     diagnostics: Vec<Diagnosis>,
     records: u64,
     bytes: u64,
     events: BTreeMap<&'static str, u64>,
     cells: Vec<(u32, Rec)>,
+    looks: Vec<Look>,
 }
 
 impl State {
@@ -188,9 +207,10 @@ impl State {
         (!label.is_empty()).then_some(Target { form: 1, label, path: Vec::new() })
     }
 
-    /// The path a reference leads to; if none, 3 or 4 unless the log in hand is an overlay's.
-    fn resolve(&mut self, log: &Log, target: &Target, span: Span) -> Option<Text> {
-        let found = post::resolve(&log.definitions, &self.bindings, target);
+    /// The path a reference leads to; if none, 3, 4 or 29 unless the log in hand is an overlay's.
+    fn resolve(&mut self, log: &Log, target: &Target, span: Span, by: By) -> Option<Text> {
+        let (found, look) = post::resolve(&log.definitions, &self.bindings, target, self.rules);
+        self.looks.extend(look.map(|look| Look { by, own_body: log.depth > 0, ..look }));
         self.event(match (target.form, &found) {
             (1, Ok(_)) => "label found",
             (2, Ok(_)) => "label and path found",
@@ -211,7 +231,7 @@ impl State {
                 Some(path)
             }
             Err((code, text)) => {
-                if !queries::has_plugin(&log.definitions) {
+                if !queries::has_plugin(&log.definitions) || (self.rules.in_overlay)(code) {
                     self.report(code, &text, span);
                 }
                 None
@@ -261,7 +281,7 @@ impl State {
         let Some(target) = self.reference(reference) else {
             return self.event("reference unreadable");
         };
-        if let Some(path) = self.resolve(log, &target, reference.span) {
+        if let Some(path) = self.resolve(log, &target, reference.span, By::Reopening) {
             return self.defined_node(log, &path, node);
         }
         let mut body = self.body(log, node);
@@ -360,7 +380,7 @@ impl State {
     fn deleted_node(&mut self, log: &Log, parent: &[u8], directive: &Rec) -> Option<Text> {
         if let Some(name) = self.full_name(directive) {
             self.event("node deleted by name");
-            let path = join(parent, &name);
+            let path = (self.rules.named)(&log.definitions, join(parent, &name));
             if !queries::contains_node(&log.definitions, &path) {
                 self.event("deletion of a node that is not there");
                 if queries::live(&log.definitions, &path)
@@ -374,7 +394,7 @@ impl State {
         }
         let reference = directive.first(tree::REFERENCE)?;
         let target = self.reference(reference)?;
-        let path = self.resolve(log, &target, reference.span);
+        let path = self.resolve(log, &target, reference.span, By::Deletion);
         self.event(match &path {
             Some(_) => "node deleted by reference",
             None if queries::has_plugin(&log.definitions) => "deletion by reference not found in an overlay",

@@ -1,13 +1,28 @@
 //! The post checks: labels, references, directives.
 
 use super::{paths::join, queries};
-use crate::answer::{Binding, Cell, Definition, Diagnosis, Target, Value};
+use crate::{
+    answer::{Binding, Cell, Definition, Diagnosis, Target, Text, Value},
+    by_02::short_paths::{By, Found, Look, Rules, SEVERAL, beside},
+};
 
-pub fn post_checks(log: &[Definition], bindings: &[Binding]) -> Vec<Diagnosis> {
+/// What the post checks report; the paths that they look up are put to the others.
+pub fn post_checks(
+    log: &[Definition],
+    bindings: &[Binding],
+    rules: Rules,
+    looks: &mut Vec<Look>,
+) -> Vec<Diagnosis> {
     let mut found = Vec::new();
     labels(bindings, &mut found);
     if !queries::has_plugin(log) {
-        references(log, bindings, &mut found);
+        for (target, property) in references(log) {
+            let (resolved, look) = resolve(log, bindings, target, rules);
+            looks.extend(look);
+            if let Err((code, text)) = resolved {
+                found.push(Diagnosis { code, text, span: property.name_span, earlier: (0, 0) });
+            }
+        }
     }
     directives(log, &mut found);
     found
@@ -34,43 +49,54 @@ fn labels(bindings: &[Binding], found: &mut Vec<Diagnosis>) {
     }
 }
 
-/// References of live properties, latest property first.
-fn references(log: &[Definition], bindings: &[Binding], found: &mut Vec<Diagnosis>) {
+/// References of live properties, latest property first, each with its property.
+fn references(log: &[Definition]) -> Vec<(&Target, &Definition)> {
+    let mut found = Vec::new();
     for place in queries::live(log, b"") {
         let property = &log[place];
         for value in &property.values {
-            let targets: Vec<&Target> = match value {
-                Value::Reference(target) => vec![target],
-                Value::Cells(_, cells) => cells
-                    .iter()
-                    .filter_map(|cell| match cell {
-                        Cell::Reference(target) => Some(target),
-                        Cell::Number(_) => None,
-                    })
-                    .collect(),
-                _ => Vec::new(),
-            };
-            for target in targets {
-                if let Err((code, text)) = resolve(log, bindings, target) {
-                    found.push(Diagnosis { code, text, span: property.name_span, earlier: (0, 0) });
-                }
+            match value {
+                Value::Reference(target) => found.push((target, property)),
+                Value::Cells(_, cells) => found.extend(cells.iter().filter_map(|cell| match cell {
+                    Cell::Reference(target) => Some((target, property)),
+                    Cell::Number(_) => None,
+                })),
+                _ => {}
             }
         }
     }
+    found
 }
 
-/// The path a reference names, or code 3 with the label or 4 with the path.
-///
-/// A label needs a remaining binding; a path, or label and path, a live node in the log.
-pub fn resolve(log: &[Definition], bindings: &[Binding], target: &Target) -> Result<Vec<u8>, (u32, Vec<u8>)> {
+/// The path a reference leads to, or code 3 with the label, 4 or 29 with the path.
+type Resolved = Result<Text, (u32, Text)>;
+
+/// Resolves a reference: a label needs a remaining binding; a path, or label and path, is looked up in the log.
+/// The look-up, if there is one, is told as a post check's.
+pub fn resolve(
+    log: &[Definition],
+    bindings: &[Binding],
+    target: &Target,
+    rules: Rules,
+) -> (Resolved, Option<Look>) {
     let bound = bindings.iter().find(|binding| binding.label == target.label).map(|binding| &binding.path);
-    let path = match (target.form, bound) {
-        (3, _) => target.path.clone(),
-        (_, None) => return Err((3, target.label.clone())),
-        (1, Some(path)) => return Ok(path.clone()),
-        (_, Some(base)) => join(base, &target.path),
+    let (front, path) = match (target.form, bound) {
+        (3, _) => (None, target.path.clone()),
+        (_, None) => return (Err((3, target.label.clone())), None),
+        (1, Some(path)) => return (Ok(path.clone()), None),
+        (_, Some(base)) => (Some(base), join(base, &target.path)),
     };
-    if queries::contains_node(log, &path) { Ok(path) } else { Err((4, path)) }
+    let found = (rules.look_up)(log, front.map(Vec::as_slice), &path);
+    let resolved = match &found {
+        Found::Exact => Ok(path.clone()),
+        Found::Short(full) => Ok(full.clone()),
+        Found::Several => Err((SEVERAL, path.clone())),
+        Found::Nothing => Err((4, path.clone())),
+    };
+    let beside = beside(log, &path, &found);
+    let (front, overlay) = (front.cloned(), queries::has_plugin(log));
+    let look = Look { by: By::PostCheck, own_body: false, overlay, front, path, found, beside };
+    (resolved, Some(look))
 }
 
 /// 23 once, for a definition before any version directive of the header; 21 for each version

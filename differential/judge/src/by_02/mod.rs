@@ -1,3 +1,4 @@
 //! 02's sentences where they add to 01's, not taken from our sources.
 
 pub mod level_2;
+pub mod short_paths;

@@ -10,7 +10,7 @@ use std::{
 
 use crate::{
     answer::Query,
-    by_01::{self, lower::Lowered, rows::Refusal},
+    by_01::{self, rows::Refusal},
     coverage::{Coverage, FULL_TEXT},
     generate::{Case, Size},
     levels::{self, has_expression},
@@ -57,7 +57,6 @@ fn used() -> impl Iterator<Item = &'static str> {
 struct Sample {
     about: String,
     judged: Judged,
-    by_01: Lowered,
     /// A description that rows 1 to 6 refuse, made from it, and the refusal.
     damaged: Option<(Records, Refusal)>,
 }
@@ -174,18 +173,17 @@ fn is_small(records: &Records) -> bool {
 
 /// A description with what it shows.
 fn noted(about: String, judged: Judged) -> (Sample, Vec<String>) {
-    let by_01 = by_01::lower::lower(&judged.case.top, judged.case.records.level);
     let mut coverage = Coverage::empty();
-    note(&judged, &by_01, &mut coverage);
+    note(&judged, &mut coverage);
     let features = coverage.features().cloned().collect();
-    (Sample { about, judged, by_01, damaged: None }, features)
+    (Sample { about, judged, damaged: None }, features)
 }
 
 /// Notes what a description shows, by the list of its level.
-fn note(judged: &Judged, by_01: &Lowered, coverage: &mut Coverage) {
+fn note(judged: &Judged, coverage: &mut Coverage) {
     match judged.case.records.level {
-        UNSIGNED => levels::note(judged, by_01, coverage),
-        _ => coverage.note(judged, by_01),
+        UNSIGNED => levels::note(judged, coverage),
+        _ => coverage.note(judged),
     }
 }
 
@@ -194,7 +192,7 @@ fn missing(samples: &[Sample]) -> Vec<String> {
     let mut missing = Vec::new();
     for (level, mut coverage) in [(SIGNED, Coverage::of_descriptions()), (UNSIGNED, levels::wanted())] {
         for sample in samples.iter().filter(|sample| sample.judged.case.records.level == level) {
-            note(&sample.judged, &sample.by_01, &mut coverage);
+            note(&sample.judged, &mut coverage);
         }
         let never = coverage.report().1.into_iter().filter(|feature| !LIMITS.contains(feature));
         missing.extend(never.map(|feature| format!("{feature} at level {level}")));

@@ -59,7 +59,7 @@ impl File {
     }
 
     pub fn sample(&mut self, number: usize, sample: &Sample) {
-        let Sample { about, judged, by_01, damaged } = sample;
+        let Sample { about, judged, damaged } = sample;
         let at = format!("{number:03}");
         let Records { words, text: bytes, level } = &judged.case.records;
         let _ =
@@ -75,7 +75,7 @@ impl File {
             self.theorem(&format!("refused-{at}"), &left, &format!("refused {cause} {returned}"));
         }
         let state = format!("meaning {level} words-{at} text-{at}");
-        self.answer(&at, &state, &judged.answer, by_01);
+        self.answer(&at, &state, &judged.answer, &judged.by_01);
         self.queries(&at, &state, &judged.queries);
     }
 

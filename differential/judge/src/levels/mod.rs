@@ -8,7 +8,7 @@ pub use wanted::{note, wanted};
 
 use crate::{
     answer::Answer,
-    by_01::{self, lower::Lowered},
+    by_01::lower::Lowered,
     counts,
     coverage::Coverage,
     library::Library,
@@ -26,6 +26,8 @@ use crate::{
 pub struct Counts {
     pub with: trees::Counts,
     pub without: u64,
+    /// Of these, set aside as a whole for a short path.
+    pub aside: u64,
     pub not_alike: u64,
     /// Answers with a code that level 2 never gives.
     pub never: u64,
@@ -34,13 +36,15 @@ pub struct Counts {
 impl Counts {
     /// As a part of a run.
     pub fn total(&self) -> counts::Counts {
-        self.with.total() + counts::Counts::of(self.without, self.not_alike + self.never)
+        let without = counts::Counts::of(self.without, self.not_alike + self.never);
+        self.with.total() + counts::Counts { aside: self.aside, ..without }
     }
 
     pub fn line(&self) -> String {
-        let Self { with, without, not_alike, never } = self;
+        let Self { with, without, aside, not_alike, never } = self;
         format!(
-            "with an expression cell: {}\n{without} without one lowered by ours at both levels, {not_alike} not alike\n\
+            "with an expression cell: {}\n{without} without one lowered by ours at both levels, {not_alike} not alike, \
+             {aside} of them set aside\n\
              {never} answers with code 19 or 24",
             with.line()
         )
@@ -63,14 +67,15 @@ pub fn compare(side: &Library, from: u64, cases: u64, coverage: &mut Coverage) -
         }
         let judged = judged(seed, size_of_case(seed), UNSIGNED, 40);
         if has_expression(&judged.case.top) {
-            let by_01 = trees::compare_judged(side, seed, &judged, &mut counts.with);
-            note(&judged, &by_01, coverage);
+            trees::compare_judged(side, seed, &judged, &mut counts.with);
+            note(&judged, coverage);
             if has_signed_code(&judged.answer) {
                 counts.never += 1;
                 println!("seed {seed}: code 19 or 24 at level 2");
             }
         } else {
             counts.without += 1;
+            counts.aside += u64::from(judged.is_aside());
             if let Err(fault) = alike(side, seed, &judged) {
                 counts.not_alike += 1;
                 if counts.not_alike <= 3 {
@@ -90,11 +95,10 @@ fn has_signed_code(answer: &Answer) -> bool {
 /// Lowers a description without an expression cell at both levels: the Rust's log, and the same in every
 /// word and byte.
 pub fn alike(side: &Library, seed: u64, judged: &Judged) -> Result<(), String> {
-    let Judged { case, answer, .. } = judged;
+    let Judged { case, by_01: Lowered { records, bytes, .. }, answer, .. } = judged;
     let random = &mut Random::new(seed);
-    let Lowered { records, bytes, .. } = by_01::lower::lower(&case.top, UNSIGNED);
-    let due = Due { records: &case.records, answer, made: (records, bytes) };
-    let lent = (records as usize * RECORD + random.below(2 * RECORD), bytes as usize + random.below(9));
+    let due = Due { records: &case.records, answer, made: (*records, *bytes) };
+    let lent = (*records as usize * RECORD + random.below(2 * RECORD), *bytes as usize + random.below(9));
     let (unsigned, _) = whole::lowered(side, &due, lent.0, lent.1)?;
     let mut signed = Room::new(lent.0, lent.1);
     let answer = signed.lower(side.lower, &Records { level: SIGNED, ..case.records.clone() })?;

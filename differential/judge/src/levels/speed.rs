@@ -5,7 +5,6 @@ use std::{cell::RefCell, hint::black_box};
 use dt_tools_lowering::{check, database, lower};
 
 use crate::{
-    by_01,
     crate_tree::crate_tree,
     generate::Case,
     library::Library,
@@ -35,10 +34,9 @@ pub fn run(side: &Library) -> Result<(), String> {
 /// A row; both levels give one log, which is compared first.
 fn row(side: &Library, cells: usize) -> Result<(), String> {
     let [signed, unsigned] = [SIGNED, UNSIGNED].map(|level| judged_case(Case::known(made(cells), level), 0));
-    let by_01 = by_01::lower::lower(&signed.case.top, SIGNED);
-    let made = (by_01.records, by_01.bytes);
+    let made = (signed.by_01.records, signed.by_01.bytes);
     for judged in [&signed, &unsigned] {
-        assert_eq!(judged.answer, by_01.answer, "both levels give one log");
+        assert_eq!(judged.answer, signed.by_01.answer, "both levels give one log");
         let due = Due { records: &judged.case.records, answer: &judged.answer, made };
         whole::lowered(side, &due, made.0 as usize * RECORD, made.1 as usize)?;
     }

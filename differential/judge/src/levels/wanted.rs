@@ -5,7 +5,6 @@ use crate::{
     by_01::{
         self,
         expressions::{self, Outcome},
-        lower::Lowered,
         numbers,
     },
     by_02::level_2,
@@ -84,8 +83,8 @@ fn limits(bits: u32) -> [(String, u64); 4] {
 }
 
 /// Notes a description that was lowered at level 2.
-pub fn note(judged: &Judged, by_01: &Lowered, coverage: &mut Coverage) {
-    for (bits, cell) in &by_01.cells {
+pub fn note(judged: &Judged, coverage: &mut Coverage) {
+    for (bits, cell) in &judged.by_01.cells {
         note_cell(*bits, cell, coverage);
     }
     let same = by_01::lower::lower(&judged.case.top, SIGNED).answer == judged.answer;

@@ -6,7 +6,7 @@ pub mod faults;
 mod known;
 mod layout;
 mod made;
-mod rust;
+pub mod rust;
 pub mod speed;
 
 use asked::Asked;
@@ -18,10 +18,11 @@ use crate::{
     by_01::row_8::{self, Chain, Refusal, Rule},
     counts,
     coverage::Coverage,
+    generate::generate,
     library::Queries,
     random::{self, Random},
     records::SIGNED,
-    trees::{judged, size_of_case},
+    trees::{by_the_rust, size_of_case},
 };
 
 /// What a comparison counted.
@@ -140,7 +141,8 @@ fn returned_for(rule: Rule) -> String {
 /// The log of a seed.
 fn log(seed: u64, random: &mut Random, coverage: &mut Coverage) -> Log {
     let (origin, answer) = if seed.is_multiple_of(2) {
-        ("the Rust's lowering", judged(seed / 2, size_of_case(seed / 2), SIGNED, 0).answer)
+        let case = generate(seed / 2, size_of_case(seed / 2), SIGNED);
+        ("the Rust's lowering", by_the_rust(&case, 0).0)
     } else {
         ("any log", made::made(seed))
     };

@@ -7,7 +7,11 @@ use dt_tools_lowering::{
 };
 
 use super::layout::Log;
-use crate::{answer::Text, judge, output::RECORD};
+use crate::{
+    answer::{Definition, Query, Text},
+    judge,
+    output::RECORD,
+};
 
 /// A log as the Rust has it, and the record numbers of its definitions.
 pub struct RustLog {
@@ -48,6 +52,13 @@ impl RustLog {
     pub fn is_utf_8(&self) -> bool {
         self.utf_8
     }
+}
+
+/// What docs/src answers for paths on a log that it did not lower.
+pub fn queries(log: &[Definition], paths: Vec<Text>) -> Vec<Query> {
+    let mut mir = Mir::default();
+    mir.definitions.extend(log.iter().map(|made| definition(made.kind, shown(&made.path, true))));
+    paths.into_iter().map(|path| judge::query(&mir, &shown(&path, true), path)).collect()
 }
 
 /// The main chain's definitions: number, kind, path.

@@ -9,7 +9,6 @@ mod words;
 mod wrong;
 
 use crate::{
-    by_01,
     coverage::Coverage,
     damaged,
     levels::{alike, has_expression},
@@ -62,7 +61,7 @@ fn lower(records: &Records, words: &mut [u32], bytes: &mut [u8]) -> (u32, u32) {
 /// Compares a side with the Rust on the description of a seed at a level.
 fn compare_judged(side: &Library, seed: u64, level: u32) -> Result<(), String> {
     let judged = judged(seed, size_of_case(seed), level, 3);
-    trees::whole_side(side, seed, &judged, &by_01::lower::lower(&judged.case.top, level))
+    trees::whole_side(side, seed, &judged)
 }
 
 fn first_difference(side: &Library, by: By) -> Option<String> {
