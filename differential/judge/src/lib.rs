@@ -34,6 +34,7 @@ pub mod random;
 pub mod recorded;
 pub mod records;
 pub mod room;
+pub mod short_paths;
 pub mod shrink;
 pub mod small;
 pub mod speed;

@@ -23,7 +23,8 @@ const RECORDED: &str = concat!(env!("CARGO_MANIFEST_DIR"), "/../../crates/replay
 const CRATES: &str = concat!(env!("CARGO_MANIFEST_DIR"), "/../../crates");
 
 const USAGE: &str = "usage: run [all [CASES]] | short | worked FILE | numbers | small | trees FROM CASES
-       | levels [FROM CASES] | damaged [FROM CASES] | pairs [FROM CASES] | queries [FROM LOGS] | planted | speed
+       | levels [FROM CASES] | short-paths [FROM CASES] | damaged [FROM CASES] | pairs [FROM CASES]
+       | queries [FROM LOGS] | planted | speed
        | ask [LEVEL] DESCRIPTION | show SEED | input SEED | write FILE | judge FILE | listing FILE
        | dtc [CASES] | record FOLDER | definitions FOLDER [COUNT] [SEED]";
 
@@ -52,6 +53,8 @@ fn command(words: &[&str]) -> Result<(), String> {
         ["trees", from, cases] => part(parts::descriptions, number(from)?, number(cases)?),
         ["levels"] => part(parts::levels, 0, ALL.levels),
         ["levels", from, cases] => part(parts::levels, number(from)?, number(cases)?),
+        ["short-paths"] => part(parts::short_paths, 0, ALL.short_paths),
+        ["short-paths", from, cases] => part(parts::short_paths, number(from)?, number(cases)?),
         ["damaged"] => part(parts::damaged, 0, ALL.damaged),
         ["damaged", from, cases] => part(parts::damaged, number(from)?, number(cases)?),
         ["pairs"] => part(parts::pairs, 0, ALL.pairs),
@@ -101,6 +104,7 @@ fn parts_of(sizes: &Sizes) -> Result<Counts, String> {
         parts::small(&ours)?,
         parts::descriptions(&ours, 0, sizes.descriptions)?,
         parts::levels(&ours, 0, sizes.levels)?,
+        parts::short_paths(&ours, 0, sizes.short_paths)?,
         parts::damaged(&ours, 0, sizes.damaged)?,
         parts::pairs(&ours, 0, sizes.pairs)?,
         parts::queries(&ours, 0, sizes.logs)?,

@@ -9,7 +9,7 @@ use crate::{
     ours::Leaves,
     pairs, planted,
     records::{SIGNED, UNSIGNED},
-    small,
+    short_paths, small,
     trees::{self, judged, size_of_case},
 };
 
@@ -18,6 +18,8 @@ pub struct Sizes {
     pub descriptions: u64,
     /// Descriptions at level 2 that have an expression cell.
     pub levels: u64,
+    /// Descriptions whose references leave unit addresses out.
+    pub short_paths: u64,
     pub damaged: u64,
     /// Pairs of runs tried, one in two to meet the premises of demand 3.
     pub pairs: u64,
@@ -26,12 +28,24 @@ pub struct Sizes {
 }
 
 /// All of it.
-pub const ALL: Sizes =
-    Sizes { descriptions: 200_000, levels: 100_000, damaged: 100_000, pairs: 40_000, logs: 120_000 };
+pub const ALL: Sizes = Sizes {
+    descriptions: 200_000,
+    levels: 100_000,
+    short_paths: 100_000,
+    damaged: 100_000,
+    pairs: 40_000,
+    logs: 120_000,
+};
 
 /// A run of a minute.
-pub const SHORT: Sizes =
-    Sizes { descriptions: 20_000, levels: 10_000, damaged: 20_000, pairs: 4_000, logs: 12_000 };
+pub const SHORT: Sizes = Sizes {
+    descriptions: 20_000,
+    levels: 10_000,
+    short_paths: 10_000,
+    damaged: 20_000,
+    pairs: 4_000,
+    logs: 12_000,
+};
 
 /// Descriptions of each level for which 01's sentences are compared as a whole side.
 const BY_01: u64 = 4_000;
@@ -89,6 +103,15 @@ pub fn levels(side: &Library, from: u64, cases: u64) -> Result<Counts, String> {
     let mut coverage = levels::wanted();
     let counts = levels::compare(side, from, cases, &mut coverage);
     reported(&coverage, &format!("{cases} cases at level 2"), &counts.line())?;
+    Ok(counts.total())
+}
+
+/// Descriptions whose references leave unit addresses out, with the coverage report.
+pub fn short_paths(side: &Library, from: u64, cases: u64) -> Result<Counts, String> {
+    println!("short paths, 02's sentences and the Rust against our lowering:");
+    let mut coverage = short_paths::wanted();
+    let counts = short_paths::compare(side, from, cases, &mut coverage);
+    reported(&coverage, &format!("{cases} cases of short paths"), &counts.line())?;
     Ok(counts.total())
 }
 

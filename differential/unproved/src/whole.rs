@@ -4,12 +4,12 @@ use judge::{
     coverage::Coverage,
     damaged, levels,
     library::{Library, Queries},
-    logs, pairs, parts, trees,
+    logs, pairs, parts, short_paths, trees,
 };
 
 use crate::definition_log_c::{DlAnswer, dl_contains_node, dl_history, dl_iter_live_defs_under, dl_lower};
 
-/// Compares descriptions at both levels, damaged ones, pairs of runs and queries of lent logs, as many of each; what came
+/// Compares descriptions at both levels, with short paths, damaged ones, pairs of runs and queries of lent logs, as many of each; what came
 /// up is not counted.
 pub fn compare(from: u64, cases: u64) -> Result<(), String> {
     let (side, coverage) = (library(), &mut Coverage::empty());
@@ -18,6 +18,8 @@ pub fn compare(from: u64, cases: u64) -> Result<(), String> {
     println!("{}", lowered.line());
     let levels = levels::compare(&side, from, cases, coverage);
     println!("{}", levels.line());
+    let short_paths = short_paths::compare(&side, from, cases, coverage);
+    println!("{}", short_paths.line());
     let damaged = damaged::compare(&side, from, cases, coverage);
     println!("{}", damaged.line());
     let limits = parts::limits(&side);
@@ -25,8 +27,8 @@ pub fn compare(from: u64, cases: u64) -> Result<(), String> {
     println!("{}", pairs.line());
     let queries = logs::compare(&side.queries, from, cases, coverage);
     println!("{}", queries.line());
-    (small + lowered.total() + levels.total() + damaged.total() + limits + pairs.total() + queries.total())
-        .closing()
+    let lowered = lowered.total() + levels.total() + short_paths.total();
+    (small + lowered + damaged.total() + limits + pairs.total() + queries.total()).closing()
 }
 
 fn read(answer: DlAnswer) -> (u32, u32) {

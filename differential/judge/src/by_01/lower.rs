@@ -7,7 +7,7 @@ use crate::{
     answer::{Answer, Binding, Cell, Definition, Diagnosis, Extension, Target, Text, Value},
     by_02::{
         level_2,
-        short_paths::{By, Look, Rules},
+        short_paths::{By, Found, Look, Rules, look_up},
     },
     records::UNSIGNED,
     tree::{self, Rec, Span},
@@ -33,7 +33,7 @@ impl Lowered {
 }
 
 /// Things that lowering can meet; each is to come up.
-pub const EVENTS: [&str; 32] = [
+pub const EVENTS: [&str; 33] = [
     "label found",
     "label and path found",
     "path found",
@@ -66,6 +66,7 @@ pub const EVENTS: [&str; 32] = [
     "name that wins over a slash",
     "root by a slash beside a name that fails",
     "deletion of a node that is not there above live ones",
+    "deletion by name where a short path would match",
 ];
 
 /// A log in hand.
@@ -383,6 +384,9 @@ impl State {
             let path = (self.rules.named)(&log.definitions, join(parent, &name));
             if !queries::contains_node(&log.definitions, &path) {
                 self.event("deletion of a node that is not there");
+                if look_up(&log.definitions, &path) != Found::Nothing {
+                    self.event("deletion by name where a short path would match");
+                }
                 if queries::live(&log.definitions, &path)
                     .iter()
                     .any(|place| log.definitions[*place].kind == 1)

@@ -133,12 +133,13 @@ pub fn components(path: &[u8]) -> Vec<&[u8]> {
 }
 
 /// What a log may have beside a look-up: for the report.
-pub const BESIDE: [&str; 5] = [
+pub const BESIDE: [&str; 6] = [
     "one path with several live definitions",
     "a match that is not live",
     "a longer name that is no match",
     "the exact node beside another match",
     "a path that has not row 9's form but would match",
+    "a live property that would match, and no node",
 ];
 
 /// Which of these a log has.
@@ -150,6 +151,8 @@ pub fn beside(log: &[Definition], path: &[u8], found: &Found) -> [bool; BESIDE.l
     let matches = || nodes().map(|place| &log[place].path).filter(|full| path_matches(path, full));
     let begins = |full: &[u8]| components_match(path, full, |component, full| full.starts_with(component));
     let longer = |full: &[u8]| begins(full) && !path_matches(path, full) && live(full);
+    let property =
+        |place: usize| log[place].kind == 2 && path_matches(path, &log[place].path) && is_live(log, place);
     let is_short = is_path(path) && path.len() > 1;
     let exact = *found == Found::Exact;
     [
@@ -158,5 +161,6 @@ pub fn beside(log: &[Definition], path: &[u8], found: &Found) -> [bool; BESIDE.l
         is_short && !exact && nodes().any(|place| longer(&log[place].path)),
         exact && matches().any(|full| full != path && live(full)),
         !is_path(path) && matches().any(|full| live(full)),
+        is_short && *found == Found::Nothing && (0..log.len()).any(property),
     ]
 }

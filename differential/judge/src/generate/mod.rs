@@ -4,6 +4,7 @@
 //! another, deleted and added again, labels bound twice, references found and not found.
 
 mod nodes;
+mod short;
 mod unsigned;
 mod values;
 
@@ -49,9 +50,18 @@ pub struct Case {
 
 /// The description of a seed at a level: the levels have expressions of their own.
 pub fn generate(seed: u64, size: Size, level: u32) -> Case {
+    made(seed, size, level, false)
+}
+
+/// The same with names that have unit addresses, and references that leave them out.
+pub fn generate_short(seed: u64, size: Size, level: u32) -> Case {
+    made(seed, size, level, true)
+}
+
+fn made(seed: u64, size: Size, level: u32, short: bool) -> Case {
     let mut random = Random::new(seed);
     loop {
-        let top = tree_of(&mut random, size, level);
+        let top = tree_of(&mut random, size, level, short);
         let order = random.pick(&[Order::Down, Order::Across, Order::Any]);
         let layout = Layout { order, shared: random.once_in(2), noise: random.once_in(3) };
         let mut records = records::write(&top, level, layout, &mut random);
@@ -67,13 +77,14 @@ pub fn generate(seed: u64, size: Size, level: u32) -> Case {
     }
 }
 
-fn tree_of(random: &mut Random, size: Size, level: u32) -> Vec<Rec> {
+fn tree_of(random: &mut Random, size: Size, level: u32, short: bool) -> Vec<Rec> {
     let deep = random.once_in(match size {
         Size::Small => 16,
         Size::Middle => 4,
         Size::Limit => 2,
     });
     let room = match size {
+        Size::Small if short => 30 + random.below(50),
         Size::Small => 4 + random.below(60),
         Size::Middle => 64 + random.below(400),
         Size::Limit if deep => 300 + random.below(1748),
@@ -93,6 +104,9 @@ fn tree_of(random: &mut Random, size: Size, level: u32) -> Vec<Rec> {
         overlay,
         place: 0,
         paths: Vec::new(),
+        short,
+        meant: None,
+        bound: Vec::new(),
     };
     maker.top(room)
 }
@@ -111,6 +125,12 @@ struct Maker {
     place: u32,
     /// Paths of nodes made by name.
     paths: Vec<String>,
+    /// Names have unit addresses that references leave out.
+    short: bool,
+    /// The path that the last such reference means.
+    meant: Option<String>,
+    /// Labels of nodes with their paths.
+    bound: Vec<(String, String)>,
 }
 
 impl Maker {
@@ -122,8 +142,12 @@ impl Maker {
                 top.push(self.directive(2, 1));
             }
         }
+        if self.short {
+            top.push(self.racks());
+        }
         while self.room > 0 {
-            top.push(self.item("", 1));
+            let own_body = self.short && self.random.once_in(8);
+            top.push(if own_body { self.own_body() } else { self.item("", 1) });
         }
         // What is too much goes; what is missing at the limit is filled up.
         while tree::count(&top) > room {
@@ -171,6 +195,9 @@ impl Maker {
     fn name(&mut self) -> String {
         if self.random.once_in(400) {
             return "n".repeat(1 + self.random.below(2000));
+        }
+        if self.short {
+            return self.addressed();
         }
         let end = self.names.min(NAMES.len());
         NAMES[self.random.below(end)].to_owned()

@@ -21,8 +21,10 @@ impl Maker {
             node.child.push(label);
         }
         let forms: &[usize] = match (parent.is_empty(), self.deep) {
+            (true, false) if self.short => &[4, 1, 12, 1, 1],
             (true, false) => &[9, 2, 8, 1, 1],
             (true, true) => &[9, 0, 2, 0, 0],
+            (false, false) if self.short => &[1, 14, 8, 1, 1],
             (false, false) => &[1, 14, 4, 1, 1],
             (false, true) => &[0, 120, 2, 1, 0],
         };
@@ -31,6 +33,11 @@ impl Maker {
             0 => {
                 node.child.push(self.rec(tree::SLASH));
                 path = "/".to_owned();
+            }
+            1 if self.short => {
+                let name = self.name();
+                path = format!("{}/{name}", parent.trim_end_matches('/'));
+                node.child.extend(self.addressed_parts(&name));
             }
             1 => {
                 let name = self.name();
@@ -45,8 +52,10 @@ impl Maker {
                 }
             }
             2 => {
+                self.meant = None;
                 let reference = self.reference(below);
                 node.child.push(reference);
+                path = self.meant.take().unwrap_or(path);
             }
             3 => {}
             _ => self.any_parts(&mut node, Place::NodePart, below),
@@ -60,6 +69,9 @@ impl Maker {
         self.shuffle(&mut node.child);
         if self.paths.len() < 50 {
             self.paths.push(path.clone());
+        }
+        if self.short {
+            self.bind(&node, &path);
         }
         if self.overlay && self.random.once_in(6) {
             self.overlay_body(&mut node, &path, below);
@@ -128,7 +140,7 @@ impl Maker {
         }
     }
 
-    fn label(&mut self, depth: u32) -> Rec {
+    pub(super) fn label(&mut self, depth: u32) -> Rec {
         let mut label = self.rec(tree::LABEL);
         let end = if self.random.once_in(8) { LABELS.len() } else { 3 };
         let name = LABELS[self.random.below(end)];
@@ -169,7 +181,8 @@ impl Maker {
     }
 
     pub(super) fn reference(&mut self, depth: u32) -> Rec {
-        let mut reference = if self.random.once_in(2) {
+        let by_label = self.random.once_in(if self.short { 4 } else { 2 });
+        let mut reference = if by_label {
             let end = if self.random.once_in(4) { LABELS.len() } else { 3 };
             let label = if self.random.once_in(16) { "" } else { LABELS[self.random.below(end)] };
             self.text(tree::REFERENCE, label)
@@ -187,6 +200,9 @@ impl Maker {
     }
 
     fn raw(&mut self) -> String {
+        if self.short && !self.random.once_in(8) {
+            return self.short_raw();
+        }
         match self.random.weighted(&[5, 3, 5, 2]) {
             0 if !self.paths.is_empty() => {
                 let at = self.random.below(self.paths.len());

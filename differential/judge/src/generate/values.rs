@@ -158,7 +158,8 @@ impl Maker {
     }
 
     fn value(&mut self, depth: u32) -> Rec {
-        match self.random.weighted(&[1, 1, 6, 1, 4, 14, 3]) {
+        let references = if self.short { 24 } else { 6 };
+        match self.random.weighted(&[1, 1, references, 1, 4, 14, 3]) {
             0 => {
                 let w = 1 + self.random.below(6);
                 self.directive(w as u32, depth)
@@ -195,7 +196,8 @@ impl Maker {
     }
 
     fn cell(&mut self, depth: u32) -> Rec {
-        match self.random.weighted(&[1, 1, 5, 1, 8, 3, 12]) {
+        let references = if self.short { 20 } else { 5 };
+        match self.random.weighted(&[1, 1, references, 1, 8, 3, 12]) {
             0 => {
                 let w = 1 + self.random.below(6);
                 self.directive(w as u32, depth)
