@@ -1,4 +1,4 @@
-//! Small descriptions with lines of the answer, from cases/small.txt and cases/level_2.txt.
+//! Small descriptions with lines of the answer, from cases/small.txt, cases/level_2.txt and cases/short_paths.txt.
 
 use crate::{
     counts::Counts,
@@ -12,6 +12,7 @@ use crate::{
 
 const CASES: &str = include_str!("../../cases/small.txt");
 const LEVEL_2: &str = include_str!("../../cases/level_2.txt");
+const SHORT_PATHS: &str = include_str!("../../cases/short_paths.txt");
 const MORE: &str = include_str!("../../cases/definitions.txt");
 
 /// The lines of a file, without those that say something about it.
@@ -44,10 +45,14 @@ impl Known {
     }
 }
 
-/// All of both files.
+/// All of the three files. Short paths have no level, and are told at both.
 fn known() -> impl Iterator<Item = Known> {
     let at_level_1 = lines(CASES).flat_map(|line| Known::of_line(line, &[SIGNED]));
-    at_level_1.chain(lines(LEVEL_2).flat_map(|line| Known::of_line(line, &[UNSIGNED, SIGNED])))
+    let short_paths = lines(SHORT_PATHS).flat_map(|line| {
+        [SIGNED, UNSIGNED].into_iter().flat_map(move |level| Known::of_line(line, &[level]))
+    });
+    let level_2 = lines(LEVEL_2).flat_map(|line| Known::of_line(line, &[UNSIGNED, SIGNED]));
+    at_level_1.chain(level_2).chain(short_paths)
 }
 
 /// The descriptions of cases/small.txt.
@@ -60,6 +65,11 @@ pub fn level_2_descriptions() -> Result<Vec<Vec<Rec>>, String> {
     all_of(LEVEL_2)
 }
 
+/// The descriptions of cases/short_paths.txt.
+pub fn short_path_descriptions() -> Result<Vec<Vec<Rec>>, String> {
+    all_of(SHORT_PATHS)
+}
+
 /// The descriptions of cases/definitions.txt, which have no lines of their own.
 pub fn more_descriptions() -> Result<Vec<Vec<Rec>>, String> {
     all_of(MORE)
@@ -70,7 +80,7 @@ fn all_of(file: &'static str) -> Result<Vec<Vec<Rec>>, String> {
     lines(file).map(|line| notation::read(line.split(" | ").nth(1).unwrap_or(line))).collect()
 }
 
-/// Compares the Rust with the lines, with 01's sentences, and with a side.
+/// Compares what is due, the Rust's or 02's sentences', with the lines, with 01's sentences, and with a side.
 pub fn compare(side: &Library) -> Result<Counts, String> {
     let mut counts = Counts::default();
     for Known { about, description, level, wanted } in known() {

@@ -4,6 +4,7 @@
 use crate::{
     answer::{Answer, Query, Text},
     by_01::{self, lower::Lowered, paths},
+    by_02::short_paths::before_at,
     counts,
     coverage::Coverage,
     crate_tree::crate_tree,
@@ -85,7 +86,13 @@ fn has_at(top: &[Rec]) -> bool {
     found
 }
 
-/// Paths to ask for: "", "/", those of the log and of the bindings, those above and near them.
+/// A path with all unit addresses left out, if it has some.
+fn short_of(path: &[u8]) -> Option<Text> {
+    let names: Vec<&[u8]> = path.split(|byte| *byte == b'/').map(before_at).collect();
+    path.contains(&b'@').then(|| names.join(&b'/'))
+}
+
+/// Paths to ask for: "", "/", those of the log and of the bindings, those above and near them, and these in short.
 fn query_paths(answer: &Answer, most: usize) -> Vec<Text> {
     let mut asked: Vec<Text> = vec![Vec::new(), b"/".to_vec()];
     let logs =
@@ -94,9 +101,8 @@ fn query_paths(answer: &Answer, most: usize) -> Vec<Text> {
         logs.map(|definition| &definition.path).chain(answer.bindings.iter().map(|binding| &binding.path));
     for path in known {
         let above = path.iter().rposition(|byte| *byte == b'/').map_or(0, |slash| slash.max(1));
-        for path in
-            [path.clone(), path[..above].to_vec(), [path, &b"b"[..]].concat(), [path, &b"/a"[..]].concat()]
-        {
+        let near = [[path, &b"b"[..]].concat(), [path, &b"/a"[..]].concat()];
+        for path in [path.clone(), path[..above].to_vec()].into_iter().chain(near).chain(short_of(path)) {
             if asked.len() < most && paths::is_path(&path) && !asked.contains(&path) {
                 asked.push(path);
             }
