@@ -33,7 +33,7 @@ pub const ALL: Sizes = Sizes {
     levels: 100_000,
     short_paths: 100_000,
     damaged: 100_000,
-    pairs: 40_000,
+    pairs: 50_000,
     logs: 120_000,
 };
 
@@ -43,7 +43,7 @@ pub const SHORT: Sizes = Sizes {
     levels: 10_000,
     short_paths: 10_000,
     damaged: 20_000,
-    pairs: 4_000,
+    pairs: 5_000,
     logs: 12_000,
 };
 

@@ -110,9 +110,9 @@ pub static KINDS: [Kind; 20] = [
 ];
 
 impl<'a> Hand<'a> {
-    pub fn new(random: Random, ground: &'a Ground) -> Self {
+    pub fn new(random: Random, ground: &'a Ground, short: bool) -> Self {
         let parent = ground.parent.as_deref().unwrap_or(b"/");
-        Self { maker: Maker { random }, before: &ground.before, parent }
+        Self { maker: Maker { random, short }, before: &ground.before, parent }
     }
 
     /// A subnode and its deletion; an item may be put into the subnode, or into a node in it.

@@ -11,9 +11,16 @@ const LABELS: [&str; 5] = ["l", "m", "n", "a", "lm"];
 const UNITS: [&str; 3] = ["1", "0", "a"];
 const RAW: [&str; 6] = ["&{/a}", "&{/}", "&{l/a}", "&{l//}", "&{/new}", "&{m}"];
 
+/// Those for descriptions with short paths.
+const ADDRESSED: [&str; 9] =
+    ["bay", "bay@1", "bay@2", "bay@7", "rack", "rack@1", "rack@7", "bayou@1", "lamp@1"];
+const SHORT: [&str; 5] = ["&{/bay}", "&{/rack/bay}", "&{l/bay}", "&{/rack}", "&{/bay@1}"];
+
 /// Makes items that raise no diagnostic, with plain names and nothing by reference.
 pub struct Maker {
     pub random: Random,
+    /// For a description with short paths.
+    pub short: bool,
 }
 
 impl Maker {
@@ -31,7 +38,7 @@ impl Maker {
     }
 
     pub fn name(&mut self) -> Rec {
-        let name = self.random.pick(&NAMES);
+        let name = if self.short { self.random.pick(&ADDRESSED) } else { self.random.pick(&NAMES) };
         self.text(tree::NAME, name.as_bytes())
     }
 
@@ -135,7 +142,7 @@ impl Maker {
             let label = self.random.pick(&LABELS);
             return self.text(tree::REFERENCE, label.as_bytes());
         }
-        let raw = self.random.pick(&RAW);
+        let raw = if self.short { self.random.pick(&SHORT) } else { self.random.pick(&RAW) };
         Rec { w: 1, ..self.text(tree::REFERENCE, raw.as_bytes()) }
     }
 }

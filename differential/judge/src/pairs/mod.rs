@@ -6,6 +6,7 @@ mod alike;
 mod kinds;
 mod made;
 mod premises;
+mod short_paths;
 mod spot;
 
 use alike::Run;
@@ -18,7 +19,7 @@ use crate::{
     by_01::{self, lower::Lowered, paths::under},
     counts,
     coverage::Coverage,
-    generate::{Case, Size, generate},
+    generate::{Case, Size, generate, generate_short},
     library::Library,
     notation,
     output::RECORD,
@@ -69,7 +70,8 @@ pub fn compare(side: &Library, from: u64, cases: u64, coverage: &mut Coverage) -
 /// Places tried for an insertion.
 const TRIES: usize = 30;
 
-/// Compares a pair of runs of a seed, both at level 2 once in three times; one in two meets all premises.
+/// Compares a pair of runs of a seed, both at level 2 once in three times, with short paths once in four; one in two meets
+/// all premises.
 pub fn compare_seed(
     side: &Library,
     seed: u64,
@@ -83,10 +85,11 @@ pub fn compare_seed(
         _ => Size::Limit,
     };
     let level = if (seed / 2).is_multiple_of(3) { UNSIGNED } else { SIGNED };
-    let case = with_room(generate(seed, size, level));
+    let short = (seed / 2) % 4 == 3;
+    let case = with_room(if short { generate_short(seed, size, level) } else { generate(seed, size, level) });
     let kind = if seed.is_multiple_of(2) { 0 } else { 1 + (seed / 2) as usize % (KINDS.len() - 1) };
     for _ in 0..TRIES {
-        if let Some(pair) = Pair::made(&case, &KINDS[kind], random) {
+        if let Some(pair) = Pair::made(&case, &KINDS[kind], short, random) {
             return pair.compare(side, counts, coverage);
         }
     }
@@ -123,7 +126,7 @@ struct Pair<'a> {
 
 impl<'a> Pair<'a> {
     /// Some place in a description, if an insertion there breaks just the premises of its kind.
-    fn made(case: &'a Case, kind: &'static Kind, random: &mut Random) -> Option<Self> {
+    fn made(case: &'a Case, kind: &'static Kind, short: bool, random: &mut Random) -> Option<Self> {
         let spot = Spot::any(&case.top, random);
         let wants_top = kind.breaks == [Premise::EntersMainLog, Premise::Silent];
         if spot.is_top() != wants_top {
@@ -131,7 +134,7 @@ impl<'a> Pair<'a> {
         }
         let level = case.records.level;
         let ground = Ground::at(&case.top, level, &spot);
-        let inserted = (kind.make)(&mut Hand::new(Random::new(random.next()), &ground))?;
+        let inserted = (kind.make)(&mut Hand::new(Random::new(random.next()), &ground, short))?;
         let (new, broken) = premises::judged(&case.top, &spot, &ground, &inserted);
         let top = inserted.put_into(&case.top, &spot);
         if broken != kind.breaks || tree::count(&top) >= MOST_RECORDS {
@@ -156,6 +159,9 @@ impl<'a> Pair<'a> {
             counts.alike += 1;
             self.note(&of_a, &of_b, coverage);
             self.note_level(&of_a.answer, &of_b.answer, coverage);
+            for what in short_paths::seen(&of_a, self.ground.looks, &self.new) {
+                coverage.add(met(what), 1);
+            }
             return if found.is_empty() { Ok(()) } else { Err(self.shown(&found)) };
         }
         counts.broken += 1;
@@ -271,7 +277,7 @@ fn part_differs(part: &str) -> String {
 pub fn wanted() -> Coverage {
     let kinds = KINDS[1..].iter().map(shows);
     let parts = alike::PARTS.into_iter().map(part_differs);
-    let pairs = MET.into_iter().chain(MET_AT_LEVEL_2).map(met);
+    let pairs = MET.into_iter().chain(MET_AT_LEVEL_2).chain(short_paths::WANTED).map(met);
     Coverage::wanting(kinds.chain(parts).chain(pairs).chain([BROKEN_AT_LEVEL_2.to_owned()]))
 }
 

@@ -4,10 +4,11 @@ use super::spot::Spot;
 use crate::{
     answer::{Answer, Text},
     by_01::{
-        lower::lower,
+        lower::{Lowered, lower},
         paths::{join, under},
         queries::live,
     },
+    by_02::short_paths::By,
     tree::{self, Rec},
 };
 
@@ -60,6 +61,8 @@ pub enum Premise {
 pub struct Ground {
     pub before: Answer,
     pub parent: Option<Text>,
+    /// How many paths lowering has looked up.
+    pub looks: usize,
     level: u32,
 }
 
@@ -69,20 +72,21 @@ const PROBE: &[u8] = b"\x01";
 impl Ground {
     /// A body enters the main log if a property put there would be the log's next definition.
     pub fn at(top: &[Rec], level: u32, spot: &Spot) -> Self {
-        let before = lower(&spot.until(top, &[]), level).answer;
+        let Lowered { answer: before, looks, .. } = lower(&spot.until(top, &[]), level);
+        let looks = looks.iter().filter(|look| look.by != By::PostCheck).count();
         let name = Rec { kind: tree::NAME, text: PROBE.to_vec(), ..Rec::default() };
         let probe = Rec { kind: tree::PROPERTY, child: vec![name], ..Rec::default() };
         let with = lower(&spot.until(top, &[probe]), level).answer.definitions;
         let next = with.get(before.definitions.len());
         let above = next.and_then(|next| next.path.strip_suffix(PROBE)?.strip_suffix(b"/"));
         let parent = above.map(|above| if above.is_empty() { b"/".to_vec() } else { above.to_vec() });
-        Self { before, parent, level }
+        Self { before, parent, looks, level }
     }
 }
 
 /// The new path, empty if there is none, and the premises that are broken.
 pub fn judged(top: &[Rec], spot: &Spot, ground: &Ground, inserted: &Inserted) -> (Text, Vec<Premise>) {
-    let (Inserted { first, second, apart }, Ground { before, parent, level }) = (inserted, ground);
+    let (Inserted { first, second, apart }, Ground { before, parent, level, .. }) = (inserted, ground);
     let named = |rec: &Rec| Some(join(parent.as_ref()?, &full_name(rec)?));
     let new = named(first);
     let after = lower(&spot.until(top, &[first.clone(), second.clone()]), *level).answer;
