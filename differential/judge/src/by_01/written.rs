@@ -1,8 +1,9 @@
 //! Lowering as 01's entry point has it: refusals, row 7, and the log written into lent buffers.
 
-use super::{lower::lower, queries, rows};
+use super::{lower::lower_by, queries, rows};
 use crate::{
     answer::{Answer, Cell, Definition, Diagnosis, Target, Value},
+    by_02::short_paths::Rules,
     output::{self, RECORD},
     records::{self, Records},
     tree::Span,
@@ -14,10 +15,15 @@ const MOST_BYTES: u64 = 1 << 24;
 
 /// Lowers records into buffers: number and what is returned.
 pub fn lower_records(from: &Records, words: &mut [u32], bytes: &mut [u8]) -> (u32, u32) {
+    lower_by_rules(Rules::default(), from, words, bytes)
+}
+
+/// The same by other rules for finding nodes.
+pub fn lower_by_rules(rules: Rules, from: &Records, words: &mut [u32], bytes: &mut [u8]) -> (u32, u32) {
     if let Some(refusal) = rows::refusal(from) {
         return refusal;
     }
-    let lowered = lower(&records::read(from), from.level);
+    let lowered = lower_by(rules, &records::read(from), from.level);
     words.fill(0);
     bytes.fill(0);
     let room = MOST_RECORDS.min((words.len() / RECORD) as u64);

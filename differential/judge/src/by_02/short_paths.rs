@@ -94,7 +94,7 @@ pub fn of_matches(paths: &BTreeSet<&[u8]>) -> Found {
 }
 
 /// The live node paths that match a path of row 9's form. "" and "/" have no components and match none.
-fn matching<'a>(log: &'a [Definition], path: &[u8]) -> BTreeSet<&'a [u8]> {
+pub fn matching<'a>(log: &'a [Definition], path: &[u8]) -> BTreeSet<&'a [u8]> {
     let is_short = is_path(path) && path.len() > 1;
     let places = (0..log.len()).filter(|place| {
         is_short && log[*place].kind == 1 && path_matches(path, &log[*place].path) && is_live(log, *place)

@@ -4,6 +4,7 @@
 //! resolved and unbound, and no node has the path "". It is planted into the queries (`logs::faults`).
 
 mod level_2;
+mod short_paths;
 mod slips;
 mod words;
 mod wrong;
@@ -27,6 +28,8 @@ enum By {
     Level2,
     /// Descriptions without an expression cell at both levels.
     Alike,
+    /// Descriptions with short paths.
+    ShortPaths,
     /// Rows 1 to 7.
     Rows,
     /// Pairs of runs.
@@ -42,10 +45,13 @@ const SEEDS: u64 = 4_000;
 /// Where each planted fault is found first, if it is. Our library must be there.
 pub fn found() -> Vec<(&'static str, Option<String>)> {
     let lowerings = wrong::FAULTS.iter().chain(&words::FAULTS).chain(&slips::FAULTS).chain(&level_2::FAULTS);
+    let lowerings = lowerings.chain(&short_paths::FAULTS);
     let sides = lowerings.map(|(name, by, lower)| (*name, *by, Library { lower: *lower, ..ours() }));
     let queries = Queries { live: slips::deleted_live, ..ours().queries };
     let pairs = ("pairs: deleted definitions stay live", By::Pairs, Library { queries, ..ours() });
-    sides.chain([pairs]).map(|(name, by, side)| (name, first_difference(&side, by))).collect()
+    let queries = Queries { contains_node: short_paths::contains_short, ..ours().queries };
+    let contains = ("short paths: contains_node takes them", By::ShortPaths, Library { queries, ..ours() });
+    sides.chain([pairs, contains]).map(|(name, by, side)| (name, first_difference(&side, by))).collect()
 }
 
 /// Our side; that it is there was looked at before.
@@ -74,6 +80,7 @@ fn first_difference(side: &Library, by: By) -> Option<String> {
                 let judged = judged(seed, size_of_case(seed), UNSIGNED, 0);
                 if has_expression(&judged.case.top) { Ok(()) } else { alike(side, seed, &judged) }
             }
+            By::ShortPaths => trees::whole_side(side, seed, &crate::short_paths::judged(seed, 12)),
             By::Rows => damaged::compare_seed(side, seed, &mut damaged::Counts::default(), coverage),
             By::Pairs => pairs::compare_seed(side, seed, &mut pairs::Counts::default(), coverage),
         };
