@@ -11,7 +11,7 @@ use judge::{
     parts::{self, ALL, SHORT, Sizes},
     recorded,
     records::{self, RECORD, Records, SIGNED, UNSIGNED},
-    speed, text_form,
+    short_paths, speed, text_form,
     trees::{self, Judged},
     worked,
 };
@@ -130,7 +130,8 @@ fn speed_part() -> Result<(), String> {
     let ours = ours::library()?;
     logs::speed::run(&ours.queries)?;
     speed::run(&ours)?;
-    levels::speed::run(&ours)
+    levels::speed::run(&ours)?;
+    short_paths::speed::run(&ours)
 }
 
 /// Theorems on small descriptions, for the checker.
