@@ -1,4 +1,4 @@
-//! The one table of messages to 01's diagnostic codes.
+//! The one table of messages to 01's diagnostic codes. 29 is 02's (request 5): the Rust has no message for it.
 
 /// Code, how the message begins, how it ends, and whether what stands between is 01's text.
 const TABLE: [(u32, &str, &str, bool); 23] = [

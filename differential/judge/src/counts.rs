@@ -3,7 +3,8 @@
 use std::{iter::Sum, ops::Add};
 
 /// How many were compared, how many of them differ, and how many answers are set aside: those in which 01
-/// speaks in the Rust's stead (codes 9 and 24 to 26), and logs for which it allows more than one record.
+/// speaks in the Rust's stead (codes 9 and 24 to 26), descriptions in which a look-up went by 02's second rule, and logs for
+/// which 01 allows more than one record.
 #[derive(Debug, Clone, Copy, Default, PartialEq, Eq)]
 pub struct Counts {
     pub compared: u64,

@@ -1,5 +1,5 @@
 //! The comparison with our library under valgrind, which must find nothing: descriptions at both levels,
-//! damaged ones, pairs of runs and queries of lent logs. `differential/memory` starts it.
+//! with short paths, damaged ones, pairs of runs and queries of lent logs. `differential/memory` starts it.
 
 use std::{env, iter, process::Stdio, slice::Iter, sync::Mutex, thread};
 
@@ -12,7 +12,7 @@ use crate::{
     ours::served::{self, FAULTS, FOUND, NO_LEVEL, Served},
     pairs,
     parts::{self, ALL},
-    trees,
+    short_paths, trees,
 };
 
 /// A part: its name, all of it, and so many cases of it without a report.
@@ -23,7 +23,7 @@ struct Part {
 }
 
 /// The parts, those that take longest first.
-static PARTS: [Part; 5] = [
+static PARTS: [Part; 6] = [
     Part {
         name: "descriptions",
         all: |side| parts::descriptions(side, 0, ALL.descriptions),
@@ -38,6 +38,15 @@ static PARTS: [Part; 5] = [
         all: |side| parts::levels(side, 0, ALL.levels),
         some: |side, cases| {
             let counts = levels::compare(side, 0, cases, &mut Coverage::empty());
+            println!("{}", counts.line());
+            counts.total()
+        },
+    },
+    Part {
+        name: "short paths",
+        all: |side| parts::short_paths(side, 0, ALL.short_paths),
+        some: |side, cases| {
+            let counts = short_paths::compare(side, 0, cases, &mut Coverage::empty());
             println!("{}", counts.line());
             counts.total()
         },

@@ -47,7 +47,7 @@ pub const SHORT: Sizes = Sizes {
     logs: 12_000,
 };
 
-/// Descriptions of each level for which 01's sentences are compared as a whole side.
+/// Descriptions of each level, and with short paths, for which 01's sentences are compared as a whole side.
 const BY_01: u64 = 4_000;
 
 /// Prints a coverage report and what was counted, at one go; fails if something never came up.
@@ -115,24 +115,25 @@ pub fn short_paths(side: &Library, from: u64, cases: u64) -> Result<Counts, Stri
     Ok(counts.total())
 }
 
-/// 01's sentences as a whole side at both levels, which shows that the comparison itself is sound.
+/// 01's and 02's sentences as a whole side at both levels and with short paths, which shows that the comparison itself
+/// is sound.
 pub fn sentences() -> Counts {
     let side = library::by_01();
     let mut counts = Counts::default();
-    for (level, seed) in
-        [SIGNED, UNSIGNED].into_iter().flat_map(|level| (0..BY_01).map(move |seed| (level, seed)))
-    {
-        let judged = judged(seed, size_of_case(seed), level, 12);
+    let of_level =
+        |level: u32| (0..BY_01).map(move |seed| (seed, judged(seed, size_of_case(seed), level, 12)));
+    let short = (0..BY_01).map(|seed| (seed, short_paths::judged(seed, 12)));
+    for (seed, judged) in [SIGNED, UNSIGNED].into_iter().flat_map(of_level).chain(short) {
         counts.compared += 1;
         counts.aside += if judged.is_aside() { 1 } else { trees::by_rule(&judged.answer) };
         if let Err(fault) = trees::whole_side(&side, seed, &judged) {
             counts.different += 1;
-            println!("level {level}, seed {seed}: {fault}");
+            println!("level {}, seed {seed}: {fault}", judged.case.records.level);
         }
     }
     let Counts { compared, different, .. } = counts;
     println!(
-        "records in and out, the Rust against 01's sentences: {compared} compared, {different} different"
+        "records in and out, the Rust and 02's sentences against 01's: {compared} compared, {different} different"
     );
     counts
 }

@@ -1,5 +1,5 @@
-//! The recorded sample: descriptions with the Rust's answers, for a program that replays them
-//! without the Rust. crates/replay/README.md describes the form.
+//! The recorded sample: descriptions with the Rust's answers, and with 02's sentences' where paths are short, for a program
+//! that replays them without the Rust. crates/replay/README.md describes the form.
 
 use std::{collections::BTreeSet, fs, path::Path};
 
@@ -24,10 +24,8 @@ const READ: usize = 524_288;
 
 /// The sample and its coverage report.
 fn made() -> Result<(Vec<u8>, String, usize), String> {
-    let mut cases: Vec<Judged> = small::descriptions()?
-        .into_iter()
-        .map(|top| judged_case(Case::known(top, SIGNED), QUERIES))
-        .collect();
+    let known = small::descriptions()?.into_iter().chain(small::short_path_descriptions()?);
+    let mut cases: Vec<Judged> = known.map(|top| judged_case(Case::known(top, SIGNED), QUERIES)).collect();
     let mut seen = BTreeSet::new();
     for (size, wanted, seeds, most) in GENERATED {
         cases.extend(chosen(&mut seen, size, wanted, seeds, most));
@@ -84,7 +82,7 @@ fn chosen(seen: &mut BTreeSet<String>, size: Size, wanted: usize, seeds: u64, mo
         coverage.note(&judged);
         let before = seen.len();
         let again = judged.case.records.text.len() == MOST_TEXT && seen.contains(FULL_TEXT);
-        if judged.case.records.words.len() / RECORD <= most && !again {
+        if judged.case.records.words.len() / RECORD <= most && !again && !judged.is_aside() {
             seen.extend(coverage.features().cloned());
             if seen.len() > before {
                 new.push(judged);
