@@ -1,5 +1,5 @@
-//! Small descriptions at both levels with the Rust's answers, as theorems: the checker computes our definitions and
-//! finds them equal to the answers, or does not.
+//! Small descriptions at both levels with the Rust's answers, or 02's sentences' where paths are short, as theorems: the checker
+//! computes our definitions and finds them equal to the answers, or does not.
 
 use std::{
     collections::BTreeMap,
@@ -110,15 +110,17 @@ fn put(file: PathBuf, text: &str) -> Result<(), String> {
     fs::write(&file, text).map_err(|error| format!("{}: {error}", file.display()))
 }
 
-/// The known small descriptions: at level 2 those that have an expression cell.
-fn known(level: u32) -> Result<Vec<Vec<Rec>>, String> {
+/// The known small descriptions, with what they are: at level 2 those that have an expression cell.
+fn known(level: u32) -> Result<Vec<(&'static str, Vec<Rec>)>, String> {
     let mut known = small::descriptions()?;
     known.extend(small::more_descriptions()?);
     if level == UNSIGNED {
         known.extend(small::level_2_descriptions()?);
         known.retain(|top| has_expression(top));
+        return Ok(known.into_iter().map(|top| ("known", top)).collect());
     }
-    Ok(known)
+    let short = small::short_path_descriptions()?.into_iter().map(|top| ("short path", top));
+    Ok(known.into_iter().map(|top| ("known", top)).chain(short).collect())
 }
 
 /// The known small descriptions, then generated ones that differ: each shows something that few before it
@@ -127,8 +129,8 @@ fn samples(level: u32, count: usize, from: u64) -> Result<Vec<Sample>, String> {
     let mut random = Random::new(from);
     let mut seen: BTreeMap<String, usize> = BTreeMap::new();
     let mut samples = Vec::new();
-    for top in known(level)? {
-        let (sample, features) = noted("known".to_owned(), judged_case(Case::known(top, level), TRIED));
+    for (about, top) in known(level)? {
+        let (sample, features) = noted(about.to_owned(), judged_case(Case::known(top, level), TRIED));
         for feature in features {
             *seen.entry(feature).or_default() += 1;
         }
