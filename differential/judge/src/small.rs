@@ -5,6 +5,7 @@ use crate::{
     library::Library,
     notation,
     records::{SIGNED, UNSIGNED},
+    short_paths::in_full,
     text_form::text_form,
     tree::Rec,
     trees,
@@ -95,6 +96,10 @@ pub fn compare(side: &Library) -> Result<Counts, String> {
             .collect();
         let by_01 = trees::difference(&judged);
         faults.extend(by_01.iter().map(|(by_01, rust)| format!("01 {by_01}, Rust {rust}")));
+        if judged.is_aside() {
+            let in_full = in_full::difference(&judged);
+            faults.extend(in_full.map(|part| format!("the Rust in full: {part} differ")));
+        }
         faults.extend(trees::fault_of(side, &top, level));
         counts.compared += 1;
         counts.aside += if judged.is_aside() { 1 } else { trees::by_rule(&judged.answer) };

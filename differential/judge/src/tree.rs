@@ -39,6 +39,11 @@ impl Rec {
         self.child.iter().find(|part| part.kind == kind)
     }
 
+    /// Where the record lies, which tells it from all others of its description.
+    pub fn address(&self) -> usize {
+        std::ptr::from_ref(self).addr()
+    }
+
     /// How many records this is.
     pub fn count(&self) -> usize {
         1 + count(&self.child) + count(&self.more)

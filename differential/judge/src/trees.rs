@@ -14,6 +14,7 @@ use crate::{
     logs, notation,
     random::{self, Random},
     records::{RECORD, SIGNED, read},
+    short_paths::in_full,
     shrink::shrunk,
     text_form::text_form,
     tree::{self, Place, Rec, walk},
@@ -142,7 +143,8 @@ impl Counts {
         format!(
             "{compared} descriptions with {records} records and {queries} queries, {different} different; \
              {by_rule} diagnostics by 01's rule (codes 9, 24 to 26)\n\
-             {aside} more set aside as a whole for a short path (02, request 5), none of {without_at} where no name holds @\n\
+             {aside} more set aside as a whole for a short path (02, request 5), which the Rust answers in full; \
+             none of {without_at} where no name holds @\n\
              {lowered} of all lowered by ours, {lowered_different} different"
         )
     }
@@ -172,6 +174,13 @@ pub fn compare_judged(side: &Library, seed: u64, judged: &Judged, counts: &mut C
         if counts.different <= 3 {
             show_difference(seed, case);
         }
+    }
+    if let Some(part) = judged.is_aside().then(|| in_full::difference(judged)).flatten() {
+        counts.different += 1;
+        println!(
+            "seed {seed}: {part} differ, 02's sentences and the Rust in full\n  {}",
+            notation::written(&case.top)
+        );
     }
     compare_side(side, seed, judged, counts);
 }

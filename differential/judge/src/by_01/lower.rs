@@ -209,9 +209,10 @@ impl State {
     }
 
     /// The path a reference leads to; if none, 3, 4 or 29 unless the log in hand is an overlay's.
-    fn resolve(&mut self, log: &Log, target: &Target, span: Span, by: By) -> Option<Text> {
+    fn resolve(&mut self, log: &Log, target: &Target, reference: &Rec, by: By) -> Option<Text> {
         let (found, look) = post::resolve(&log.definitions, &self.bindings, target, self.rules);
-        self.looks.extend(look.map(|look| Look { by, own_body: log.depth > 0, ..look }));
+        let (at, own_body) = (Some(reference.address()), log.depth > 0);
+        self.looks.extend(look.map(|look| Look { by, reference: at, own_body, ..look }));
         self.event(match (target.form, &found) {
             (1, Ok(_)) => "label found",
             (2, Ok(_)) => "label and path found",
@@ -233,7 +234,7 @@ impl State {
             }
             Err((code, text)) => {
                 if !queries::has_plugin(&log.definitions) || (self.rules.in_overlay)(code) {
-                    self.report(code, &text, span);
+                    self.report(code, &text, reference.span);
                 }
                 None
             }
@@ -282,7 +283,7 @@ impl State {
         let Some(target) = self.reference(reference) else {
             return self.event("reference unreadable");
         };
-        if let Some(path) = self.resolve(log, &target, reference.span, By::Reopening) {
+        if let Some(path) = self.resolve(log, &target, reference, By::Reopening) {
             return self.defined_node(log, &path, node);
         }
         let mut body = self.body(log, node);
@@ -398,7 +399,7 @@ impl State {
         }
         let reference = directive.first(tree::REFERENCE)?;
         let target = self.reference(reference)?;
-        let path = self.resolve(log, &target, reference.span, By::Deletion);
+        let path = self.resolve(log, &target, reference, By::Deletion);
         self.event(match &path {
             Some(_) => "node deleted by reference",
             None if queries::has_plugin(&log.definitions) => "deletion by reference not found in an overlay",

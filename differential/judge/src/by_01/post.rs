@@ -95,7 +95,8 @@ pub fn resolve(
     };
     let beside = beside(log, &path, &found);
     let (front, overlay) = (front.cloned(), queries::has_plugin(log));
-    let look = Look { by: By::PostCheck, own_body: false, overlay, front, path, found, beside };
+    let look =
+        Look { by: By::PostCheck, reference: None, own_body: false, overlay, front, path, found, beside };
     (resolved, Some(look))
 }
 

@@ -39,6 +39,8 @@ pub enum By {
 #[derive(Debug, Clone)]
 pub struct Look {
     pub by: By,
+    /// Where the reference of a node or deletion lies.
+    pub reference: Option<usize>,
     /// In a body of its own.
     pub own_body: bool,
     /// The log in hand has a plugin directive.

@@ -1,6 +1,7 @@
 //! Short paths (02, request 5): descriptions whose references leave unit addresses out. Where a look-up goes by the
 //! second rule, 01's and 02's sentences answer; else the Rust does.
 
+pub mod in_full;
 pub mod speed;
 mod wanted;
 
