@@ -60,11 +60,13 @@ impl Look {
     }
 }
 
+/// A look-up of a path in a log, with the label's path in front of it, if there is one.
+pub type LookUp = fn(&[Definition], Option<&[u8]>, &[u8]) -> Found;
+
 /// The rules by which lowering finds nodes. Faults are planted into them.
 #[derive(Clone, Copy)]
 pub struct Rules {
-    /// The look-up of a path, with the label's path in front of it, if there is one.
-    pub look_up: fn(&[Definition], Option<&[u8]>, &[u8]) -> Found,
+    pub look_up: LookUp,
     /// The path that a deletion by name deletes.
     pub named: fn(&[Definition], Text) -> Text,
     /// Whether a code of a look-up is reported where the log in hand has a plugin directive.

@@ -20,46 +20,7 @@ impl Maker {
             let label = self.label(below);
             node.child.push(label);
         }
-        let forms: &[usize] = match (parent.is_empty(), self.deep) {
-            (true, false) if self.short => &[4, 1, 12, 1, 1],
-            (true, false) => &[9, 2, 8, 1, 1],
-            (true, true) => &[9, 0, 2, 0, 0],
-            (false, false) if self.short => &[1, 14, 8, 1, 1],
-            (false, false) => &[1, 14, 4, 1, 1],
-            (false, true) => &[0, 120, 2, 1, 0],
-        };
-        let mut path = if parent.is_empty() { "/".to_owned() } else { parent.to_owned() };
-        match self.random.weighted(forms) {
-            0 => {
-                node.child.push(self.rec(tree::SLASH));
-                path = "/".to_owned();
-            }
-            1 if self.short => {
-                let name = self.name();
-                path = format!("{}/{name}", parent.trim_end_matches('/'));
-                node.child.extend(self.addressed_parts(&name));
-            }
-            1 => {
-                let name = self.name();
-                path = format!("{}/{name}", parent.trim_end_matches('/'));
-                node.child.push(self.text(tree::NAME, &name));
-                if self.random.once_in(5) {
-                    let unit = self.unit_address(below);
-                    node.child.push(unit);
-                    if self.random.once_in(6) {
-                        node.child.push(self.rec(tree::SLASH));
-                    }
-                }
-            }
-            2 => {
-                self.meant = None;
-                let reference = self.reference(below);
-                node.child.push(reference);
-                path = self.meant.take().unwrap_or(path);
-            }
-            3 => {}
-            _ => self.any_parts(&mut node, Place::NodePart, below),
-        }
+        let path = self.named_by(&mut node, parent, below);
         if self.random.once_in(6) {
             node.child.push(self.rec(tree::OMIT));
         }
@@ -76,21 +37,78 @@ impl Maker {
         if self.overlay && self.random.once_in(6) {
             self.overlay_body(&mut node, &path, below);
         }
-        // In a deep description one item goes further down, the others do not.
+        self.body(&mut node, &path, depth);
+        node
+    }
+
+    /// How often a node has a slash, a name, a reference, none of these, or any parts.
+    fn forms(&self, at_top: bool) -> &'static [usize] {
+        match (at_top, self.deep) {
+            (true, false) if self.short => &[4, 1, 12, 1, 1],
+            (true, false) => &[9, 2, 8, 1, 1],
+            (true, true) => &[9, 0, 2, 0, 0],
+            (false, false) if self.short => &[1, 14, 8, 1, 1],
+            (false, false) => &[1, 14, 4, 1, 1],
+            (false, true) => &[0, 120, 2, 1, 0],
+        }
+    }
+
+    /// Gives a node what it goes by: its path, as far as can be told here.
+    fn named_by(&mut self, node: &mut Rec, parent: &str, depth: u32) -> String {
+        let path = if parent.is_empty() { "/".to_owned() } else { parent.to_owned() };
+        match self.random.weighted(self.forms(parent.is_empty())) {
+            0 => {
+                node.child.push(self.rec(tree::SLASH));
+                return "/".to_owned();
+            }
+            1 => {
+                let name = self.name();
+                self.name_parts(node, &name, depth);
+                return format!("{}/{name}", parent.trim_end_matches('/'));
+            }
+            2 => {
+                self.meant = None;
+                let reference = self.reference(depth);
+                node.child.push(reference);
+                return self.meant.take().unwrap_or(path);
+            }
+            3 => {}
+            _ => self.any_parts(node, Place::NodePart, depth),
+        }
+        path
+    }
+
+    /// The parts of a name, sometimes with a unit address and a slash.
+    fn name_parts(&mut self, node: &mut Rec, name: &str, depth: u32) {
+        if self.short {
+            return node.child.extend(self.addressed_parts(name));
+        }
+        node.child.push(self.text(tree::NAME, name));
+        if self.random.once_in(5) {
+            let unit = self.unit_address(depth);
+            node.child.push(unit);
+            if self.random.once_in(6) {
+                node.child.push(self.rec(tree::SLASH));
+            }
+        }
+    }
+
+    /// A node's items. In a deep description one goes further down, the others do not.
+    fn body(&mut self, node: &mut Rec, path: &str, depth: u32) {
+        let below = depth + 1;
         let deep = std::mem::take(&mut self.deep);
         let items = if deep { &[4, 2, 1, 0, 0, 0] } else { &[2, 4, 3, 2, 2, 1] };
         for _ in 0..self.random.weighted(items) {
             if self.room > 0 && Self::fits(depth, 1) {
-                let item = self.item(&path, below);
+                let item = self.item(path, below);
                 node.more.push(item);
             }
         }
         self.deep = deep;
         if deep && self.room > 0 && Self::fits(below, 2) {
-            let item = self.node(&path, below);
+            let item = self.node(path, below);
             node.more.push(item);
         }
-        node
     }
 
     /// Items that make a body an overlay of its own: a plugin directive, and a node by a reference.

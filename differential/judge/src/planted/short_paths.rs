@@ -11,7 +11,8 @@ use crate::{
         written::lower_by_rules,
     },
     by_02::short_paths::{
-        Found, Rules, SEVERAL, before_at, components_match, look_up, matching, of_matches, path_matches,
+        Found, LookUp, Rules, SEVERAL, before_at, components_match, look_up, matching, of_matches,
+        path_matches,
     },
     output,
     records::Records,
@@ -133,12 +134,7 @@ pub static FAULTS: [Fault; 18] =
     ];
 
 /// Lowers with a wrong look-up.
-fn wrong(
-    records: &Records,
-    words: &mut [u32],
-    bytes: &mut [u8],
-    look_up: fn(&[Definition], Option<&[u8]>, &[u8]) -> Found,
-) -> (u32, u32) {
+fn wrong(records: &Records, words: &mut [u32], bytes: &mut [u8], look_up: LookUp) -> (u32, u32) {
     lower_by_rules(Rules { look_up, ..Rules::default() }, records, words, bytes)
 }
 
