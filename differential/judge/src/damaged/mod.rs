@@ -23,7 +23,7 @@ use crate::{
     },
     counts,
     coverage::Coverage,
-    generate::{Size, generate},
+    generate::{Size, generate, generate_short},
     library::Library,
     output::RECORD,
     random::{self, Random},
@@ -117,8 +117,8 @@ fn level(random: &mut Random) -> u32 {
     }
 }
 
-/// A generated description with one change or, often, more; which, by their places in the list. One whose
-/// level is none may have no change.
+/// A generated description, one in eight with short paths, with one change or, often, more; which, by their places in the list.
+/// One whose level is none may have no change.
 fn damaged(seed: u64, random: &mut Random) -> (Records, Vec<usize>) {
     let size = match seed % 100 {
         ..94 => Size::Small,
@@ -128,7 +128,8 @@ fn damaged(seed: u64, random: &mut Random) -> (Records, Vec<usize>) {
     let level = level(random);
     let is_level = [SIGNED, UNSIGNED].contains(&level);
     let wanted = if is_level { random.pick(&[1, 1, 1, 2, 3]) } else { random.below(4) };
-    let records = generate(seed, size, if is_level { level } else { UNSIGNED }).records;
+    let made = if seed % 8 == 7 { generate_short } else { generate };
+    let records = made(seed, size, if is_level { level } else { UNSIGNED }).records;
     let mut hand = Hand::new(Records { level, ..records }, Random::new(random.next()));
     let mut made = Vec::new();
     while made.len() < wanted {
@@ -187,8 +188,9 @@ fn compare_accepted(
     counts: &mut Counts,
     coverage: &mut Coverage,
 ) -> Result<(), String> {
-    let Lowered { answer, records: made, bytes, .. } =
-        by_01::lower::lower(&records::read(records), records.level);
+    let lowered = by_01::lower::lower(&records::read(records), records.level);
+    wanted::note_short(&lowered, coverage);
+    let Lowered { answer, records: made, bytes, .. } = lowered;
     let due = Due { records, answer: &answer, made: (made, bytes) };
     let (words, bytes) = (made as usize * RECORD, bytes as usize);
     let rare = random.below(RARE);

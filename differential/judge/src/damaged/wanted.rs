@@ -2,20 +2,25 @@
 
 use super::{NO_LEVELS, damage::DAMAGES};
 use crate::{
-    by_01::rows::{Clause, Link, NO_LEVEL, Refused},
+    by_01::{
+        lower::Lowered,
+        rows::{Clause, Link, NO_LEVEL, Refused},
+    },
+    by_02::short_paths::Found,
     coverage::Coverage,
     records::UNSIGNED,
     tree::Place,
 };
 
 /// What is to come up: each change alone with its row, each clause as the one returned, each row before
-/// a later one, 18 before each row and each change, each answer at level 2, and each sort of room.
+/// a later one, 18 before each row and each change, each answer at level 2, short paths, and each sort of room.
 pub fn wanted() -> Coverage {
     let mut levels: Vec<String> = (1..=6).map(before_row).collect();
     levels.extend(DAMAGES.iter().map(|damage| before_change(damage.name)));
     levels.extend(NO_LEVELS.map(no_level));
     levels.extend([NO_CHANGE, OTHER_LEVEL].map(str::to_owned));
     levels.extend((0..=7).map(at_level_2));
+    levels.extend(SHORT.map(str::to_owned));
     let alone = DAMAGES.iter().map(|damage| alone(damage.name, damage.row));
     let clauses = clauses().into_iter().map(returned_for);
     let rows = (2..=5).flat_map(|row| (row + 1..=6).map(move |later| before(row, later)));
@@ -92,6 +97,18 @@ fn no_level(level: u32) -> String {
 /// A description at level 2 that a row refuses, or that none of 1 to 6 does.
 pub fn at_level_2(row: u32) -> String {
     if row == 0 { "level 2: accepted by rows 1 to 6".to_owned() } else { format!("level 2: row {row}") }
+}
+
+/// What is to come up among short paths of descriptions that are accepted.
+const SHORT: [&str; 2] = ["accepted with a path taken short", "accepted with 29"];
+
+/// Notes the short paths of a description that is accepted.
+pub fn note_short(lowered: &Lowered, coverage: &mut Coverage) {
+    let has = |is: fn(&Found) -> bool| lowered.looks.iter().any(|look| is(&look.found));
+    let holds = [has(|found| matches!(found, Found::Short(_))), has(|found| *found == Found::Several)];
+    for (what, holds) in SHORT.into_iter().zip(holds) {
+        coverage.add_if(what.to_owned(), holds);
+    }
 }
 
 /// Notes of a description that is refused for its level what else would have refused it.

@@ -7,7 +7,7 @@ use crate::{
 };
 
 /// Few names, one of them the beginning of another.
-const BASES: [&str; 4] = ["bay", "rack", "bayou", "lamp"];
+const BASES: [&str; 5] = ["bay", "rack", "bayou", "lamp", "\u{e9}"];
 const UNITS: [&str; 5] = ["1", "2", "0", "", "1@2"];
 
 /// A component without its unit address.

@@ -18,12 +18,13 @@ const WHERE: [&str; 6] = [
 ];
 
 /// What one that is taken may have.
-const TAKEN: [&str; 5] = [
+const TAKEN: [&str; 6] = [
     "in an overlay",
     "where the label's own path is short",
     "every component short, of several",
     "a component with @ beside one without",
     "a name with more than one @",
+    "a path of 20 components or more",
 ];
 
 const SILENT: &str = "29 silent in an overlay";
@@ -114,6 +115,7 @@ fn note_taken(look: &Look, full: &[u8], coverage: &mut Coverage) {
         written.len() > 1 && pairs().all(short),
         written.iter().any(has_at),
         full_ones.iter().any(|name| name.iter().filter(|byte| **byte == b'@').count() > 1),
+        full_ones.len() >= 20,
     ];
     for (what, holds) in TAKEN.into_iter().zip(holds) {
         coverage.add_if(taken(what), holds);
