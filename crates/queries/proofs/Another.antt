@@ -23,22 +23,23 @@ swapped false true = refl
 swapped false false = refl
 
 -- the tests in the order of the code: the last is a pass over the chain
-reordered : (k m a e : Bool) → cond k (cond (cond m a false) e false) false ≡ cond k (cond m (cond e a false) false) false
-reordered true true a e = swapped a e
-reordered true false a e = refl
-reordered false m a e = refl
+reordered : (k a e : Bool) → cond k (cond a e false) false ≡ cond k (cond e a false) false
+reordered true a e = swapped a e
+reordered false a e = refl
 
 pub by-tests : (words bytes : List ℕ) (defs : List Def) (p : List ℕ) (before r : ℕ)
     → another (defAt words bytes) defs p before r
     ≡ cond (eqb (kindOf words r) nodeKind)
-    (cond (mayMean p (firstText words bytes r))
     (cond (cond (eqb before 0) true (not (same (firstText words bytes before) (firstText words bytes r))))
+    (cond (mayMean p (firstText words bytes r))
     (cond (atOrUnder (firstText words bytes r) []) (containsNode (firstText words bytes r) defs) false)
     false)
     false)
     false
 unfolding another defAt
 by-tests words bytes defs p before r = rw (node-kind words bytes r)
-    (reordered (eqb (kindOf words r) nodeKind) (mayMean p (firstText words bytes r))
+    (reordered (eqb (kindOf words r) nodeKind)
+    (cond (mayMean p (firstText words bytes r))
     (cond (atOrUnder (firstText words bytes r) []) (containsNode (firstText words bytes r) defs) false)
+    false)
     (cond (eqb before 0) true (not (same (firstText words bytes before) (firstText words bytes r)))))

@@ -117,10 +117,10 @@ fn is_another(
         return false;
     }
     let path = first_text(words, bytes, r);
-    if !may_mean(parent, name, path) {
+    if !is_elsewhere(words, bytes, found, path) {
         return false;
     }
-    if !is_elsewhere(words, bytes, found, path) {
+    if !may_mean(parent, name, path) {
         return false;
     }
     if !lies_under(path, &path[..0]) {

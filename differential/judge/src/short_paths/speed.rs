@@ -1,5 +1,6 @@
-//! How long short paths take: a rack of bays, each reopened by a reference with its unit address left out, beside the same
-//! with full paths, which docs/src has too; references that more than one bay matches; and bays that are deleted.
+//! How long short paths take: a rack of bays, each reopened by a reference with its unit address left out, or one bay that all
+//! references reopen, beside the same with full paths, which docs/src has too; references that more than one bay matches; and
+//! bays that are deleted.
 
 use std::{cell::RefCell, hint::black_box};
 
@@ -26,11 +27,14 @@ const MATCHES: [usize; 6] = [1, 2, 8, 32, 128, 509];
 /// Measures and prints the tables.
 pub fn run(side: &Library) -> Result<(), String> {
     println!(
-        "\n| records | references | short paths, µs | full paths, µs | Rust, full paths, µs | short to full | full to Rust |"
+        "\n| bays | records | references | short paths, µs | full paths, µs | Rust, full paths, µs | short to full | full to Rust |"
     );
-    println!("|---:|---:|---:|---:|---:|---:|---:|");
+    println!("|---:|---:|---:|---:|---:|---:|---:|---:|");
     for size in SIZES {
-        row(side, size)?;
+        each(side, size)?;
+    }
+    for size in SIZES {
+        one(side, size)?;
     }
     println!("\n| bays that each short path matches (29 from 2 on) | records | references | µs |");
     println!("|---:|---:|---:|---:|");
@@ -74,12 +78,32 @@ impl<'a> Bench<'a> {
     }
 }
 
-fn row(side: &Library, size: usize) -> Result<(), String> {
+/// A reference to each bay.
+fn each(side: &Library, size: usize) -> Result<(), String> {
     let bays = bays(size);
     let full: Vec<String> = (0..bays).map(|place| format!("bay-{place}@{place:x}")).collect();
     let short: Vec<String> = (0..bays).map(|place| format!("bay-{place}")).collect();
+    row(side, size, &full, &short, &full)
+}
+
+/// All references to one bay: there is hardly anything else.
+fn one(side: &Library, size: usize) -> Result<(), String> {
+    let references = (size - 8) / 2;
+    let of = |name: &str| vec![name.to_owned(); references];
+    row(side, size, &["bay@0".to_owned()], &of("bay"), &of("bay@0"))
+}
+
+/// The same references in short and in full.
+fn row(
+    side: &Library,
+    size: usize,
+    bays: &[String],
+    short: &[String],
+    full: &[String],
+) -> Result<(), String> {
+    let references = short.len();
     let (short, full) =
-        (Bench::new(side, made(&full, &short, size))?, Bench::new(side, made(&full, &full, size))?);
+        (Bench::new(side, made(bays, short, size))?, Bench::new(side, made(bays, full, size))?);
     let tree = crate_tree(&full.case.top, SIGNED, 0);
     let times = measured([&mut || short.lower(), &mut || full.lower(), &mut || {
         let db = database(tree.root.clone());
@@ -88,7 +112,8 @@ fn row(side: &Library, size: usize) -> Result<(), String> {
     }]);
     let [by_short, by_full, rust] = times.map(|times| times.least / 1e3);
     println!(
-        "| {} | {bays} | {by_short:.1} | {by_full:.1} | {rust:.1} | {:.2} | {:.1} |",
+        "| {} | {} | {references} | {by_short:.1} | {by_full:.1} | {rust:.1} | {:.2} | {:.1} |",
+        bays.len(),
         short.records(),
         by_short / by_full,
         by_full / rust,

@@ -13,12 +13,6 @@ use Rattle.log.specs.meaning.ReadBack.{readDefs}
 use Rattle.queries.proofs.Another.{by-tests}
 use Rattle.queries.proofs.lookup.is_another.Statement.{statement}
 use Rattle.queries.proofs.lookup.is_another.Tie as tie
-use Rattle.log.proofs.record.kind_of.Reads as kind-of-reads
-use Rattle.log.proofs.record.first_text.Reads as first-text-reads
-use Rattle.short_paths.proofs.short.may_mean.Reads as may-mean-reads
-use Rattle.queries.proofs.lookup.is_elsewhere.Reads as is-elsewhere-reads
-use Rattle.paths_numbers.proofs.mir.lies_under.Reads as lies-under-reads
-use Rattle.queries.proofs.mir.contains_node_in.Reads as contains-node-in-reads
 
 kind-of-requires : tie.Need-kind-of-requires
 kind-of-requires c κs = search needs
@@ -34,8 +28,8 @@ returns c =
 first-text-requires : tie.Need-first-text-requires
 first-text-requires c κs = search needs
 
-may-mean-requires : tie.Need-may-mean-requires
-may-mean-requires c κs = search needs
+is-elsewhere-requires : tie.Need-is-elsewhere-requires
+is-elsewhere-requires c κs = search needs
 
 returns-2 : tie.Need-returns-2
 returns-2 c =
@@ -45,11 +39,11 @@ returns-2 c =
     let k = ap (λ (x : ℕ). eqb x 1) (sym (c .before .before .before .before .kind-of .ensures))
     ∙ eq-eqb _ 1 (c .before .before .before .if1 .left) in
     let w = c .before .before .first-text .ensures in
-    let m = sym (rw w at (c .before .may-mean .ensures)) ∙ not-true _ (c .if2 .taken) in
-    sym (t ∙ rw (k, m) refl)
+    let e = sym (rw w at (c .before .is-elsewhere .ensures)) ∙ not-true _ (c .if2 .taken) in
+    sym (t ∙ rw (k, e) refl)
 
-is-elsewhere-requires : tie.Need-is-elsewhere-requires
-is-elsewhere-requires c κs = search needs
+may-mean-requires : tie.Need-may-mean-requires
+may-mean-requires c κs = search needs
 
 returns-3 : tie.Need-returns-3
 returns-3 c =
@@ -59,9 +53,9 @@ returns-3 c =
     let k = ap (λ (x : ℕ). eqb x 1) (sym (c .before .before .before .before .before .before .kind-of .ensures))
     ∙ eq-eqb _ 1 (c .before .before .before .before .before .if1 .left) in
     let w = c .before .before .before .before .first-text .ensures in
-    let m = sym (rw w at (c .before .before .before .may-mean .ensures)) ∙ not-false _ (c .before .before .if2 .left) in
-    let e = sym (rw w at (c .before .is-elsewhere .ensures)) ∙ not-true _ (c .if3 .taken) in
-    sym (t ∙ rw (k, m, e) refl)
+    let e = sym (rw w at (c .before .before .before .is-elsewhere .ensures)) ∙ not-false _ (c .before .before .if2 .left) in
+    let m = sym (rw w at (c .before .may-mean .ensures)) ∙ not-true _ (c .if3 .taken) in
+    sym (t ∙ rw (k, e, m) refl)
 
 slice-aggregate-lies-under : tie.Need-slice-aggregate-lies-under
 slice-aggregate-lies-under c = search needs
@@ -77,11 +71,11 @@ returns-4 c =
     let k = ap (λ (x : ℕ). eqb x 1) (sym (c .before .before .before .before .before .before .before .before .before .kind-of .ensures))
     ∙ eq-eqb _ 1 (c .before .before .before .before .before .before .before .before .if1 .left) in
     let w = c .before .before .before .before .before .before .before .first-text .ensures in
-    let m = sym (rw w at (c .before .before .before .before .before .before .may-mean .ensures))
+    let e = sym (rw w at (c .before .before .before .before .before .before .is-elsewhere .ensures))
     ∙ not-false _ (c .before .before .before .before .before .if2 .left) in
-    let e = sym (rw w at (c .before .before .before .before .is-elsewhere .ensures)) ∙ not-false _ (c .before .before .before .if3 .left) in
+    let m = sym (rw w at (c .before .before .before .before .may-mean .ensures)) ∙ not-false _ (c .before .before .before .if3 .left) in
     let u = sym (rw w at (c .before .lies-under .ensures)) ∙ not-true _ (c .if4 .taken) in
-    sym (t ∙ rw (k, m, e, u) refl)
+    sym (t ∙ rw (k, e, m, u) refl)
 
 contains-node-in-requires : tie.Need-contains-node-in-requires
 contains-node-in-requires c κs = search needs
@@ -95,12 +89,12 @@ returns-5 c =
     let k = ap (λ (x : ℕ). eqb x 1) (sym (c .before .before .before .before .before .before .before .before .before .before .kind-of
     .ensures)) ∙ eq-eqb _ 1 (c .before .before .before .before .before .before .before .before .before .if1 .left) in
     let w = c .before .before .before .before .before .before .before .before .first-text .ensures in
-    let m = sym (rw w at (c .before .before .before .before .before .before .before .may-mean .ensures))
+    let e = sym (rw w at (c .before .before .before .before .before .before .before .is-elsewhere .ensures))
     ∙ not-false _ (c .before .before .before .before .before .before .if2 .left) in
-    let e = sym (rw w at (c .before .before .before .before .before .is-elsewhere .ensures))
+    let m = sym (rw w at (c .before .before .before .before .before .may-mean .ensures))
     ∙ not-false _ (c .before .before .before .before .if3 .left) in
     let u = sym (rw w at (c .before .before .lies-under .ensures)) ∙ not-false _ (c .before .if4 .left) in
-    rw w at (c .contains-node-in .ensures) ∙ sym (t ∙ rw (k, m, e, u) refl)
+    rw w at (c .contains-node-in .ensures) ∙ sym (t ∙ rw (k, e, m, u) refl)
 
 pub is-another-spec : {M : Type 1} → statement M
 is-another-spec =
@@ -109,9 +103,9 @@ is-another-spec =
     kind-of-requires
     returns
     first-text-requires
-    may-mean-requires
-    returns-2
     is-elsewhere-requires
+    returns-2
+    may-mean-requires
     returns-3
     slice-aggregate-lies-under
     lies-under-requires
