@@ -22,6 +22,7 @@ use Rattle.queries.specs.meaning.Live.{containsNode}
 use Rattle.input.specs.meaning.Tree.{tree, empty, more}
 use Rattle.input.specs.meaning.Report.{noSpan}
 use Rattle.input.specs.meaning.Expr.{eval, evals, value}
+use Rattle.queries.specs.meaning.Lookup.{lookup}
 use Rattle.resolving.specs.meaning.Resolve.{resolve, reaches, firstBinding}
 use Rattle.paths_numbers.specs.declared.dt_property.BitsSize.the-variants.{Bits8}
 
@@ -100,7 +101,7 @@ isBound l binds = any (λ (b : Binding). same (b .label) l) binds
 
 pub bound-reaches-root : (l : List ℕ) (binds : List Binding) (defs : List Def) → isBound l binds ≡ true → containsNode (47 ∷ []) defs ≡ true
     → resolve (labelPath l (47 ∷ [])) binds defs ≡ reaches (47 ∷ [])
-unfolding resolve firstBinding any same join
+unfolding resolve firstBinding any same join lookup
 bound-reaches-root l [] defs bound live = absurd (not-both bound refl)
 bound-reaches-root l (b ∷ binds) defs bound live =
     by-test (same (b .label) l)
