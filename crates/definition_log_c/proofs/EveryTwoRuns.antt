@@ -26,34 +26,36 @@ code-keeps = met
 
 -- a run: what was lent, what was answered and what was left, which keep the contract
 pub record LowerRun : Type 0 where
-  pub lifetimes : Lfts 4
+  pub lifetimes : Lfts 5
   pub lent : Dens lifetimes ps
   pub answer : resT r lifetimes .Denot
-  pub left : AtExit (endedOf 4 ps r) lifetimes
+  pub left : AtExit (endedOf 5 ps r) lifetimes
   pub keeps : Learnt lifetimes lent answer left
 
--- its words, level and bytes, in the order of the parameters: words, text, level, out, bytes
+-- its words, level, starts and bytes, in the order of the parameters: words, text, level, starts, out, bytes
 abbrev pub runOf : LowerRun → Run
 runOf x =
     record {
       level = x .lent .1 .1 .0;
+      starts = x .lent .1 .1 .1 .0 .now;
       words = x .lent .0 .now;
       text = x .lent .1 .0 .now;
-      outBefore = x .lent .1 .1 .1 .0 .now;
-      bytesBefore = x .lent .1 .1 .1 .1 .0 .now;
+      outBefore = x .lent .1 .1 .1 .1 .0 .now;
+      bytesBefore = x .lent .1 .1 .1 .1 .1 .0 .now;
       answer = told (x .answer);
-      out = x .left .1 .1 .1 .0 .now;
-      bytes = x .left .1 .1 .1 .1 .0 .now;
+      out = x .left .1 .1 .1 .1 .0 .now;
+      bytes = x .left .1 .1 .1 .1 .1 .0 .now;
     }
 
 -- one that answers 0
 accepted-run : (x : LowerRun) → runOf x .answer .number ≡ 0 → AcceptedRun (runOf x)
 accepted-run x z = record { lowered = x .keeps .0; words32 = x .keeps .1; accepted = z }
 
--- run B, at the same level, has a description that is run A's with the two items more: a new subnode, then its deletion by name
+-- run B, at the same level and of the same files, has a description that is run A's with the two items more: a new subnode, then its
+-- deletion by name
 pub every-two-runs : (new : List ℕ) (a b : LowerRun) → runOf a .answer .number ≡ 0 → runOf b .answer .number ≡ 0
-    → runOf a .level ≡ runOf b .level
+    → runOf a .level ≡ runOf b .level → runOf a .starts ≡ runOf b .starts
     → Inserted (runOf b .level) new [] start (description (runOf a .words) (runOf a .text)) (description (runOf b .words) (runOf b .text))
     → AlikeRuns new (runOf a) (runOf b)
 unfolding WholeRuns
-every-two-runs new a b za zb l i = whole-runs new (runOf a) (runOf b) (accepted-run a za) (accepted-run b zb) l i
+every-two-runs new a b za zb l s i = whole-runs new (runOf a) (runOf b) (accepted-run a za) (accepted-run b zb) l s i

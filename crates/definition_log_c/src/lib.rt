@@ -18,20 +18,21 @@ pub struct DlAnswer {
     pub returned: u32,
 }
 
-// Lowers a description, any words and any text, at any level into the buffers that are lent.
+// Lowers a description, any words and any text, at any level and with any starts of files into the buffers that are lent.
 #[no_mangle]
 pub extern "C" fn dl_lower(
     words: &[u32],
     text: &[u8],
     level: u32,
+    starts: &[u32],
     out: &mut [u32],
     bytes: &mut [u8],
 ) -> DlAnswer
-    ensures { λ r. ⌜ Lowered level (now (words .entry)) (now (text .entry)) (now (out .entry)) (now (bytes .entry)) (told r)
-        (now (out .exit)) (now (bytes .exit)) ⌝ }
+    ensures { λ r. ⌜ Lowered level (now (starts .entry)) (now (words .entry)) (now (text .entry)) (now (out .entry))
+        (now (bytes .entry)) (told r) (now (out .exit)) (now (bytes .exit)) ⌝ }
     ensures { λ _. ⌜ Words32 (now (out .exit)) ⌝ }
 {
-    let done = lower(words, text, level, out, bytes);
+    let done = lower(words, text, level, starts, out, bytes);
     DlAnswer {
         number: done.number,
         returned: done.returned,

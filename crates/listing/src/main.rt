@@ -116,6 +116,7 @@ fn list_lowered(
     requires { ⌜ length (now bytes) ≡ bytesLength ⌝ }
     ensures { λ n. ⌜ pageAt (now (page .exit)) n ≡ filled (now (page .entry)) (listed (now (words .entry)) (now (text .entry))) ⌝ }
 {
-    let answer = lower(words, text, SIGNED, out, bytes);
+    let one_file = [0u32];
+    let answer = lower(words, text, SIGNED, &one_file, out, bytes);
     list_answer(answer.number, answer.returned, out, bytes, page)
 }

@@ -20,6 +20,8 @@ use Rattle.log.specs.meaning.ReadBack.{defValueAt, defAt, readDefs, extT
 use Rattle.log.specs.meaning.ReadBack.{readDiags, Log, readLog}
 use Rattle.log.specs.meaning.Sound.{Place, definitions, extensions, bindings, diagnostics, labels, values, cells, references, kindsIn}
 use Rattle.log.specs.meaning.Sound.{below, followed, timesReached, sound, lowestFault}
+use Rattle.files.specs.meaning.Files.{fileOf}
+use Rattle.log.specs.meaning.Record.{spanStart, nameStart}
 use Rattle.log.specs.meaning.Written.{hasText, hasSecondText, hasN, hasM, named, Kept, Written}
 use Rattle.log.specs.meaning.Alike.{AlikeWords, AlikeAll, none, more, AlikeValue, AlikeDef, AlikeExt, AlikeLog, Words32}
 use Rattle.log.proofs.Reached.{Reached, reached-leads, reached-inside, text-length, childless, Head, defs, exts, binds, diags, post}
@@ -223,8 +225,8 @@ led : {A : Type 0} (t : ℕ) → (t ≡ 0) ⊎ A → (t ≡ 0 → ⊥) → A
 led t (inl z) n = absurd (n z)
 led t (inr a) n = a
 
--- the last three words of a record are named by no kind
-named-last : (k n i : ℕ) → 13 ≤ i → named k n i ≡ false
+-- the last word of a record is named by no kind
+pub named-last : (k n i : ℕ) → 15 ≤ i → named k n i ≡ false
 unfolding named
 named-last k n i h =
     simp (
@@ -237,19 +239,21 @@ named-last k n i h =
       ne-eqb i 8 (λ e. omega arith),
       lt-leb i 10 (omega arith),
       lt-leb i 12 (omega arith),
+      ne-eqb i 13 (λ e. omega arith),
+      ne-eqb i 14 (λ e. omega arith),
     )
 
 -- a text without bytes
 no-bytes : (bytes : List ℕ) (start size : ℕ) → size ≡ 0 → _≡_ {A = List ℕ} (take size (drop start bytes)) []
 no-bytes bytes start size e = rw e refl
 
-module _ {w b v c : List ℕ} {n m n′ m′ : ℕ} {l l′ : Log} (x : Written w b n m l) (y : Written v c n′ m′ l′) where
+module _ {starts w b v c : List ℕ} {n m n′ m′ : ℕ} {l l′ : Log} (x : Written starts w b n m l) (y : Written starts v c n′ m′ l′) where
   -- records of one kind, and with one N
   module _ (r s : ℕ) (h : Reached w r) (k : Reached v s) (kind : kindOf w r ≡ kindOf v s) where
-    kept-left : Kept w r
+    kept-left : Kept starts w r
     kept-left = x .kept r (le-leb 1 (timesReached (followed w) r) h)
 
-    kept-right : Kept v s
+    kept-right : Kept starts v s
     kept-right = y .kept s (le-leb 1 (timesReached (followed v) s) k)
 
     -- N where the kind has one
@@ -284,6 +288,22 @@ module _ {w b v c : List ℕ} {n m n′ m′ : ℕ} {l l′ : Log} (x : Written 
           no-bytes b (secondStart w r) (secondLength w r) (kept-left .unnamed 5 (omega arith) e)
           ∙ sym (no-bytes c (secondStart v s) (secondLength v s) (kept-right .unnamed 5 (omega arith) (rw (kind, same) at e))))
 
+      -- the files, by the spans
+      same-files : spanStart w r ≡ spanStart v s → nameStart w r ≡ nameStart v s → (i : ℕ) → 13 ≤ i → i < recordWords
+          → outField w r i ≡ outField v s i
+      unfolding named
+      same-files e f i g j =
+          by-test (eqb i 13)
+          (λ t. rw (eqb-true i 13 t)
+          (same-word 13 (omega arith) (λ z. kept-left .fileOfSpan z ∙ ap (fileOf starts) e ∙ sym (kept-right .fileOfSpan (rw kind at z)))))
+          (λ t. by-test (eqb i 14)
+          (λ u. rw (eqb-true i 14 u)
+          (same-word 14 (omega arith) (λ z. kept-left .fileOfName z ∙ ap (fileOf starts) f ∙ sym (kept-right .fileOfName (rw kind at z)))))
+          (λ u. same-word i j (λ z. absurd (not-both z (named-last (kindOf w r) (nOf w r) i (above t u))))))
+        where
+          above : eqb i 13 ≡ false → eqb i 14 ≡ false → 15 ≤ i
+          above t u = omega (arith, eqb-false i 13 t, eqb-false i 14 u)
+
       own : (hasText (kindOf w r) (nOf w r) ≡ true → firstText w b r ≡ firstText v c s)
           → (hasSecondText (kindOf w r) (nOf w r) ≡ true → secondText w b r ≡ secondText v c s)
           → (hasM (kindOf w r) ≡ true → (kindOf w r ≡ extensionKind → ⊥) → mOf w r ≡ mOf v s)
@@ -294,6 +314,8 @@ module _ {w b v c : List ℕ} {n m n′ m′ : ℕ} {l l′ : Log} (x : Written 
       own t u f p q =
           let a = text-length w b (x .rules) r h in
           let d = text-length v c (y .rules) s k in
+          let e = same-word 9 (omega arith) (λ z. ap (λ (i : Span). i .from) (p z)) in
+          let g = same-word 11 (omega arith) (λ z. ap (λ (i : Span). i .from) (q z)) in
           record {
             kind = kind;
             text = same-text t;
@@ -303,11 +325,11 @@ module _ {w b v c : List ℕ} {n m n′ m′ : ℕ} {l l′ : Log} (x : Written 
             child = λ e. same-word 6 (omega arith) (λ z. absurd (not-both z e));
             n = same;
             m = λ e. same-word 8 (omega arith) (λ z. f z e);
-            start = same-word 9 (omega arith) (λ z. ap (λ (i : Span). i .from) (p z));
+            start = e;
             end = same-word 10 (omega arith) (λ z. ap (λ (i : Span). i .to) (p z));
-            nameFrom = same-word 11 (omega arith) (λ z. ap (λ (i : Span). i .from) (q z));
+            nameFrom = g;
             nameTo = same-word 12 (omega arith) (λ z. ap (λ (i : Span). i .to) (q z));
-            last = λ i g j. same-word i j (λ z. absurd (not-both z (named-last (kindOf w r) (nOf w r) i g)));
+            last = same-files e g;
           }
 
   -- a chain, where its records are alike

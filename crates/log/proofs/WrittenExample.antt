@@ -7,6 +7,7 @@ use native.Mathlib.Omega.{arith}
 use lib.ListN.{set}
 use Rattle.paths_numbers.specs.meaning.Text.{same, isEmpty, startsWith}
 use Rattle.paths_numbers.specs.meaning.Path.{goodPath, components}
+use Rattle.files.specs.meaning.Files.{lastFrom, fileOf}
 use Rattle.log.specs.meaning.Record.{outField, oneOf, logCount}
 use Rattle.log.specs.meaning.ReadBack.{Log, readLog}
 use Rattle.log.specs.meaning.Sound.{linkTo, headLinks, linksOf, targets, times, walk, followed, anyOf, headsOut, linksOut, unfit}
@@ -16,34 +17,38 @@ use Rattle.log.specs.examples.RecordExample.{listing, listingBytes, kind
 use Rattle.log.proofs.WrittenTest.{allBelow, allOf, zeroOrNamed, keptTest, restTest, reachedTest, sharedTest, wordTest, byteTest}
 use Rattle.log.proofs.WrittenTest.{writtenTest, written-by-test}
 
+-- of one file, which starts at 0
+abbrev oneFile : List ℕ
+oneFile = 0 ∷ []
+
 -- they keep row 8's rules and pass the tests of the others
 listing-kept : lowestFault listing listingBytes ≡ sound
 unfolding lowestFault firstFault atFault recordFault pathWrong spansReversed textsOut unfit linksOut headsOut anyOf followed walk times
     targets linksOf headLinks linkTo logCount oneOf outField goodPath components isEmpty same startsWith
 listing-kept = refl
 
-listing-tested : writtenTest listing listingBytes ≡ true
-unfolding writtenTest allOf allBelow restTest reachedTest keptTest zeroOrNamed sharedTest wordTest byteTest named holdersIn followed walk
-    times targets linksOf headLinks linkTo logCount oneOf outField
+listing-tested : writtenTest oneFile listing listingBytes ≡ true
+unfolding writtenTest allOf allBelow restTest reachedTest keptTest zeroOrNamed sharedTest wordTest byteTest fileOf lastFrom named
+    holdersIn followed walk times targets linksOf headLinks linkTo logCount oneOf outField
 listing-tested = refl
 
-pub listing-written : Written listing listingBytes 6 7 (readLog listing listingBytes)
+pub listing-written : Written oneFile listing listingBytes 6 7 (readLog listing listingBytes)
 unfolding outField
-listing-written = written-by-test listing listingBytes listing-kept listing-tested
+listing-written = written-by-test oneFile listing listingBytes listing-kept listing-tested
 
 kinds-kept : lowestFault kinds kindsBytes ≡ sound
 unfolding lowestFault firstFault atFault recordFault pathWrong spansReversed textsOut unfit linksOut headsOut anyOf followed walk times
     targets linksOf headLinks linkTo logCount oneOf outField goodPath components isEmpty same startsWith
 kinds-kept = refl
 
-kinds-tested : writtenTest kinds kindsBytes ≡ true
-unfolding writtenTest allOf allBelow restTest reachedTest keptTest zeroOrNamed sharedTest wordTest byteTest named holdersIn followed walk
-    times targets linksOf headLinks linkTo logCount oneOf outField
+kinds-tested : writtenTest oneFile kinds kindsBytes ≡ true
+unfolding writtenTest allOf allBelow restTest reachedTest keptTest zeroOrNamed sharedTest wordTest byteTest fileOf lastFrom named
+    holdersIn followed walk times targets linksOf headLinks linkTo logCount oneOf outField
 kinds-tested = refl
 
-pub kinds-written : Written kinds kindsBytes 16 19 (readLog kinds kindsBytes)
+pub kinds-written : Written oneFile kinds kindsBytes 16 19 (readLog kinds kindsBytes)
 unfolding outField
-kinds-written = written-by-test kinds kindsBytes kinds-kept kinds-tested
+kinds-written = written-by-test oneFile kinds kindsBytes kinds-kept kinds-tested
 
 -- zeros may follow the last whole record
 abbrev odd : ℕ → List ℕ
@@ -54,23 +59,23 @@ unfolding lowestFault firstFault atFault recordFault pathWrong spansReversed tex
     targets linksOf headLinks linkTo logCount oneOf outField goodPath components isEmpty same startsWith
 odd-kept = refl
 
-odd-tested : writtenTest (odd 0) listingBytes ≡ true
-unfolding writtenTest allOf allBelow restTest reachedTest keptTest zeroOrNamed sharedTest wordTest byteTest named holdersIn followed walk
-    times targets linksOf headLinks linkTo logCount oneOf outField
+odd-tested : writtenTest oneFile (odd 0) listingBytes ≡ true
+unfolding writtenTest allOf allBelow restTest reachedTest keptTest zeroOrNamed sharedTest wordTest byteTest fileOf lastFrom named
+    holdersIn followed walk times targets linksOf headLinks linkTo logCount oneOf outField
 odd-tested = refl
 
-pub odd-written : Written (odd 0) listingBytes 6 7 (readLog (odd 0) listingBytes)
+pub odd-written : Written oneFile (odd 0) listingBytes 6 7 (readLog (odd 0) listingBytes)
 unfolding outField
-odd-written = written-by-test (odd 0) listingBytes odd-kept odd-tested
+odd-written = written-by-test oneFile (odd 0) listingBytes odd-kept odd-tested
 
 -- a log that is not written, whatever it is said to be
 abbrev pub Refused : List ℕ → List ℕ → Type 0
-Refused words bytes = (records used : ℕ) (log : Log) → Written words bytes records used log → ⊥
+Refused words bytes = (records used : ℕ) (log : Log) → Written oneFile words bytes records used log → ⊥
 
 pub record NotWritten : Type 0 where
   -- a wrong count of records or bytes used
-  pub wrongRecords : (used : ℕ) (log : Log) → Written listing listingBytes 5 used log → ⊥
-  pub wrongBytes : (records : ℕ) (log : Log) → Written listing listingBytes records 8 log → ⊥
+  pub wrongRecords : (used : ℕ) (log : Log) → Written oneFile listing listingBytes 5 used log → ⊥
+  pub wrongBytes : (records : ℕ) (log : Log) → Written oneFile listing listingBytes records 8 log → ⊥
   -- a word that is not named: in record 0, the last of a label's, the span of a label, the second text of a label reference
   pub strayHead : Refused (but 0 7 1 listing) listingBytes
   pub strayLast : Refused (but 4 15 1 listing) listingBytes

@@ -24,7 +24,7 @@ use Rattle.log.proofs.Linked.{Linked, from-head, by-next, by-child, by-
 use Rattle.log.proofs.Pinned.{Every, done, also, by-kind, log-alike}
 
 -- what is zero in a written log
-written-zeros : {w b : List ℕ} {n m : ℕ} {l : Log} → Written w b n m l → Zeros w b
+written-zeros : {starts w b : List ℕ} {n m : ℕ} {l : Log} → Written starts w b n m l → Zeros w b
 written-zeros {w} {b} x =
     record {
       unreachedWords = x .clearWords;
@@ -207,7 +207,8 @@ module _ (w b v c : List ℕ) where
         }
 
 -- whole logs
-pub written-pinned : {w b v c : List ℕ} {n m : ℕ} {l : Log} → Written w b n m l → Written v c n m l → Words32 w → Words32 v → Pinned w b v c
+pub written-pinned : {starts w b v c : List ℕ} {n m : ℕ} {l : Log} → Written starts w b n m l → Written starts v c n m l
+    → Words32 w → Words32 v → Pinned w b v c
 written-pinned {w} {b} {v} {c} x y ww wv =
     record {
       records = log-alike x y ww wv refl;

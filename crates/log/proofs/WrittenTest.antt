@@ -12,6 +12,8 @@ use Rattle.log.specs.meaning.Record.{recordWords, headWords, outField, k
 use Rattle.log.specs.meaning.Record.{secondLength, nOf, recordsUsed, bytesUsed, extensionKind, logCount}
 use Rattle.log.specs.meaning.ReadBack.{readLog}
 use Rattle.log.specs.meaning.Sound.{Link, targets, times, followed, timesReached, isReached, sound, lowestFault}
+use Rattle.files.specs.meaning.Files.{fileOf}
+use Rattle.log.specs.meaning.Record.{hasSpan, hasNameSpan, spanStart, nameStart, spanFile, nameFile}
 use Rattle.log.specs.meaning.Written.{named, largestN, holds, holdersIn, holders, Kept, Written}
 use Rattle.log.proofs.Reached.{reached-inside, texts-inside}
 
@@ -50,8 +52,8 @@ all-of t ts e = both t (allOf ts) e
 unfoldable pub zeroOrNamed : List ℕ → ℕ → ℕ → Bool
 zeroOrNamed words r i = cond (named (kindOf words r) (nOf words r) i) true (eqb (outField words r i) 0)
 
-unfoldable pub keptTest : List ℕ → ℕ → Bool
-keptTest words r =
+unfoldable pub keptTest : List ℕ → List ℕ → ℕ → Bool
+keptTest starts words r =
     allOf
     (allBelow recordWords (zeroOrNamed words r)
     ∷ implies (eqb (textLength words r) 0) (eqb (textStart words r) 0)
@@ -59,6 +61,8 @@ keptTest words r =
     ∷ leb (nOf words r) (largestN (kindOf words r) (nOf words r))
     ∷ implies (eqb (kindOf words r) extensionKind) (eqb (nextOf words (childOf words r)) 0)
     ∷ implies (eqb (kindOf words r) extensionKind) (not (eqb (childOf words r) 0))
+    ∷ implies (hasSpan (kindOf words r)) (eqb (outField words r 13) (fileOf starts (spanStart words r)))
+    ∷ implies (hasNameSpan (kindOf words r)) (eqb (outField words r 14) (fileOf starts (nameStart words r)))
     ∷ [])
 
 or-zero : (a : Bool) (n : ℕ) → cond a true (eqb n 0) ≡ true → a ≡ false → n ≡ 0
@@ -68,21 +72,27 @@ or-zero false n e h = eqb-true n 0 e
 implies-zero : (a b : ℕ) → implies (eqb a 0) (eqb b 0) ≡ true → a ≡ 0 → b ≡ 0
 implies-zero a b e h = eqb-true b 0 (by-implies (eqb a 0) (eqb b 0) e (eq-eqb a 0 h))
 
-kept-by-test : (words : List ℕ) (r : ℕ) → keptTest words r ≡ true → Kept words r
+kept-by-test : (starts words : List ℕ) (r : ℕ) → keptTest starts words r ≡ true → Kept starts words r
 unfolding keptTest zeroOrNamed
-kept-by-test words r e =
+kept-by-test starts words r e =
     let a = all-of _ _ e in
     let b = all-of _ _ (a .1) in
     let c = all-of _ _ (b .1) in
     let d = all-of _ _ (c .1) in
     let f = all-of _ _ (d .1) in
     let g = all-of _ _ (f .1) in
+    let o = all-of _ _ (g .1) in
+    let p = all-of _ _ (o .1) in
     record {
       unnamed = λ i h n. or-zero (named (kindOf words r) (nOf words r) i) (outField words r i)
           (all-below recordWords (zeroOrNamed words r) (a .0) i h) n;
       emptyText = implies-zero (textLength words r) (textStart words r) (b .0);
       emptySecond = implies-zero (secondLength words r) (secondStart words r) (c .0);
       n = leb-true (nOf words r) (largestN (kindOf words r) (nOf words r)) (d .0);
+      fileOfSpan = λ k.
+          eqb-true (spanFile words r) (fileOf starts (spanStart words r)) (by-implies (hasSpan (kindOf words r)) _ (o .0) k);
+      fileOfName = λ k.
+          eqb-true (nameFile words r) (fileOf starts (nameStart words r)) (by-implies (hasNameSpan (kindOf words r)) _ (p .0) k);
       aReference =
           λ k.
           eqb-false (childOf words r) 0
@@ -100,8 +110,8 @@ kept-by-test words r e =
 unfoldable pub restTest : List ℕ → ℕ → Bool
 restTest words i = implies (leb headWords i) (eqb (outField words 0 i) 0)
 
-unfoldable pub reachedTest : List ℕ → ℕ → Bool
-reachedTest words r = implies (isReached words r) (keptTest words r)
+unfoldable pub reachedTest : List ℕ → List ℕ → ℕ → Bool
+reachedTest starts words r = implies (isReached words r) (keptTest starts words r)
 
 unfoldable pub sharedTest : List ℕ → ℕ → Bool
 sharedTest words i = leb (holders words i) 1
@@ -112,11 +122,11 @@ wordTest words i = implies (leb recordWords i) (cond (isReached words (i / recor
 unfoldable pub byteTest : List ℕ → List ℕ → ℕ → Bool
 byteTest words bytes i = implies (eqb (holders words i) 0) (eqb (getD bytes i 0) 0)
 
-unfoldable pub writtenTest : List ℕ → List ℕ → Bool
-writtenTest words bytes =
+unfoldable pub writtenTest : List ℕ → List ℕ → List ℕ → Bool
+writtenTest starts words bytes =
     allOf
     (allBelow recordWords (restTest words)
-    ∷ allBelow (logCount words) (reachedTest words)
+    ∷ allBelow (logCount words) (reachedTest starts words)
     ∷ allBelow (length bytes) (sharedTest words)
     ∷ allBelow (length words) (wordTest words)
     ∷ allBelow (length bytes) (byteTest words bytes)
@@ -140,13 +150,13 @@ none-hold words m i k (l ∷ ls) f =
     )
     (omega (arith, none-hold words m i k ls (λ r h. f r (omega arith))))
 
-module _ (words bytes : List ℕ) (ok : lowestFault words bytes ≡ sound) (e : writtenTest words bytes ≡ true) where
+module _ (starts words bytes : List ℕ) (ok : lowestFault words bytes ≡ sound) (e : writtenTest starts words bytes ≡ true) where
   -- a byte behind the lent ones is held by no text
   held-inside : (i : ℕ) → length bytes ≤ i → holders words i ≡ 0
   held-inside i h = none-hold words (length bytes) i h (followed words) (λ r k. texts-inside words bytes ok r k)
 
   tests : (allBelow recordWords (restTest words) ≡ true)
-      × (allBelow (logCount words) (reachedTest words) ≡ true)
+      × (allBelow (logCount words) (reachedTest starts words) ≡ true)
       × (allBelow (length bytes) (sharedTest words) ≡ true)
       × (allBelow (length words) (wordTest words) ≡ true)
       × (allBelow (length bytes) (byteTest words bytes) ≡ true)
@@ -164,12 +174,12 @@ module _ (words bytes : List ℕ) (ok : lowestFault words bytes ≡ sound) (e : 
       eqb-true (outField words 0 i) 0 (by-implies (leb headWords i) (eqb (outField words 0 i) 0)
       (all-below recordWords (restTest words) (tests .0) i k) (le-leb headWords i h))
 
-  reached-by-test : (r : ℕ) → isReached words r ≡ true → Kept words r
+  reached-by-test : (r : ℕ) → isReached words r ≡ true → Kept starts words r
   unfolding reachedTest
   reached-by-test r h =
       let k = reached-inside words r (leb-true 1 (timesReached (followed words) r) h) in
-      kept-by-test words r (by-implies (isReached words r) (keptTest words r)
-      (all-below (logCount words) (reachedTest words) (tests .1) r (k .1)) h)
+      kept-by-test starts words r (by-implies (isReached words r) (keptTest starts words r)
+      (all-below (logCount words) (reachedTest starts words) (tests .1) r (k .1)) h)
 
   shared-by-test : (i : ℕ) → holders words i ≤ 1
   unfolding sharedTest
@@ -198,7 +208,7 @@ module _ (words bytes : List ℕ) (ok : lowestFault words bytes ≡ sound) (e : 
       (λ t. List·getD-eq-default bytes 0 (ltb-false i (length bytes) t))
 
   -- a log that passes the tests is written: as what it reads as, with the counts that record 0 has
-  pub written-by-test : Written words bytes (recordsUsed words) (bytesUsed words) (readLog words bytes)
+  pub written-by-test : Written starts words bytes (recordsUsed words) (bytesUsed words) (readLog words bytes)
   written-by-test =
       record {
         reads = refl;

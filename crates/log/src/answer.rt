@@ -32,5 +32,8 @@ pub const REFUSED_PATH: u32 = 9;
 
 pub const REFUSED_LIST: u32 = 10;
 
+// of the files' starts (02, request 3);
+pub const REFUSED_FILES: u32 = 14;
+
 // of a description's level (02, request 10).
 pub const REFUSED_LEVEL: u32 = 18;

@@ -27,6 +27,10 @@ pub const NAME_START: u32 = 11;
 
 pub const NAME_END: u32 = 12;
 
+pub const FILE: u32 = 13;
+
+pub const NAME_FILE: u32 = 14;
+
 // The links by which a record is put into a chain, as places in its words.
 pub const NEXT_AT: usize = NEXT as usize;
 

@@ -1,5 +1,6 @@
--- The steps of the whole lowering one after the other: the empty log, the top items, the post checks, and record 0 or cleared buffers.
-use Prim.Native.Nat.{ℕ}
+-- The steps of the whole lowering one after the other: the empty log, the top items, the post checks, and record 0 and the files'
+-- numbers, or cleared buffers.
+use Prim.Native.Nat.{ℕ, _*_, _≤_}
 use mathlib.Core.Path.{_≡_, refl, ap, subst, _∙_}
 use mathlib.Core.Bool.{true, false}
 use mathlib.Core.List.{List, []}
@@ -7,6 +8,10 @@ use lib.ListN.{length, replicate}
 use Rattle.making.specs.declared.ctx.LowerCtx.{LowerCtx}
 use Rattle.making.specs.declared.place.PathAt.{PathAt}
 use Rattle.levels.specs.meaning.Rules.{isLevel}
+use Rattle.files.specs.meaning.Files.{goodFiles}
+use Rattle.file_words.specs.machine.Put.{FilesPut}
+use Rattle.file_words.proofs.FilesWritten.{files-written}
+use Rattle.log.specs.meaning.Record.{recordWords}
 use Rattle.log.specs.meaning.Contents.{Diag}
 use Rattle.making.specs.meaning.State.{State, start, emit}
 use Rattle.making.specs.machine.Represents.{Place, Represents, atStart, inChecks, checking, StartsChecks, Finishes}
@@ -39,7 +44,7 @@ checks-alike : (s : State) → postChecks (checking s) ≡ postChecks s
 unfolding postChecks
 checks-alike s = rw (references-alike (checking s) s refl refl) refl
 
-module _ (level : ℕ) (words text : List ℕ) {c d e : LowerCtx} {out bytes w b : List ℕ}
+module _ (level : ℕ) (files words text : List ℕ) {c d e : LowerCtx} {out bytes w b : List ℕ}
     (made : Represents atStart c out bytes (meaning level words text))
     (starts : StartsChecks c d)
     (checks : Lowers d e out bytes w b (λ (s : State). emit (postChecks s) s)) where
@@ -51,22 +56,31 @@ module _ (level : ℕ) (words text : List ℕ) {c d e : LowerCtx} {out bytes w b
       subst (λ (ds : List Diag). Represents (inChecks c all) e w b (emit ds (checking all))) (checks-alike all)
       (checks .lowers (inChecks c all) (checking all) (starts .checks out bytes all made))
 
+  -- the records made have room in what `finish` leaves
+  pub made-within : {x : List ℕ} → e .short ≡ false → Finishes e w x (c .diags .first) → e .records * recordWords ≤ length x
+  made-within n f = f .within (inChecks c all) b (emit (postChecks all) (checking all)) checked n
+
   -- the end, in buffers as long as those that were lent
-  module _ (l₀ : isLevel level ≡ true) (v : verdict words text ≡ accepted) {out₀ bytes₀ : List ℕ} (lo : length w ≡ length out₀)
+  module _ (l₀ : isLevel level ≡ true) (v : verdict words text ≡ accepted) (g : goodFiles files ≡ true) {out₀ bytes₀ : List ℕ}
+      (lo : length w ≡ length out₀)
       (lb : length b ≡ length bytes₀)
       (answer : Answered) where
     -- zeros, where the log ran short
     pub lowered-short : {x y : List ℕ} → e .short ≡ true → answer ≡ record { number = 7; returned = 0 } → x ≡ replicate (length w) 0
         → y ≡ replicate (length b) 0
-        → Lowered level words text out₀ bytes₀ answer x y
+        → Lowered level files words text out₀ bytes₀ answer x y
     lowered-short n q x y =
-        short l₀ v (fits-not all out₀ bytes₀ lo lb checked n) q (x ∙ ap (λ (i : ℕ). replicate i 0) lo)
+        short l₀ v g (fits-not all out₀ bytes₀ lo lb checked n) q (x ∙ ap (λ (i : ℕ). replicate i 0) lo)
         (y ∙ ap (λ (i : ℕ). replicate i 0) lb)
 
     -- the log, where it did not
-    pub lowered-done : {x : List ℕ} → e .short ≡ false → answer ≡ record { number = 0; returned = 0 } → Finishes e w x (c .diags .first)
-        → Lowered level words text out₀ bytes₀ answer x b
+    pub lowered-done : {x y : List ℕ} → e .short ≡ false → answer ≡ record { number = 0; returned = 0 } → Finishes e w x (c .diags .first)
+        → FilesPut files x y (e .records)
+        → Lowered level files words text out₀ bytes₀ answer y b
     unfolding emit logOf recordsMade bytesMade
-    lowered-done n q f =
-        done l₀ v (fits all out₀ bytes₀ lo lb checked n) q (f .sameLength ∙ lo) lb
-        (f .finishes (inChecks c all) b (emit (postChecks all) (checking all)) refl refl refl checked n (accepted-good level words text v))
+    lowered-done n q f p =
+        let k = inChecks c all in
+        let s = emit (postChecks all) (checking all) in
+        done l₀ v g (fits all out₀ bytes₀ lo lb checked n) q (p .sameLength ∙ f .sameLength ∙ lo) lb
+        (files-written g p (f .behind k b s checked n)
+        (f .finishes k b s refl refl refl checked n (accepted-good level words text v)))

@@ -3,11 +3,11 @@
 use Prim.Native.Nat.{ℕ, _+_, _*_, _-_, _≤_, _<_}
 use mathlib.Core.Path.{_≡_, refl, sym, ap, _∙_}
 use mathlib.Core.Bool.{true, false}
-use mathlib.Core.List.{List, [], _∷_, _++_}
+use mathlib.Core.List.{List, [], _∷_, _++_, append-assoc}
 use native.Mathlib.Omega.{arith}
 use borrow.Author.Tests.{eqb-true, leb-true, le-ltb}
 use lib.Dec.{eqb}
-use lib.ListN.{length, replicate, List·getD-append}
+use lib.ListN.{length, getD, replicate, length-append, List·getD-append}
 use Rattle.paths_numbers.specs.meaning.Text.{written}
 use Rattle.paths_numbers.proofs.Texts.{not-both, both}
 use Rattle.paths_numbers.proofs.Written.{written-length}
@@ -23,6 +23,7 @@ use Rattle.making.specs.machine.Buffers.{Layout}
 use Rattle.making.specs.machine.Holding.{Hand, Holds, going, over}
 use Rattle.making.specs.machine.Whole.{Making, mainLog, Whole, logIn}
 use Rattle.making.specs.machine.Finished.{head16, headIn, finished}
+use Rattle.making.proofs.Make.{length-from}
 use Rattle.making.proofs.Layouts.{count-words, same-count}
 use Rattle.making.proofs.Unlinked.{written-front}
 use Rattle.making.proofs.ReadEvents.{Splits}
@@ -95,7 +96,7 @@ module _ (es : List Event) (records used room more : ℕ) (fits : 1 + length es 
   unfolding outField allWords head16
   bytes-there = refl
 
-  all-written : Written words bytes records used (logIn es)
+  all-written : Written (0 ∷ []) words bytes records used (logIn es)
   all-written =
       record {
         reads = reads-back;
@@ -130,8 +131,21 @@ module _ {words bytes : List ℕ} {records used : ℕ} {es : List Event} (l : La
   unfolding head16
   same-length = written-length words 0 head0 (omega (arith, room0))
 
+  -- the records made have room in the words, and behind them are zeros
+  pub words-within : records * recordWords ≤ length words
+  words-within = omega (arith, l .recordsAre, count-words words (1 + length es) (l .recordsFit))
+
+  pub words-behind : (i : ℕ) → records * recordWords ≤ i → getD words i 0 ≡ 0
+  unfolding allWords
+  words-behind i h =
+      let room = length words - (1 + length es) * 16 in
+      let zeros : List ℕ = replicate 16 0 in
+      let made = wordsFrom 1 0 es in
+      ap (λ (w : List ℕ). getD w i 0) (l .wordsAre ∙ sym (append-assoc zeros made (replicate room 0)))
+      ∙ behind-zero (zeros ++ made) room i (omega (arith, l .recordsAre, length-append zeros made, length-from 1 0 es))
+
   -- the theorem, of a complete log
-  pub written-log : Whole es → Written (written words 0 (headIn records used es)) bytes records used (logIn es)
+  pub written-log : Whole es → Written (0 ∷ []) (written words 0 (headIn records used es)) bytes records used (logIn es)
   written-log whole =
       let fits : 1 + length es ≤ logCount (allWords head0 es (length words - (1 + length es) * 16)) =
       rw (← head-put, same-count words (written words 0 head0) same-length) (l .recordsFit) in
@@ -139,18 +153,18 @@ module _ {words bytes : List ℕ} {records used : ℕ} {es : List Event} (l : La
       (ap-bytes (sym (l .bytesAre))
       (all-written es records used (length words - (1 + length es) * 16) (length bytes - endOf 0 es) fits (l .ordered) whole))
     where
-      ap-bytes : {w b b' : List ℕ} {n m : ℕ} {g : Log} → b ≡ b' → Written w b n m g → Written w b' n m g
+      ap-bytes : {w b b' : List ℕ} {n m : ℕ} {g : Log} → b ≡ b' → Written (0 ∷ []) w b n m g → Written (0 ∷ []) w b' n m g
       ap-bytes q x = rw q at x
 
   -- and of one whose spans and paths are right by what it says
   pub good-written : Making mainLog es → goodLog (logIn es) ≡ true
-      → Written (written words 0 (headIn records used es)) bytes records used (logIn es)
+      → Written (0 ∷ []) (written words 0 (headIn records used es)) bytes records used (logIn es)
   good-written making good = written-log (good-whole es making good)
 
 -- after `finish`
 module _ (g : Hand) (c : LowerCtx) (words bytes : List ℕ) (es : List Event) (diags : ℕ) (main : g .log ≡ 0) (own : g .exts ≡ 0)
     (checks : g .post ≡ true) (room : c .short ≡ false) (lowering : diags ≡ first diagnostics 1 es) (whole : Whole es) where
-  pub finished-log : Holds g c words bytes es → Written (finished c diags words) bytes (c .records) (c .bytes) (logIn es)
+  pub finished-log : Holds g c words bytes es → Written (0 ∷ []) (finished c diags words) bytes (c .records) (c .bytes) (logIn es)
   unfolding finished
   finished-log (going s l e) =
       let d : c .defs .first ≡ first (defsOf 0) 1 es = rw main at (e .defsRun .firstIs) in

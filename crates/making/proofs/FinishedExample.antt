@@ -196,6 +196,6 @@ unfolding logIn defsIn defOf defValueOf extOf targetOf members
 says = refl
 
 -- and so it is written
-pub made-written : Written (head ++ rows) letters 8 6 (logIn made)
+pub made-written : Written (0 ∷ []) (head ++ rows) letters 8 6 (logIn made)
 unfolding written head16 first
 made-written = written-log laid whole

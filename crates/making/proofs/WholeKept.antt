@@ -10,6 +10,8 @@ use lib.Dec.{eqb}
 use lib.ListN.{length, getD}
 use Rattle.paths_numbers.proofs.Texts.{by-test, not-both, is-empty}
 use Rattle.log.specs.meaning.Record.{recordWords, outField, kindOf, nextOf, nOf, extensionKind, hasChildren, logCount}
+use Rattle.files.proofs.Starts.{one-file}
+use Rattle.log.specs.meaning.Record.{spanStart, nameStart}
 use Rattle.log.specs.meaning.Written.{hasText, hasSecondText, named, Kept}
 use Rattle.making.specs.machine.Events.{Event, childrenOf, inChain, first, startOf, alive16, members, below, allWords, Ordered}
 use Rattle.making.specs.machine.Whole.{There, Plain, Whole}
@@ -135,7 +137,7 @@ module _ (es : List Event) (records used room more : ℕ) (fits : 1 + length es 
     some-below : kindOf words a ≡ extensionKind → first (childrenOf a) 1 es ≡ 0 → ⊥
     some-below k z = omega (arith, one-below k, some-first (childrenOf a) 1 es (omega arith) z)
 
-  pub record-kept : {a : ℕ} {x : Event} → There es a x → Kept words a
+  pub record-kept : {a : ℕ} {x : Event} → There es a x → Kept (0 ∷ []) words a
   record-kept {a} {x} h =
       let t = text-words es records used room more fits ordered whole h in
       let s = second-words es records used room more fits ordered whole h in
@@ -145,6 +147,8 @@ module _ (es : List Event) (records used room more : ℕ) (fits : 1 + length es 
         emptyText = λ z. t .0 ∙ empty-start (b h) (x .text) (sym (t .1) ∙ z);
         emptySecond = λ z. s .0 ∙ empty-start (b h + length (x .text)) (x .second) (sym (s .1) ∙ z);
         n = rw (n-is h, kind-is es records used room fits ordered whole h) (whole .making .plain a x h .most);
+        fileOfSpan = λ k. word-is es records used room more fits ordered whole h 13 (omega arith) ∙ sym (one-file (spanStart words a));
+        fileOfName = λ k. word-is es records used room more fits ordered whole h 14 (omega arith) ∙ sym (one-file (nameStart words a));
         aReference = λ k z. some-below h k (sym c ∙ z);
         oneReference =
             λ k.

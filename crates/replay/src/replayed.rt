@@ -255,7 +255,8 @@ fn lowered(sample: &[u8], answer: Answer, out: &[u32], bytes: &[u8], t: Tally) -
 
 // Lowers an input.
 fn lower_case(words: &[u32], text: &[u8], out: &mut [u32], bytes: &mut [u8]) -> Answer {
-    lower(words, text, SIGNED, out, bytes)
+    let one_file = [0u32];
+    lower(words, text, SIGNED, &one_file, out, bytes)
 }
 
 // Whether all words are zero.

@@ -24,7 +24,7 @@ use Rattle.input.specs.meaning.Rows.{Verdict, accepted, refused, verdict}
 use Rattle.making.specs.meaning.State.{State, start, apart, dropped}
 use Rattle.items.specs.meaning.Lower.{Place, at, aside, discarded, nowhere, placeOf, settled, lowerPlaced, lowerNode, namedProperty}
 use Rattle.items.specs.meaning.Lower.{lowerProperty, lowerAs, lowerItem, lowerItems, lowered}
-use Rattle.lowering.specs.meaning.Lowered.{fitsIn, meaning, Lowered, noLevel, turnedDown, short, done}
+use Rattle.lowering.specs.meaning.Lowered.{fitsIn, meaning, Lowered, noLevel, turnedDown, noFiles, short, done}
 use Rattle.two_runs.specs.meaning.WholeRuns.{Run}
 use Rattle.two_levels.specs.meaning.TwoLevels.{noExpression, noExpressions, LoweringRun, SameLent, AlikeLeft, sameLeft, sameLog}
 use Rattle.two_levels.specs.meaning.TwoLevels.{TwoLevels}
@@ -130,41 +130,49 @@ clash : (v : Verdict) {n r : ℕ} → v ≡ refused n r → v ≡ accepted → �
 clash v e f = not-both (ap passes f) (ap passes e)
 
 -- what two runs of one input leave
-module _ (words text out bytes : List ℕ) (n : noExpressions (description words text) ≡ true) where
+module _ (starts words text out bytes : List ℕ) (n : noExpressions (description words text) ≡ true) where
   same-meaning : meaning signedLevel words text ≡ meaning unsignedLevel words text
   same-meaning = levels-same signedLevel unsignedLevel (description words text) n
 
   fits-both : fitsIn (meaning signedLevel words text) out bytes ≡ fitsIn (meaning unsignedLevel words text) out bytes
   fits-both = ap (λ (s : State). fitsIn s out bytes) same-meaning
 
-  left-alike : {x y : Answered} {o p b c : List ℕ} → Lowered signedLevel words text out bytes x o b
-      → Lowered unsignedLevel words text out bytes y p c
+  left-alike : {x y : Answered} {o p b c : List ℕ} → Lowered signedLevel starts words text out bytes x o b
+      → Lowered unsignedLevel starts words text out bytes y p c
       → Words32 o → Words32 p → (x ≡ y) × AlikeLeft o b p c
   unfolding isLevel
   left-alike (noLevel k e f g) h wo wp = absurd (not-both {t = true} refl k)
   left-alike (turnedDown k v e f g) (noLevel k' e' f' g') wo wp = absurd (not-both {t = true} refl k')
   left-alike (turnedDown k v e f g) (turnedDown k' v' e' f' g') wo wp =
       (e ∙ ap refusalOf (sym v ∙ v') ∙ sym e', sameLeft (f ∙ sym f') (g ∙ sym g'))
-  left-alike (turnedDown k v e f g) (short k' v' q' e' f' g') wo wp = absurd (clash (verdict words text) v v')
-  left-alike (turnedDown k v e f g) (done k' v' q' e' f' g' w') wo wp = absurd (clash (verdict words text) v v')
-  left-alike (short k v q e f g) (noLevel k' e' f' g') wo wp = absurd (not-both {t = true} refl k')
-  left-alike (short k v q e f g) (turnedDown k' v' e' f' g') wo wp = absurd (clash (verdict words text) v' v)
-  left-alike (short k v q e f g) (short k' v' q' e' f' g') wo wp = (e ∙ sym e', sameLeft (f ∙ sym f') (g ∙ sym g'))
-  left-alike (short k v q e f g) (done k' v' q' e' f' g' w') wo wp = absurd (not-both q' (sym fits-both ∙ q))
-  left-alike (done k v q e f g w) (noLevel k' e' f' g') wo wp = absurd (not-both {t = true} refl k')
-  left-alike (done k v q e f g w) (turnedDown k' v' e' f' g') wo wp = absurd (clash (verdict words text) v' v)
-  left-alike (done k v q e f g w) (short k' v' q' e' f' g') wo wp = absurd (not-both q (fits-both ∙ q'))
-  left-alike (done k v q e f g w) (done k' v' q' e' f' g' w') wo wp =
+  left-alike (turnedDown k v e f g) (noFiles k' v' s' e' f' g') wo wp = absurd (clash (verdict words text) v v')
+  left-alike (turnedDown k v e f g) (short k' v' s' q' e' f' g') wo wp = absurd (clash (verdict words text) v v')
+  left-alike (turnedDown k v e f g) (done k' v' s' q' e' f' g' w') wo wp = absurd (clash (verdict words text) v v')
+  left-alike (noFiles k v s e f g) (noLevel k' e' f' g') wo wp = absurd (not-both {t = true} refl k')
+  left-alike (noFiles k v s e f g) (turnedDown k' v' e' f' g') wo wp = absurd (clash (verdict words text) v' v)
+  left-alike (noFiles k v s e f g) (noFiles k' v' s' e' f' g') wo wp = (e ∙ sym e', sameLeft (f ∙ sym f') (g ∙ sym g'))
+  left-alike (noFiles k v s e f g) (short k' v' s' q' e' f' g') wo wp = absurd (not-both s' s)
+  left-alike (noFiles k v s e f g) (done k' v' s' q' e' f' g' w') wo wp = absurd (not-both s' s)
+  left-alike (short k v s q e f g) (noLevel k' e' f' g') wo wp = absurd (not-both {t = true} refl k')
+  left-alike (short k v s q e f g) (turnedDown k' v' e' f' g') wo wp = absurd (clash (verdict words text) v' v)
+  left-alike (short k v s q e f g) (noFiles k' v' s' e' f' g') wo wp = absurd (not-both s s')
+  left-alike (short k v s q e f g) (short k' v' s' q' e' f' g') wo wp = (e ∙ sym e', sameLeft (f ∙ sym f') (g ∙ sym g'))
+  left-alike (short k v s q e f g) (done k' v' s' q' e' f' g' w') wo wp = absurd (not-both q' (sym fits-both ∙ q))
+  left-alike (done k v s q e f g w) (noLevel k' e' f' g') wo wp = absurd (not-both {t = true} refl k')
+  left-alike (done k v s q e f g w) (turnedDown k' v' e' f' g') wo wp = absurd (clash (verdict words text) v' v)
+  left-alike (done k v s q e f g w) (noFiles k' v' s' e' f' g') wo wp = absurd (not-both s s')
+  left-alike (done k v s q e f g w) (short k' v' s' q' e' f' g') wo wp = absurd (not-both q (fits-both ∙ q'))
+  left-alike (done k v s q e f g w) (done k' v' s' q' e' f' g' w') wo wp =
       (e ∙ sym e', sameLog (written-pinned (rw same-meaning at w) w' wo wp))
 
 -- the input and the buffers of run B are those of run A
 as-lent : (a b : Run) → SameLent a b → LoweringRun b → b .level ≡ unsignedLevel
-    → Lowered unsignedLevel (a .words) (a .text) (a .outBefore) (a .bytesBefore) (b .answer) (b .out) (b .bytes)
-as-lent a b s r l = rw (s .words, s .text, s .out, s .bytes, ← l) (r .lowered)
+    → Lowered unsignedLevel (a .starts) (a .words) (a .text) (a .outBefore) (a .bytesBefore) (b .answer) (b .out) (b .bytes)
+as-lent a b s r l = rw (s .starts, s .words, s .text, s .out, s .bytes, ← l) (r .lowered)
 
 pub two-levels : TwoLevels
 unfolding TwoLevels
 two-levels a b ra rb la lb s n =
-    let h = left-alike (a .words) (a .text) (a .outBefore) (a .bytesBefore) n (rw la at (ra .lowered)) (as-lent a b s rb lb) (ra .words32)
-    (rb .words32) in
+    let h = left-alike (a .starts) (a .words) (a .text) (a .outBefore) (a .bytesBefore) n (rw la at (ra .lowered)) (as-lent a b s rb lb)
+    (ra .words32) (rb .words32) in
     record { answers = h .0; left = h .1 }

@@ -9,6 +9,7 @@ use borrow.Author.Tests.{leb-false}
 use lib.Dec.{leb}
 use lib.ListN.{getD}
 use Rattle.levels.specs.meaning.Rules.{unsignedLevel, isLevel}
+use Rattle.files.specs.meaning.Files.{rises, goodFiles, lastFrom, fileOf}
 use Rattle.paths_numbers.specs.meaning.Text.{same, isEmpty, startsWith}
 use Rattle.paths_numbers.specs.meaning.Path.{goodPath, components}
 use Rattle.paths_numbers.specs.meaning.Lists.{any}
@@ -30,7 +31,7 @@ use Rattle.lowering.specs.meaning.Lowered.{logOf, recordsMade, bytesMade, fitsI
 use Rattle.two_runs.specs.meaning.TwoRuns.{Inserted}
 use Rattle.two_runs.specs.meaning.WholeRuns.{AcceptedRun, AlikeRuns, WholeRuns}
 use Rattle.two_runs.specs.examples.TwoRunsExample.{computedState}
-use Rattle.two_runs.specs.examples.RunsExample.{runA, runB, accepted-a, accepted-b, rootWith, theTwo, read-a, read-b, newPath}
+use Rattle.two_runs.specs.examples.RunsExample.{files, runA, runB, accepted-a, accepted-b, rootWith, theTwo, read-a, read-b, newPath}
 use Rattle.two_runs.specs.examples.RunsExample.{root-inserted}
 use Rattle.two_runs.proofs.WholeRuns.{whole-runs}
 
@@ -40,9 +41,9 @@ unfolding lowestFault firstFault atFault recordFault pathWrong spansReversed tex
     targets linksOf headLinks linkTo logCount oneOf outField goodPath components isEmpty same startsWith
 kept = (refl, refl)
 
-tested : (writtenTest (runA .out) (runA .bytes) ≡ true) × (writtenTest (runB .out) (runB .bytes) ≡ true)
-unfolding writtenTest allOf allBelow restTest reachedTest keptTest zeroOrNamed sharedTest wordTest byteTest named holdersIn followed walk
-    times targets linksOf headLinks linkTo logCount oneOf outField
+tested : (writtenTest files (runA .out) (runA .bytes) ≡ true) × (writtenTest files (runB .out) (runB .bytes) ≡ true)
+unfolding writtenTest allOf allBelow restTest reachedTest keptTest zeroOrNamed sharedTest wordTest byteTest fileOf lastFrom named
+    holdersIn followed walk times targets linksOf headLinks linkTo logCount oneOf outField
 tested = (refl, refl)
 
 -- it says what the definitions make of the descriptions
@@ -68,24 +69,24 @@ all-below (x ∷ w) e (suc i) = by-test (leb (2 ^ 32) x) (λ t. absurd (not-both
 
 -- so both are accepted runs
 pub run-a : AcceptedRun runA
-unfolding fitsIn any outField isLevel
+unfolding fitsIn any outField isLevel goodFiles rises
 run-a =
     record {
       lowered =
-          done refl accepted-a (rw (read-a, counts .0, counts .1) refl) refl refl refl
-          (rw (read-a, counts .0, counts .1, logs .0) (written-by-test (runA .out) (runA .bytes) (kept .0) (tested .0)));
+          done refl accepted-a refl (rw (read-a, counts .0, counts .1) refl) refl refl refl
+          (rw (read-a, counts .0, counts .1, logs .0) (written-by-test files (runA .out) (runA .bytes) (kept .0) (tested .0)));
       words32 = record { below = all-below (runA .out) refl };
       accepted = refl;
     }
 
 pub run-b : AcceptedRun runB
-unfolding fitsIn any outField isLevel
+unfolding fitsIn any outField isLevel goodFiles rises
 run-b =
     record {
       lowered =
-          done refl accepted-b (rw (read-b, counts .2, counts .3) refl) refl refl refl
+          done refl accepted-b refl (rw (read-b, counts .2, counts .3) refl) refl refl refl
           (rw (read-b, counts .2, counts .3, logs .1)
-          (written-by-test (runB .out) (runB .bytes) (kept .1) (tested .1)));
+          (written-by-test files (runB .out) (runB .bytes) (kept .1) (tested .1)));
       words32 = record { below = all-below (runB .out) refl };
       accepted = refl;
     }
@@ -97,4 +98,4 @@ put-in = rw (read-a, read-b) root-inserted
 -- and the theorem applies
 pub runs-met : AlikeRuns newPath runA runB
 unfolding WholeRuns
-runs-met = whole-runs newPath runA runB run-a run-b refl put-in
+runs-met = whole-runs newPath runA runB run-a run-b refl refl put-in

@@ -25,7 +25,7 @@ use Rattle.making.specs.meaning.State.{start}
 use Rattle.items.specs.meaning.Lower.{lowered}
 use Rattle.input.specs.meaning.Input.{description}
 use Rattle.input.specs.meaning.Rows.{accepted, verdict}
-use Rattle.lowering.specs.meaning.Lowered.{logOf, recordsMade, bytesMade, meaning, Lowered, noLevel, turnedDown, short, done}
+use Rattle.lowering.specs.meaning.Lowered.{logOf, recordsMade, bytesMade, meaning, Lowered, noLevel, turnedDown, noFiles, short, done}
 use Rattle.two_runs.specs.meaning.TwoRuns.{Inserted, Alike, TwoRuns}
 use Rattle.two_runs.specs.meaning.WholeRuns.{Run, AcceptedRun, AlikeRuns, WholeRuns}
 use Rattle.input.proofs.Rows.{accepted-names}
@@ -35,18 +35,19 @@ use Rattle.two_runs.proofs.TwoRuns.{two-runs}
 -- an accepted run's input is accepted, and what its description lowers to is written
 pub record Wrote (r : Run) : Type 0 where
   pub verdictIs : verdict (r .words) (r .text) ≡ accepted
-  pub log : Written (r .out) (r .bytes) (recordsMade (meaning (r .level) (r .words) (r .text)))
+  pub log : Written (r .starts) (r .out) (r .bytes) (recordsMade (meaning (r .level) (r .words) (r .text)))
       (bytesMade (meaning (r .level) (r .words) (r .text)))
       (logOf (meaning (r .level) (r .words) (r .text)))
 
 pub wrote : (r : Run) → AcceptedRun r → Wrote r
 wrote r a = go (a .lowered)
   where
-    go : Lowered (r .level) (r .words) (r .text) (r .outBefore) (r .bytesBefore) (r .answer) (r .out) (r .bytes) → Wrote r
+    go : Lowered (r .level) (r .starts) (r .words) (r .text) (r .outBefore) (r .bytesBefore) (r .answer) (r .out) (r .bytes) → Wrote r
     go (noLevel n e o b) = let q : _≡_ {A = ℕ} 18 0 = sym (ap (λ (x : Answered). x .number) e) ∙ a .accepted in absurd (omega arith)
     go (turnedDown n v e o b) = absurd (refusal-number (r .words) (r .text) v (sym (ap (λ (x : Answered). x .number) e) ∙ a .accepted))
-    go (short n v f e o b) = let q : _≡_ {A = ℕ} 7 0 = sym (ap (λ (x : Answered). x .number) e) ∙ a .accepted in absurd (omega arith)
-    go (done n v f e o b w) = record { verdictIs = v; log = w }
+    go (noFiles n v g e o b) = let q : _≡_ {A = ℕ} 14 0 = sym (ap (λ (x : Answered). x .number) e) ∙ a .accepted in absurd (omega arith)
+    go (short n v g f e o b) = let q : _≡_ {A = ℕ} 7 0 = sym (ap (λ (x : Answered). x .number) e) ∙ a .accepted in absurd (omega arith)
+    go (done n v g f e o b w) = record { verdictIs = v; log = w }
 
 -- the answers of the two queries stand in the main chain
 all-both : {w : List ℕ} {p : Place} {x y : List ℕ} → AllStand w p x → AllStand w p y → AllStand w p (x ++ y)
@@ -103,12 +104,19 @@ history-named def path (r ∷ l) defined =
 
 -- what both runs read back, for two runs of which the second has the two items more
 module _ (new : List ℕ) (a b : Run) (ra : AcceptedRun a) (rb : AcceptedRun b) (l : a .level ≡ b .level)
+    (s : a .starts ≡ b .starts)
     (i : Inserted (b .level) new [] start (description (a .words) (a .text)) (description (b .words) (b .text))) where
   wa : Wrote a
   wa = wrote a ra
 
   wb : Wrote b
   wb = wrote b rb
+
+  -- run A's log by the starts of run B
+  log-a : Written (b .starts) (a .out) (a .bytes) (recordsMade (meaning (a .level) (a .words) (a .text)))
+      (bytesMade (meaning (a .level) (a .words) (a .text)))
+      (logOf (meaning (a .level) (a .words) (a .text)))
+  log-a = rw s at (wa .log)
 
   same-states : Alike new (meaning (a .level) (a .words) (a .text)) (meaning (b .level) (b .words) (b .text))
   unfolding TwoRuns
@@ -141,7 +149,7 @@ module _ (new : List ℕ) (a b : Run) (ra : AcceptedRun a) (rb : AcceptedRun b) 
       → AlikeAll (AlikeDef (a .out) (a .bytes) (b .out) (b .bytes)) rs ss
   alike-defs rs ss h k e =
       zip (defAt (a .out) (a .bytes)) (defAt (b .out) (b .bytes)) (AlikeDef (a .out) (a .bytes) (b .out) (b .bytes)) h k
-      (def-alike (wa .log) (wb .log) (ra .words32) (rb .words32)) e
+      (def-alike log-a (wb .log) (ra .words32) (rb .words32)) e
 
   lives-same : (base : List ℕ) → map (defAt (a .out) (a .bytes)) (liveAnswers (a .out) (a .bytes) base) ≡ map (defAt (b .out) (b .bytes))
       (liveAnswers (b .out) (b .bytes) base)
@@ -194,7 +202,7 @@ module _ (new : List ℕ) (a b : Run) (ra : AcceptedRun a) (rb : AcceptedRun b) 
   alike-runs : AlikeRuns new a b
   unfolding liveAnswers historyAnswers
   alike-runs =
-      let x = wa .log in
+      let x = log-a in
       let y = wb .log in
       let u = ra .words32 in
       let v = rb .words32 in
@@ -214,4 +222,4 @@ module _ (new : List ℕ) (a b : Run) (ra : AcceptedRun a) (rb : AcceptedRun b) 
 
 pub whole-runs : WholeRuns
 unfolding WholeRuns
-whole-runs new a b ra rb l i = alike-runs new a b ra rb l i
+whole-runs new a b ra rb l s i = alike-runs new a b ra rb l s i

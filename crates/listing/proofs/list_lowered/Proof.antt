@@ -6,6 +6,9 @@ use borrow.Author.Needs.{needs}
 use Rattle.listing.proofs.list_lowered.Statement.{statement}
 use Rattle.listing.proofs.list_lowered.Tie as tie
 
+slice-aggregate-lower : tie.Need-slice-aggregate-lower
+slice-aggregate-lower c = search needs
+
 lower-requires : tie.Need-lower-requires
 lower-requires c κs = search needs
 
@@ -23,7 +26,7 @@ same-length-3 c = search needs
 
 returns : tie.Need-returns
 returns c = let a = c .before .before .before .before .before .before .before .before .before .before .before .before .before .before
-    .before .before .before .before in
+    .before .before .before .before .before in
     c .before .before .list-answer .ensures ∙ ap (filled (a .args .page .now))
     (answer-listed (c .before .before .before .before .before .before .before .before .before .before .lower .ensures .0) (a .pre .0)
     (a .pre .1))
@@ -31,4 +34,4 @@ returns c = let a = c .before .before .before .before .before .before .before .b
 pub list-lowered-spec : {M : Type 1} → statement M
 list-lowered-spec =
     tie.close
-    (tie.spec lower-requires list-answer-requires same-length same-length-2 same-length-3 returns)
+    (tie.spec slice-aggregate-lower lower-requires list-answer-requires same-length same-length-2 same-length-3 returns)

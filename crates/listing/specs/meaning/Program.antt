@@ -60,7 +60,7 @@ outLength = 16384
 abbrev pub bytesLength : ℕ
 bytesLength = 65536
 
--- what is printed of words and a text, "the listing program stays at 1": by rows 1 to 6, by row 7, and else the log
+-- what is printed of words and a text, "the listing program stays at 1" and lends the list (0): by rows 1 to 6, by row 7, and else the log
 abbrev pub listedBy : Verdict → Bool → Log → List ℕ
 listedBy (refused number returned) fits log = refusalLine number returned
 listedBy accepted fits log = cond fits (listing log) (refusalLine 7 0)

@@ -49,6 +49,10 @@ refusedPath = 9
 abbrev pub refusedList : ℕ
 refusedList = 10
 
+-- 02, request 3: "A list that is empty, has over 16 entries, doesn't begin with 0 or doesn't rise strictly is refused with 14"
+abbrev pub refusedFiles : ℕ
+refusedFiles = 14
+
 -- 02, request 10: "A level other than 1 and 2 is refused with 18"
 abbrev pub refusedLevel : ℕ
 refusedLevel = 18

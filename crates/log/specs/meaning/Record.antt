@@ -53,6 +53,13 @@ nameStart words r = outField words r 11
 abbrev pub nameEnd : List ℕ → ℕ → ℕ
 nameEnd words r = outField words r 12
 
+-- 02, request 3: of the three, word 13 has the number of the span's file, and word 14 that of the name span's
+abbrev pub spanFile : List ℕ → ℕ → ℕ
+spanFile words r = outField words r 13
+
+abbrev pub nameFile : List ℕ → ℕ → ℕ
+nameFile words r = outField words r 14
+
 -- "Record 0: records used …, then first definition, extension, binding, lowering diagnostic, then bytes used, first post-check diagnostic"
 abbrev pub recordsUsed : List ℕ → ℕ
 recordsUsed words = outField words 0 0

@@ -1,10 +1,10 @@
 -- How the state and the buffers of a log in the making stand to what the log says (State): the relation that every operation keeps. The
 -- numbers of records and the starts of texts are in `es` and are seen by no caller.
-use Prim.Native.Nat.{ℕ, _+_, _≤_, _<_}
+use Prim.Native.Nat.{ℕ, _+_, _*_, _≤_, _<_}
 use mathlib.Core.Path.{_≡_}
 use mathlib.Core.Bool.{Bool, true, false, cond}
 use mathlib.Core.List.{List, [], _∷_, _++_, map}
-use lib.ListN.{length}
+use lib.ListN.{length, getD}
 use Rattle.paths_numbers.specs.meaning.Path.{root}
 use Rattle.making.specs.declared.ctx.LowerCtx.{LowerCtx}
 use Rattle.making.specs.declared.place.PathAt.{PathAt}
@@ -13,7 +13,8 @@ use Rattle.paths_numbers.specs.meaning.Reference.{Target}
 use Rattle.making.specs.meaning.State.{State, apart, dropped, extended}
 use Rattle.making.specs.machine.Adding.{unbindAt}
 use Rattle.log.specs.meaning.ReadBack.{chainOf, Log}
-use Rattle.log.specs.meaning.Record.{logCount, oneOf, defKinds, extensionKind, bindingKind, diagnosticKind, hasChildren, mostBytes}
+use Rattle.log.specs.meaning.Record.{recordWords, logCount, oneOf, defKinds, extensionKind, bindingKind, diagnosticKind, hasChildren}
+use Rattle.log.specs.meaning.Record.{mostBytes}
 use Rattle.log.specs.meaning.Sound as Sound
 use Rattle.log.specs.meaning.Sound.{kindsIn}
 use Rattle.making.specs.machine.Events.{Event, defsOf, extsOf, bindings, diagnostics, postDiagnostics, childrenOf, inChain, first}
@@ -241,10 +242,15 @@ pub record StartsChecks (c d : LowerCtx) : Type 0 where
 abbrev pub logSaid : Context → State → Log
 logSaid k s = record { defs = s .defs; exts = s .exts; binds = s .binds; diags = k .reported; post = s .diags }
 
--- the end: record 0 is written, and with it the log; a state that ran short leaves the words
+-- the end: record 0 is written, and with it the log of one file; a state that ran short leaves the words
 pub record Finishes (c : LowerCtx) (words w : List ℕ) (diags : ℕ) : Type 0 where
   pub finishes : (k : Context) (bytes : List ℕ) (s : State) → k .waiting ≡ [] → k .post ≡ true → diags ≡ k .firstReport
       → Represents k c words bytes s → c .short ≡ false
-      → goodLog (logSaid k s) ≡ true → Written w bytes (s .records) (s .bytes) (logSaid k s)
+      → goodLog (logSaid k s) ≡ true → Written (0 ∷ []) w bytes (s .records) (s .bytes) (logSaid k s)
+  -- the records made have room in the words, and behind them are zeros
+  pub within : (k : Context) (bytes : List ℕ) (s : State) → Represents k c words bytes s → c .short ≡ false
+      → c .records * recordWords ≤ length w
+  pub behind : (k : Context) (bytes : List ℕ) (s : State) → Represents k c words bytes s → c .short ≡ false → (i : ℕ)
+      → c .records * recordWords ≤ i → getD w i 0 ≡ 0
   pub sameLength : length w ≡ length words
   pub stays : c .short ≡ true → w ≡ words

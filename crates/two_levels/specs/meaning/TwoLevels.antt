@@ -25,11 +25,12 @@ unfoldable mutual
 
 -- a run of lowering, accepted or not
 pub record LoweringRun (r : Run) : Type 0 where
-  pub lowered : Lowered (r .level) (r .words) (r .text) (r .outBefore) (r .bytesBefore) (r .answer) (r .out) (r .bytes)
+  pub lowered : Lowered (r .level) (r .starts) (r .words) (r .text) (r .outBefore) (r .bytesBefore) (r .answer) (r .out) (r .bytes)
   pub words32 : Words32 (r .out)
 
 -- two runs that are told the same but for the level
 pub record SameLent (a b : Run) : Type 0 where
+  pub starts : a .starts ≡ b .starts
   pub words : a .words ≡ b .words
   pub text : a .text ≡ b .text
   pub out : a .outBefore ≡ b .outBefore

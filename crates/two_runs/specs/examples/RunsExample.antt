@@ -17,11 +17,16 @@ use Rattle.two_runs.specs.meaning.TwoRuns.{plainName, quietDirective, qu
 use Rattle.two_runs.specs.meaning.WholeRuns.{Run}
 use Rattle.two_runs.specs.examples.TwoRunsExample.{nodeNamed, deletionOf, computedState}
 
+-- both are told of three files
+abbrev pub files : List ℕ
+files = 0 ∷ 10 ∷ 40 ∷ []
+
 -- run A: the root, whose part is a slash
 abbrev pub runA : Run
 runA =
     record {
       level = unsignedLevel;
+      starts = files;
       words = head ++ words8 1 0 2 0 0 0 10 60 ++ words8 10 0 0 0 0 0 10 11;
       text = [];
       outBefore = replicate 48 0;
@@ -30,8 +35,8 @@ runA =
       -- the root; and code 23 for it, since no version directive comes before
       out =
           3 ∷ 1 ∷ 0 ∷ 0 ∷ 0 ∷ 1 ∷ 2 ∷ 0 ∷ 0 ∷ 0 ∷ 0 ∷ 0 ∷ 0 ∷ 0 ∷ 0 ∷ 0
-          ∷ 1 ∷ 0 ∷ 0 ∷ 1 ∷ 0 ∷ 0 ∷ 0 ∷ 0 ∷ 0 ∷ 10 ∷ 60 ∷ 10 ∷ 11 ∷ 0 ∷ 0 ∷ 0
-          ∷ 15 ∷ 0 ∷ 0 ∷ 0 ∷ 0 ∷ 0 ∷ 0 ∷ 23 ∷ 0 ∷ 10 ∷ 11 ∷ 0 ∷ 0 ∷ 0 ∷ 0 ∷ 0
+          ∷ 1 ∷ 0 ∷ 0 ∷ 1 ∷ 0 ∷ 0 ∷ 0 ∷ 0 ∷ 0 ∷ 10 ∷ 60 ∷ 10 ∷ 11 ∷ 1 ∷ 1 ∷ 0
+          ∷ 15 ∷ 0 ∷ 0 ∷ 0 ∷ 0 ∷ 0 ∷ 0 ∷ 23 ∷ 0 ∷ 10 ∷ 11 ∷ 0 ∷ 0 ∷ 1 ∷ 0 ∷ 0
           ∷ [];
       bytes = 47 ∷ [];
     }
@@ -41,6 +46,7 @@ abbrev pub runB : Run
 runB =
     record {
       level = unsignedLevel;
+      starts = files;
       words =
           head
           ++ words8 1 0 2 0 0 3 10 60
@@ -56,10 +62,10 @@ runB =
       -- the root, b, its deletion; and code 23 as in run A
       out =
           5 ∷ 1 ∷ 0 ∷ 0 ∷ 0 ∷ 5 ∷ 4 ∷ 0 ∷ 0 ∷ 0 ∷ 0 ∷ 0 ∷ 0 ∷ 0 ∷ 0 ∷ 0
-          ∷ 1 ∷ 2 ∷ 0 ∷ 1 ∷ 0 ∷ 0 ∷ 0 ∷ 0 ∷ 0 ∷ 10 ∷ 60 ∷ 10 ∷ 11 ∷ 0 ∷ 0 ∷ 0
-          ∷ 1 ∷ 3 ∷ 1 ∷ 2 ∷ 0 ∷ 0 ∷ 0 ∷ 0 ∷ 0 ∷ 20 ∷ 30 ∷ 20 ∷ 21 ∷ 0 ∷ 0 ∷ 0
-          ∷ 3 ∷ 0 ∷ 3 ∷ 2 ∷ 0 ∷ 0 ∷ 0 ∷ 0 ∷ 0 ∷ 40 ∷ 50 ∷ 40 ∷ 50 ∷ 0 ∷ 0 ∷ 0
-          ∷ 15 ∷ 0 ∷ 0 ∷ 0 ∷ 0 ∷ 0 ∷ 0 ∷ 23 ∷ 0 ∷ 10 ∷ 11 ∷ 0 ∷ 0 ∷ 0 ∷ 0 ∷ 0
+          ∷ 1 ∷ 2 ∷ 0 ∷ 1 ∷ 0 ∷ 0 ∷ 0 ∷ 0 ∷ 0 ∷ 10 ∷ 60 ∷ 10 ∷ 11 ∷ 1 ∷ 1 ∷ 0
+          ∷ 1 ∷ 3 ∷ 1 ∷ 2 ∷ 0 ∷ 0 ∷ 0 ∷ 0 ∷ 0 ∷ 20 ∷ 30 ∷ 20 ∷ 21 ∷ 1 ∷ 1 ∷ 0
+          ∷ 3 ∷ 0 ∷ 3 ∷ 2 ∷ 0 ∷ 0 ∷ 0 ∷ 0 ∷ 0 ∷ 40 ∷ 50 ∷ 40 ∷ 50 ∷ 2 ∷ 2 ∷ 0
+          ∷ 15 ∷ 0 ∷ 0 ∷ 0 ∷ 0 ∷ 0 ∷ 0 ∷ 23 ∷ 0 ∷ 10 ∷ 11 ∷ 0 ∷ 0 ∷ 1 ∷ 0 ∷ 0
           ∷ [];
       bytes = 47 ∷ 47 ∷ 98 ∷ 47 ∷ 98 ∷ [];
     }

@@ -21,6 +21,7 @@ use Rattle.two_runs.specs.meaning.TwoRuns.{Inserted}
 -- one run: what was lent, what was answered, and what was left
 pub record Run : Type 0 where
   pub level : ℕ
+  pub starts : List ℕ
   pub words : List ℕ
   pub text : List ℕ
   pub outBefore : List ℕ
@@ -31,7 +32,7 @@ pub record Run : Type 0 where
 
 -- it is a run of lowering, "All words are u32", and "Accepted: number 0"
 pub record AcceptedRun (r : Run) : Type 0 where
-  pub lowered : Lowered (r .level) (r .words) (r .text) (r .outBefore) (r .bytesBefore) (r .answer) (r .out) (r .bytes)
+  pub lowered : Lowered (r .level) (r .starts) (r .words) (r .text) (r .outBefore) (r .bytesBefore) (r .answer) (r .out) (r .bytes)
   pub words32 : Words32 (r .out)
   pub accepted : r .answer .number ≡ 0
 
@@ -60,9 +61,10 @@ pub record AlikeRuns (new : List ℕ) (a b : Run) : Type 0 where
       → AlikeAll (AlikeDef (a .out) (a .bytes) (b .out) (b .bytes)) (historyAnswers (a .out) (a .bytes) path)
       (historyAnswers (b .out) (b .bytes) path)
 
--- the claim; both runs are told the same level
+-- the claim; both runs are told the same level and, 02, request 3, "with the same list in both runs", the same starts of files. "Demand 3
+-- covers both words too": words 13 and 14 are among those that Alike compares.
 unfoldable pub WholeRuns : Type 0
 WholeRuns =
-    (new : List ℕ) (a b : Run) → AcceptedRun a → AcceptedRun b → a .level ≡ b .level
+    (new : List ℕ) (a b : Run) → AcceptedRun a → AcceptedRun b → a .level ≡ b .level → a .starts ≡ b .starts
     → Inserted (b .level) new [] start (description (a .words) (a .text)) (description (b .words) (b .text))
     → AlikeRuns new a b

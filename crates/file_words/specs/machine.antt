@@ -1,0 +1,2 @@
+-- Steps of the code that inner contracts cite.
+pub mod Put

@@ -1,0 +1,3 @@
+-- Laws of the files' starts.
+pub mod Starts
+pub mod LastStart

@@ -1,0 +1,2 @@
+// Which file a span came from.
+pub mod files;
