@@ -4,7 +4,7 @@
  *
  * A slice is a pointer and a length in elements: `words_len` counts words of 32 bits, not bytes. What a caller keeps:
  *   - the length is true: that many elements can be read there, and of `out`, `bytes` of lowering, and `list` written;
- *   - `words`, `out` and `list` are aligned as a uint32_t is;
+ *   - `words`, `starts`, `out` and `list` are aligned as a uint32_t is;
  *   - a slice that is written overlaps no other slice of the call: `list`, and `out` and `bytes` of lowering; the others are only read,
  *     and may share memory, as a path that stands in `bytes`;
  *   - a pointer is null only with length 0.
@@ -34,8 +34,9 @@ struct DlAnswer {
     uint32_t returned;
 };
 
-/* The numbers. A lowering tries 18, then 1 to 7 in this order, each over all records before the next, and a query 8 to 10. "First" is the
- * lowest record. After 18 and 1 to 6 both buffers of a lowering are as they were, and after 8 to 10 the list of a query is. */
+/* The numbers. A lowering tries 18, then 1 to 6, then 14, then 7, each over all records before the next, and a query 8 to 10. "First" is
+ * the lowest record. After 18, 1 to 6 and 14 both buffers of a lowering are as they were, and after 8 to 10 the list of a query is. These
+ * are not the codes of diagnostics, further down: number 14 and code 14 are two things. */
 enum {
     /* The answer is there.
      * Of dl_lower: the log is written, and every word and byte of the buffers that is no part of it is 0. Returned: 0.
@@ -67,6 +68,9 @@ enum {
     DL_BAD_PATH = 9,
     /* There are more answers than the list holds. Returned: how many, so that a list of that length is enough. */
     DL_LIST_TOO_SHORT = 10,
+    /* The starts of a lowering's files are none or more than 16, do not begin with 0, or one is not above the one before it. Returned:
+     * 0. */
+    DL_BAD_FILES = 14,
     /* The level of a lowering is neither 1 nor 2. Returned: 0. */
     DL_NO_LEVEL = 18
 };
@@ -171,6 +175,7 @@ enum {
     DL_MOST_IN_RECORDS = 2048,
     DL_MOST_TEXT = 65536,
     DL_MOST_LINKS = 64,
+    DL_MOST_FILES = 16,
     DL_MOST_RECORDS = 65536,
     DL_MOST_WORDS = 1048576, /* 16 for each record */
     DL_MOST_BYTES = 16777216
@@ -195,7 +200,9 @@ enum {
     DL_SPAN_END = 10,
     DL_NAME_START = 11, /* the name span; of a diagnostic with code 20 the span of the earlier binding */
     DL_NAME_END = 12,
-    DL_RECORD_WORDS = 16 /* the last three are 0 */
+    DL_FILE = 13, /* the number of the file that the span starts in, of definitions, extensions, bindings and diagnostics */
+    DL_NAME_FILE = 14, /* that of the name span, of definitions and extensions; of a diagnostic with code 20 the earlier binding's */
+    DL_RECORD_WORDS = 16 /* the last is 0 */
 };
 
 /* The words of record 0: how many records and bytes are used, and the first of each chain. */
@@ -269,7 +276,7 @@ enum {
 /* The rules that number 8 speaks of: the count of words is 16 times 1 or more; each link leads to a record of the log, up or down, and no
  * record is reached twice; a child is 0 where the kind has none; texts end inside `bytes`; a kind fits the chain that it is in; no span
  * ends before its start; paths of definitions and bindings are as number 9 asks and not empty, but a version's or plugin directive's may
- * be. Only record 0 and what links lead to from it is looked at, and its two counts are not. */
+ * be. Only record 0 and what links lead to from it is looked at, and its two counts are not, nor are DL_FILE and DL_NAME_FILE. */
 
 /* ---- Lowering. */
 
@@ -285,12 +292,21 @@ enum { DL_LEVEL_SIGNED = 1, DL_LEVEL_UNSIGNED = 2 };
  * under its full path. None meant is DL_CODE_NO_NODE, more than one DL_CODE_AMBIGUOUS_NODE. References in the log stay as written, and the
  * queries below take full paths only. */
 
-/* Lowers the description in `words` and `text` at a level into `out` and `bytes`: the log of its top items, then of the post checks. What
- * the buffers held before does not matter. `out` holds as many records as it has times 16 words, and DL_RECORDS_USED and DL_BYTES_USED of
- * the log say how much was needed. Words of `out` behind its last whole record are 0 then; leave them out where the log is lent to a
- * query, which asks for 16 times 1 or more. */
+/* A rack may be built from up to 16 files run together into one source, in which its spans are places (request 3 of
+ * docs/02-change-requests.md). `starts` says where each file starts there: 0 first, then each above the one before it; a rack of one file
+ * has the list 0. Files are numbered from 0. DL_FILE of a definition, in bodies of extensions too, an extension, a binding or a diagnostic
+ * is the number of the last start not above its span's start, and DL_NAME_FILE is that of its name span, 0 where it has none; records of
+ * other kinds have 0 in both. With the list 0, 5 place 4 is in file 0, and 5 and all above it are in file 1; less the file's start it is
+ * the place in that file. Ends do not count: a span over several files belongs to the one that it starts in. In the post checks' 3, 4 and
+ * 29 the span is the property's name span, in 21 to 23 the definition's. Starts may lie behind every span and behind `text`. The queries
+ * do not look at files. */
+
+/* Lowers the description in `words` and `text`, of the files that begin at `starts`, at a level into `out` and `bytes`: the log of its top
+ * items, then of the post checks. What the buffers held before does not matter. `out` holds as many records as it has times 16 words, and
+ * DL_RECORDS_USED and DL_BYTES_USED of the log say how much was needed. Words of `out` behind its last whole record are 0 then; leave
+ * them out where the log is lent to a query, which asks for 16 times 1 or more. */
 struct DlAnswer dl_lower(const uint32_t *words, size_t words_len, const uint8_t *text, size_t text_len, uint32_t level,
-                         uint32_t *out, size_t out_len, uint8_t *bytes, size_t bytes_len);
+                         const uint32_t *starts, size_t starts_len, uint32_t *out, size_t out_len, uint8_t *bytes, size_t bytes_len);
 
 /* ---- Queries. An answer is the number of a record of the chain that starts at DL_FIRST_DEFINITION. */
 

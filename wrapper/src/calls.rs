@@ -15,6 +15,8 @@ unsafe extern "C" {
         text: *const u8,
         text_len: usize,
         level: u32,
+        starts: *const u32,
+        starts_len: usize,
         out: *mut u32,
         out_len: usize,
         bytes: *mut u8,
@@ -53,8 +55,15 @@ unsafe extern "C" {
     ) -> DlAnswer;
 }
 
-/// Lowers a description at a level into two buffers.
-pub(crate) fn lower(words: &[u32], text: &[u8], level: u32, out: &mut [u32], bytes: &mut [u8]) -> DlAnswer {
+/// Lowers a description at a level, of the files with these starts, into two buffers.
+pub(crate) fn lower(
+    words: &[u32],
+    text: &[u8],
+    level: u32,
+    starts: &[u32],
+    out: &mut [u32],
+    bytes: &mut [u8],
+) -> DlAnswer {
     // SAFETY: each pointer is a slice's, aligned and with that slice's length in elements, so that
     // many can be read there and, of `out` and `bytes`, written. Those two are borrowed mutably, so
     // they overlap neither each other nor the rest. The function keeps no pointer and writes only
@@ -66,6 +75,8 @@ pub(crate) fn lower(words: &[u32], text: &[u8], level: u32, out: &mut [u32], byt
             text.as_ptr(),
             text.len(),
             level,
+            starts.as_ptr(),
+            starts.len(),
             out.as_mut_ptr(),
             out.len(),
             bytes.as_mut_ptr(),

@@ -3,8 +3,8 @@
 use std::{fmt, ops::Range};
 
 use crate::{
-    Log,
-    read::{FIRST_DIAGNOSTIC, FIRST_POST_DIAGNOSTIC, N, NAME_SPAN, SPAN, range},
+    Files, Log,
+    read::{FILE, FIRST_DIAGNOSTIC, FIRST_POST_DIAGNOSTIC, N, NAME_FILE, NAME_SPAN, SPAN, range},
 };
 
 /// The kind of a diagnostic's record.
@@ -50,7 +50,7 @@ const MEANINGS: [&str; 26] = [
 ];
 
 /// A diagnostic of a log: its code, what it is about, and where that stands. To print it says what the
-/// code stands for.
+/// code stands for, and [`located`](Diagnostic::located) says where as well.
 ///
 /// ```
 /// use definition_log::{InputKind, OwnedDescription, Tree};
@@ -73,8 +73,12 @@ pub struct Diagnostic<'a> {
     pub text: &'a [u8],
     /// Where it stands in the source, in bytes.
     pub span: Range<u32>,
+    /// The number of the file that its span starts in; see [`Files`].
+    pub file: usize,
     /// Of code 20: where the label was bound first.
     pub earlier: Option<Range<u32>>,
+    /// Of code 20: the number of the file that the label was bound in first.
+    pub earlier_file: Option<usize>,
 }
 
 impl Diagnostic<'_> {
@@ -83,7 +87,8 @@ impl Diagnostic<'_> {
     /// ```
     /// use definition_log::Diagnostic;
     ///
-    /// let diagnostic = Diagnostic { record: 1, code: 25, text: b"", span: 4..9, earlier: None };
+    /// let (span, file, earlier, earlier_file) = (4..9, 0, None, None);
+    /// let diagnostic = Diagnostic { record: 1, code: 25, text: b"", span, file, earlier, earlier_file };
     /// assert_eq!(diagnostic.meaning(), "division by zero");
     /// ```
     #[must_use]
@@ -93,6 +98,33 @@ impl Diagnostic<'_> {
         }
         let place = self.code.checked_sub(1).and_then(|place| usize::try_from(place).ok());
         place.and_then(|place| MEANINGS.get(place)).copied().unwrap_or("a code that no diagnostic has")
+    }
+
+    /// What it says, behind the file that its span starts in and the places there; of a duplicate label
+    /// also where it was bound first.
+    ///
+    /// ```
+    /// use definition_log::{Files, InputKind, OwnedDescription, Tree};
+    ///
+    /// // `stock = &lost;` of a root, in the second file
+    /// let lost = Tree::of(InputKind::Reference).text("lost").at(89..94);
+    /// let stock = Tree::property([Tree::name("stock").at(81..86)], [lost]).at(81..95);
+    /// let described = OwnedDescription::of(&[Tree::node([Tree::of(InputKind::Slash)], [stock])]);
+    /// let files = Files::from_lengths([27, 74])?;
+    /// let lowered = described.description().in_files(&files).lower()?;
+    /// let diagnostic = lowered.log().post_diagnostics().next().expect("a diagnostic");
+    /// assert_eq!(diagnostic.located(&files), "file 1, 54-59: label not found: lost (code 3)");
+    /// let files = files.named(["base.dts", "depot.dts"]);
+    /// assert_eq!(diagnostic.located(&files), "depot.dts, 54-59: label not found: lost (code 3)");
+    /// # Ok::<(), definition_log::LowerError>(())
+    /// ```
+    #[must_use]
+    pub fn located(&self, files: &Files) -> String {
+        let said = format!("{}: {self}", files.located(&self.span));
+        match &self.earlier {
+            Some(earlier) => format!("{said}, bound first in {}", files.located(earlier)),
+            None => said,
+        }
     }
 }
 
@@ -138,8 +170,16 @@ impl<'a> Log<'a> {
     fn diagnostics_from(self, first: u32) -> impl Iterator<Item = Diagnostic<'a>> + use<'a> {
         self.chain_of(first, DIAGNOSTIC).map_while(move |(record, words)| {
             let code = words[N];
-            let earlier = (code == DUPLICATE_LABEL).then(|| range(words, NAME_SPAN));
-            Some(Diagnostic { record, code, text: self.text(words)?, span: range(words, SPAN), earlier })
+            let duplicate = code == DUPLICATE_LABEL;
+            Some(Diagnostic {
+                record,
+                code,
+                text: self.text(words)?,
+                span: range(words, SPAN),
+                file: words[FILE] as usize,
+                earlier: duplicate.then(|| range(words, NAME_SPAN)),
+                earlier_file: duplicate.then_some(words[NAME_FILE] as usize),
+            })
         })
     }
 }
@@ -148,9 +188,14 @@ impl<'a> Log<'a> {
 mod tests {
     use super::*;
 
+    /// A diagnostic without a text, in file 1.
+    fn bare(record: u32, code: u32, span: Range<u32>) -> Diagnostic<'static> {
+        Diagnostic { record, code, text: b"", span, file: 1, earlier: None, earlier_file: None }
+    }
+
     #[test]
     fn codes_go_from_1_to_26_and_29() {
-        let of = |code| Diagnostic { record: 0, code, text: b"", span: 0..0, earlier: None };
+        let of = |code| bare(0, code, 0..0);
         assert_eq!(of(1).meaning(), MEANINGS[0]);
         assert_eq!(of(20).to_string(), "duplicate label (code 20)");
         assert_eq!(of(26).meaning(), MEANINGS[25]);
@@ -164,12 +209,12 @@ mod tests {
     fn the_name_span_of_a_duplicate_is_the_earlier_binding() {
         let mut words = vec![0; 16];
         (words[4], words[6]) = (1, 2);
-        words.extend([15, 0, 0, 1, 0, 0, 0, 20, 0, 8, 9, 4, 5, 0, 0, 0]);
-        words.extend([15, 0, 0, 0, 0, 0, 0, 21, 0, 6, 7, 0, 0, 0, 0, 0]);
+        words.extend([15, 0, 0, 1, 0, 0, 0, 20, 0, 8, 9, 4, 5, 1, 3, 0]);
+        words.extend([15, 0, 0, 0, 0, 0, 0, 21, 0, 6, 7, 0, 0, 1, 9, 0]);
         let log = Log::new(&words, b"a");
-        let first = Diagnostic { record: 1, code: 20, text: b"a", span: 8..9, earlier: Some(4..5) };
+        let first =
+            Diagnostic { text: b"a", earlier: Some(4..5), earlier_file: Some(3), ..bare(1, 20, 8..9) };
         assert_eq!(log.diagnostics().collect::<Vec<_>>(), [first]);
-        let post = Diagnostic { record: 2, code: 21, text: b"", span: 6..7, earlier: None };
-        assert_eq!(log.post_diagnostics().collect::<Vec<_>>(), [post]);
+        assert_eq!(log.post_diagnostics().collect::<Vec<_>>(), [bare(2, 21, 6..7)]);
     }
 }

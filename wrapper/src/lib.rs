@@ -4,7 +4,8 @@
 //! A definition log has what a devicetree source defines: its nodes, properties, deletions and
 //! directives, in order, with labels and diagnostics. A [`Description`] is that source as records, which
 //! a parser writes or, for tests and small things, a [`Tree`]; lowering it gives the [`Log`]. Its
-//! expressions are signed, or unsigned at another [`Level`].
+//! expressions are signed, or unsigned at another [`Level`]. A source that is run together from several
+//! [`Files`] gives each definition, binding, extension and diagnostic the number of its file.
 //!
 //! A log lies in words of 32 bits, 16 to a record, and in bytes, where the texts are, and a description
 //! in words, 8 to a record, and its text; docs/01-scope.md ("01") has the layout, and
@@ -44,6 +45,7 @@
 mod calls;
 mod diagnostic;
 mod error;
+mod files;
 mod lower;
 mod lower_error;
 mod read;
@@ -53,6 +55,7 @@ mod value;
 
 pub use diagnostic::Diagnostic;
 pub use error::QueryError;
+pub use files::{Files, FilesError};
 pub use lower::{Description, Level, OwnedLog};
 pub use lower_error::LowerError;
 pub use read::{Binding, Definition, Extension, Kind};

@@ -1,7 +1,7 @@
 //! Descriptions, and what they are lowered to.
 
 use crate::{
-    Log, LowerError, calls,
+    Files, Log, LowerError, calls,
     lower_error::MOST_BYTES,
     read::{MOST_RECORDS, RECORD_WORDS},
 };
@@ -12,7 +12,7 @@ const GROWTH: usize = 4;
 /// What the expressions of a description are reckoned with.
 ///
 /// ```
-/// use definition_log::{Cell, Infix, InputKind, Level, OwnedDescription, Tree, Value};
+/// use definition_log::{Cell, Infix, InputKind, Level, LowerError, OwnedDescription, Tree, Value};
 ///
 /// // p = /bits/ 64 <(0 - 1 < 0)>
 /// let number = |text| Tree::of(InputKind::Number).text(text);
@@ -27,11 +27,11 @@ const GROWTH: usize = 4;
 ///     let p = log.definitions().last().expect("p").record;
 ///     let Some(Value::CellList { record, .. }) = log.values(p).next() else { panic!("a list") };
 ///     let Some(Cell::Number(number)) = log.cells(record).next() else { panic!("a number") };
-///     Ok(number)
+///     Ok::<u64, LowerError>(number)
 /// };
 /// assert_eq!(cell(Level::Signed)?, 1, "-1 is below 0");
 /// assert_eq!(cell(Level::Unsigned)?, 0, "2^64 - 1 is not");
-/// # Ok::<(), definition_log::LowerError>(())
+/// # Ok::<(), LowerError>(())
 /// ```
 #[derive(Clone, Copy, Debug, Default, PartialEq, Eq, Hash)]
 pub enum Level {
@@ -100,10 +100,11 @@ pub struct Description<'a> {
     words: &'a [u32],
     text: &'a [u8],
     level: Level,
+    starts: &'a [u32],
 }
 
 impl<'a> Description<'a> {
-    /// The description in these words and this text, at level 1.
+    /// The description in these words and this text, at level 1, of one file.
     ///
     /// ```
     /// use definition_log::Description;
@@ -115,7 +116,7 @@ impl<'a> Description<'a> {
     /// ```
     #[must_use]
     pub const fn new(words: &'a [u32], text: &'a [u8]) -> Description<'a> {
-        Description { words, text, level: Level::Signed }
+        Description { words, text, level: Level::Signed, starts: &[0] }
     }
 
     /// The same description at a level.
@@ -130,7 +131,24 @@ impl<'a> Description<'a> {
     /// ```
     #[must_use]
     pub const fn at_level(self, level: Level) -> Description<'a> {
-        Description { words: self.words, text: self.text, level }
+        Description { level, ..self }
+    }
+
+    /// The same description, of these files. The log then has the number of its file with each definition,
+    /// binding, extension and diagnostic: that of the last file that does not start above the span's start.
+    ///
+    /// ```
+    /// use definition_log::{Files, sample};
+    ///
+    /// let files = Files::new(&[0, 27])?;
+    /// let lowered = sample::description().in_files(&files).lower()?;
+    /// let numbers: Vec<usize> = lowered.log().definitions().map(|definition| definition.file).collect();
+    /// assert_eq!(numbers, [0, 0, 0, 1, 1, 1, 1, 1]);
+    /// # Ok::<(), definition_log::LowerError>(())
+    /// ```
+    #[must_use]
+    pub const fn in_files(self, files: &'a Files) -> Description<'a> {
+        Description { starts: files.starts(), ..self }
     }
 
     /// Its level.
@@ -143,6 +161,16 @@ impl<'a> Description<'a> {
     #[must_use]
     pub const fn level(&self) -> Level {
         self.level
+    }
+
+    /// Where its files start.
+    ///
+    /// ```
+    /// assert_eq!(definition_log::sample::description().starts(), [0], "it is one file");
+    /// ```
+    #[must_use]
+    pub const fn starts(&self) -> &'a [u32] {
+        self.starts
     }
 
     /// Its words.
@@ -233,9 +261,10 @@ impl<'a> Description<'a> {
     /// ```
     pub fn lower_into<'b>(&self, out: &'b mut [u32], bytes: &'b mut [u8]) -> Result<Log<'b>, LowerError> {
         let records = out.len() / RECORD_WORDS;
-        let answer = calls::lower(self.words, self.text, self.level.number(), out, bytes);
+        let level = self.level.number();
+        let answer = calls::lower(self.words, self.text, level, self.starts, out, bytes);
         let input = (self.words.len(), self.text.len());
-        LowerError::or_lowered(answer, input, self.level.number(), (records, bytes.len()))?;
+        LowerError::or_lowered(answer, input, level, self.starts, (records, bytes.len()))?;
         Ok(Log::new(&out[..records * RECORD_WORDS], bytes))
     }
 }

@@ -2,10 +2,11 @@
 
 use std::{error::Error, fmt};
 
-use crate::{calls::DlAnswer, read::MOST_RECORDS};
+use crate::{FilesError, calls::DlAnswer, read::MOST_RECORDS};
 
-/// Why a description is not lowered: number 18 of 02, then rows 1 to 7 of 01's table, tried in this order,
-/// each over all records before the next. A record that is named is the lowest one at fault.
+/// Why a description is not lowered: number 18 of 02, then rows 1 to 6 of 01's table, 14 of 02, and row 7,
+/// tried in this order, each over all records before the next. A record that is named is the lowest one at
+/// fault.
 ///
 /// After all but [`NoRoom`](LowerError::NoRoom) the buffers are as they were; after that, zeros.
 ///
@@ -117,6 +118,24 @@ pub enum LowerError {
         /// How many bytes the other buffer holds.
         bytes: usize,
     },
+    /// Starts that are those of no [`Files`](crate::Files): there is none or more than 16, the first is not
+    /// 0, or one is not above the one before it.
+    ///
+    /// ```
+    /// use definition_log::{Files, FilesError, LowerError};
+    ///
+    /// let refused = LowerError::from(Files::new(&[5]).unwrap_err());
+    /// assert_eq!(refused, LowerError::BadFiles { why: FilesError::FirstNotZero { start: 5 } });
+    /// assert_eq!(
+    ///     refused.to_string(),
+    ///     "these are no starts of files (number 14): entry 0 is 5; the first file must start at 0, where the \
+    ///      source does"
+    /// );
+    /// ```
+    BadFiles {
+        /// The rule that they break.
+        why: FilesError,
+    },
     /// A number that is no [`Level`](crate::Level): it is neither 1 nor 2.
     ///
     /// ```
@@ -142,13 +161,14 @@ pub(crate) const MOST_BYTES: usize = 1 << 24;
 const MOST_INPUT_WORDS: usize = 8 * 2048;
 
 impl LowerError {
-    /// 01's number, 1 to 7, or 02's, 18.
+    /// 01's number, 1 to 7, or 02's, 14 or 18.
     ///
     /// ```
-    /// use definition_log::LowerError;
+    /// use definition_log::{FilesError, LowerError};
     ///
     /// assert_eq!(LowerError::BadLink { record: 3 }.number(), 2);
     /// assert_eq!(LowerError::NoRoom { records: 0, bytes: 0 }.number(), 7);
+    /// assert_eq!(LowerError::BadFiles { why: FilesError::Empty }.number(), 14);
     /// assert_eq!(LowerError::NoLevel { level: 0 }.number(), 18);
     /// ```
     #[must_use]
@@ -161,16 +181,19 @@ impl LowerError {
             LowerError::BadName { .. } => 5,
             LowerError::TooDeep { .. } => 6,
             LowerError::NoRoom { .. } => 7,
+            LowerError::BadFiles { .. } => 14,
             LowerError::NoLevel { .. } => 18,
         }
     }
 
     /// Nothing with number 0, or the error that another number stands for; `input` has the words and
-    /// bytes of the description, `level` its level's number, and `room` the records and bytes of the buffers.
+    /// bytes of the description, `level` its level's number, `starts` those of its files, and `room` the
+    /// records and bytes of the buffers.
     pub(crate) fn or_lowered(
         answer: DlAnswer,
         input: (usize, usize),
         level: u32,
+        starts: &[u32],
         room: (usize, usize),
     ) -> Result<(), LowerError> {
         let record = answer.returned;
@@ -183,8 +206,9 @@ impl LowerError {
             5 => Err(LowerError::BadName { record }),
             6 => Err(LowerError::TooDeep { record }),
             7 => Err(LowerError::NoRoom { records: room.0, bytes: room.1 }),
+            14 => Err(FilesError::of(starts).expect("only starts that break a rule are refused").into()),
             18 => Err(LowerError::NoLevel { level }),
-            number => unreachable!("the library answers 0 to 7 and 18, and this is {number}"),
+            number => unreachable!("the library answers 0 to 7, 14 and 18, and this is {number}"),
         }
     }
 }
@@ -248,6 +272,7 @@ impl fmt::Display for LowerError {
                 "the log does not fit (number 7): there was room for {records} records and {bytes} bytes; lend \
                  more of both, up to 65,536 records of 16 words and 16,777,216 bytes"
             ),
+            LowerError::BadFiles { why } => why.fmt(f),
             LowerError::NoLevel { level } => write!(
                 f,
                 "{level} is no level (number 18): it must be 1, signed expressions, or 2, unsigned ones"
@@ -263,7 +288,7 @@ mod tests {
     use super::*;
 
     fn answer(number: u32, returned: u32) -> Result<(), LowerError> {
-        LowerError::or_lowered(DlAnswer { number, returned }, (24, 5), 3, (2, 9))
+        LowerError::or_lowered(DlAnswer { number, returned }, (24, 5), 3, &[0, 4, 4], (2, 9))
     }
 
     #[test]
@@ -276,8 +301,10 @@ mod tests {
         assert_eq!(answer(5, 5), Err(LowerError::BadName { record: 5 }));
         assert_eq!(answer(6, 5), Err(LowerError::TooDeep { record: 5 }));
         assert_eq!(answer(7, 0), Err(LowerError::NoRoom { records: 2, bytes: 9 }));
+        let why = FilesError::NotRising { entry: 2, before: 4, start: 4 };
+        assert_eq!(answer(14, 0), Err(LowerError::BadFiles { why }));
         assert_eq!(answer(18, 0), Err(LowerError::NoLevel { level: 3 }));
-        for number in (1..8).chain([18]) {
+        for number in (1..8).chain([14, 18]) {
             assert_eq!(answer(number, 0).unwrap_err().number(), number);
         }
     }

@@ -23,6 +23,8 @@ pub(crate) const N: usize = 7;
 pub(crate) const M: usize = 8;
 pub(crate) const SPAN: usize = 9;
 pub(crate) const NAME_SPAN: usize = 11;
+pub(crate) const FILE: usize = 13;
+pub(crate) const NAME_FILE: usize = 14;
 
 // The words of record 0: how much is used, and the first record of each chain.
 const RECORDS_USED: usize = 0;
@@ -99,6 +101,7 @@ impl fmt::Display for Kind {
 /// let b = sample::log().definition(3).expect("record 3 is a definition");
 /// assert_eq!((b.record, b.kind, b.path), (3, Kind::Node, &b"/b"[..]));
 /// assert_eq!((b.span, b.name_span, b.omit), (14..23, 17..18, false));
+/// assert_eq!((b.file, b.name_file), (0, 0), "it was lowered as one file");
 /// ```
 #[derive(Clone, Debug, PartialEq, Eq, Hash)]
 pub struct Definition<'a> {
@@ -112,6 +115,10 @@ pub struct Definition<'a> {
     pub span: Range<u32>,
     /// Where its name stands there.
     pub name_span: Range<u32>,
+    /// The number of the file that its span starts in; see [`Files`](crate::Files).
+    pub file: usize,
+    /// The number of the file that its name stands in.
+    pub name_file: usize,
     /// Of a node: that it may be left out if nothing refers to it.
     pub omit: bool,
 }
@@ -133,6 +140,8 @@ pub struct Binding<'a> {
     pub path: &'a [u8],
     /// Where the label stands in the source, in bytes.
     pub span: Range<u32>,
+    /// The number of the file that the label stands in.
+    pub file: usize,
 }
 
 /// A node whose reference leads nowhere in an overlay, kept with its body, which
@@ -160,6 +169,10 @@ pub struct Extension<'a> {
     pub span: Range<u32>,
     /// Where its reference stands there.
     pub name_span: Range<u32>,
+    /// The number of the file that its span starts in.
+    pub file: usize,
+    /// The number of the file that its reference stands in.
+    pub name_file: usize,
 }
 
 /// Readers. They test no rule: of a log that a query would refuse they give what can be read, and
@@ -187,6 +200,8 @@ impl<'a> Log<'a> {
             path: self.text(words)?,
             span: range(words, SPAN),
             name_span: range(words, NAME_SPAN),
+            file: words[FILE] as usize,
+            name_file: words[NAME_FILE] as usize,
             omit: words[KIND] == 1 && words[N] != 0,
         })
     }
@@ -234,7 +249,7 @@ impl<'a> Log<'a> {
         let log = *self;
         log.chain_of(log.head(FIRST_BINDING), BINDING).map_while(move |(record, words)| {
             let (label, path) = (log.text(words)?, log.second_text(words)?);
-            Some(Binding { record, label, path, span: range(words, SPAN) })
+            Some(Binding { record, label, path, span: range(words, SPAN), file: words[FILE] as usize })
         })
     }
 
@@ -250,6 +265,8 @@ impl<'a> Log<'a> {
             target: log.record(words[CHILD]).and_then(|reference| log.target(reference)),
             span: range(words, SPAN),
             name_span: range(words, NAME_SPAN),
+            file: words[FILE] as usize,
+            name_file: words[NAME_FILE] as usize,
         })
     }
 

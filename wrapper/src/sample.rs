@@ -6,6 +6,8 @@
 //! / { p; c { q; }; /delete-node/ c; };
 //! ```
 //!
+//! The last line may be a file of its own, [`files`]; the log is that of one file.
+//!
 //! ```
 //! use definition_log::sample;
 //!
@@ -15,7 +17,7 @@
 //! # Ok::<(), definition_log::QueryError>(())
 //! ```
 
-use crate::{Description, Log};
+use crate::{Description, Files, Log};
 
 /// The source, in which the description has its texts.
 const SOURCE: &[u8] = b"/dts-v1/;\n/ { a: b { }; };\n/ { p; c { q; }; /delete-node/ c; };";
@@ -47,9 +49,9 @@ static DESCRIBED: [[u32; 8]; 18] = [
 /// The log's texts, one behind the other.
 const BYTES: &[u8] = b"//baa/b//p/c/c/q/c";
 
-/// The log's records: kind, next, text, second text, child, N, M, span, name span, zeros. Record 0 has the
-/// records used, the first definition, extension, binding, diagnostic, the bytes used, and the first
-/// post-check diagnostic.
+/// The log's records: kind, next, text, second text, child, N, M, span, name span, their files, zero.
+/// Record 0 has the records used, the first definition, extension, binding, diagnostic, the bytes used, and
+/// the first post-check diagnostic.
 #[rustfmt::skip]
 static RECORDS: [[u32; 16]; 11] = [
     [11, 1, 0, 5, 0, 18, 0, 0, 0, 0, 0, 0, 0, 0, 0, 0],
@@ -74,6 +76,25 @@ static RECORDS: [[u32; 16]; 11] = [
 #[must_use]
 pub fn description() -> Description<'static> {
     Description::new(DESCRIBED.as_flattened(), SOURCE)
+}
+
+/// The two files that the description may be taken to be run together from: the last line starts the
+/// second one.
+///
+/// ```
+/// use definition_log::sample;
+///
+/// let files = sample::files();
+/// let lowered = sample::description().in_files(&files).lower()?;
+/// for definition in lowered.log().definitions() {
+///     let path = String::from_utf8_lossy(definition.path);
+///     println!("{} \"{path}\" in {}", definition.kind, files.located(&definition.span));
+/// }
+/// # Ok::<(), definition_log::LowerError>(())
+/// ```
+#[must_use]
+pub fn files() -> Files {
+    Files::new(&[0, 27]).expect("27 is above 0").named(["base.dts", "depot.dts"])
 }
 
 /// The log.

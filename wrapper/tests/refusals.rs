@@ -130,6 +130,13 @@ fn counts_and_what_no_link_leads_to_are_not_looked_at() {
 }
 
 #[test]
+fn files_are_not_looked_at() {
+    for word in [13, 14, 15] {
+        assert_eq!(fault(&changed(&[(3, word, u32::MAX), (5, word, 9), (4, word, 1)])), None, "word {word}");
+    }
+}
+
+#[test]
 fn bad_paths_are_refused() {
     let log = sample::log();
     let mut list = [UNTOUCHED; 16];
