@@ -14,7 +14,7 @@
 
 #include "definition_log.h"
 
-enum { SLICES = 4 };
+enum { SLICES = 5 };
 
 struct Request {
     uint64_t function; /* an index of `functions` */
@@ -33,7 +33,7 @@ static uint32_t level;
 
 static struct DlAnswer lower(const struct iovec *s)
 {
-    return dl_lower(WORDS(s[0]), BYTES(s[1]), level, WORDS(s[2]), BYTES(s[3]));
+    return dl_lower(WORDS(s[0]), BYTES(s[1]), level, WORDS(s[2]), WORDS(s[3]), BYTES(s[4]));
 }
 
 static struct DlAnswer live(const struct iovec *s)
@@ -59,8 +59,8 @@ static volatile uint32_t seen;
 /* A lowering that writes zeros, without a fault. */
 static struct DlAnswer zeros(const struct iovec *s)
 {
-    memset(s[2].iov_base, 0, s[2].iov_len);
     memset(s[3].iov_base, 0, s[3].iov_len);
+    memset(s[4].iov_base, 0, s[4].iov_len);
     return (struct DlAnswer){DL_ANSWERED, 0};
 }
 
@@ -76,22 +76,28 @@ static struct DlAnswer reads_behind(const struct iovec *s)
     return zeros(s);
 }
 
+static struct DlAnswer reads_a_start_behind(const struct iovec *s)
+{
+    seen = ((const uint32_t *)s[2].iov_base)[s[2].iov_len / sizeof(uint32_t)];
+    return zeros(s);
+}
+
 static struct DlAnswer writes_behind(const struct iovec *s)
 {
-    ((uint8_t *)s[3].iov_base)[s[3].iov_len] = 0;
+    ((uint8_t *)s[4].iov_base)[s[4].iov_len] = 0;
     return zeros(s);
 }
 
 static struct DlAnswer leaves_a_byte(const struct iovec *s)
 {
-    memset(s[2].iov_base, 0, s[2].iov_len);
-    memset(s[3].iov_base, 0, s[3].iov_len - 1);
+    memset(s[3].iov_base, 0, s[3].iov_len);
+    memset(s[4].iov_base, 0, s[4].iov_len - 1);
     return (struct DlAnswer){DL_ANSWERED, 0};
 }
 
 static struct DlAnswer returns_what_was(const struct iovec *s)
 {
-    uint32_t was = *(const uint32_t *)s[2].iov_base;
+    uint32_t was = *(const uint32_t *)s[3].iov_base;
     zeros(s);
     return (struct DlAnswer){DL_ANSWERED, was};
 }
@@ -125,17 +131,18 @@ struct Function {
 
 /* In the order of judge/src/ours/served.rs. */
 static const struct Function functions[] = {
-    {"dl_lower", lower, 2, 0},
+    {"dl_lower", lower, 3, 0},
     {"dl_iter_live_defs_under", live, 3, 1},
     {"dl_history", history, 3, 1},
     {"dl_contains_node", contains_node, 3, 0},
-    {"reads_before", reads_before, 2, 0},
-    {"reads_behind", reads_behind, 2, 0},
-    {"writes_behind", writes_behind, 2, 0},
-    {"leaves_a_byte", leaves_a_byte, 2, 0},
-    {"returns_what_was", returns_what_was, 2, 0},
-    {"keeps_a_pointer", keeps_a_pointer, 2, 0},
-    {"changes_its_input", changes_its_input, 2, 0},
+    {"reads_before", reads_before, 3, 0},
+    {"reads_behind", reads_behind, 3, 0},
+    {"reads_a_start_behind", reads_a_start_behind, 3, 0},
+    {"writes_behind", writes_behind, 3, 0},
+    {"leaves_a_byte", leaves_a_byte, 3, 0},
+    {"returns_what_was", returns_what_was, 3, 0},
+    {"keeps_a_pointer", keeps_a_pointer, 3, 0},
+    {"changes_its_input", changes_its_input, 3, 0},
 };
 #define FUNCTIONS (sizeof functions / sizeof functions[0])
 
@@ -165,11 +172,11 @@ static int moved(ssize_t (*move)(int, const struct iovec *, int), int file, stru
     }
 }
 
-/* How many bytes of a slice that is written have been, by the answer. */
-static size_t written(const struct Function *function, struct DlAnswer answer, size_t length)
+/* How many bytes of slice i, which is written, have been, by the answer. A list stands just behind what is read. */
+static size_t written(const struct Function *function, struct DlAnswer answer, int i, size_t length)
 {
     if (function->list)
-        return answer.number == DL_ANSWERED ? answer.returned * sizeof(uint32_t) : 0;
+        return i == function->read && answer.number == DL_ANSWERED ? answer.returned * sizeof(uint32_t) : 0;
     return answer.number == DL_ANSWERED || answer.number == DL_NO_ROOM ? length : 0;
 }
 
@@ -181,7 +188,7 @@ static struct DlAnswer called(const struct Function *function, const struct iove
     struct DlAnswer answer = function->call(slices);
     VALGRIND_CHECK_MEM_IS_DEFINED(&answer, sizeof answer);
     for (int i = function->read; i < SLICES; i++) {
-        VALGRIND_CHECK_MEM_IS_DEFINED(slices[i].iov_base, written(function, answer, slices[i].iov_len));
+        VALGRIND_CHECK_MEM_IS_DEFINED(slices[i].iov_base, written(function, answer, i, slices[i].iov_len));
         VALGRIND_MAKE_MEM_DEFINED(slices[i].iov_base, slices[i].iov_len);
     }
     return answer;

@@ -19,6 +19,8 @@ enum { NODES = 62, RECORDS = 1 + 2 * NODES };
 
 static uint32_t words[RECORDS * DL_IN_RECORD_WORDS];
 static const uint8_t text[] = "n";
+/* The files' starts, as many as there may be. */
+static const uint32_t starts[] = {0, 1, 2, 3, 4, 5, 6, 7, 8, 9, 10, 11, 12, 13, 14, 15};
 static uint32_t *out;
 static uint8_t *bytes;
 static size_t records;
@@ -31,7 +33,9 @@ static void *nothing(void *unused)
 
 static void *lower(void *unused)
 {
-    if (dl_lower(words, RECORDS * DL_IN_RECORD_WORDS, text, 1, DL_LEVEL_SIGNED, out, records * 16, bytes, MOST_BYTES).number != DL_ANSWERED)
+    struct DlAnswer answer = dl_lower(words, RECORDS * DL_IN_RECORD_WORDS, text, 1, DL_LEVEL_SIGNED, starts, sizeof starts / sizeof *starts,
+        out, records * 16, bytes, MOST_BYTES);
+    if (answer.number != DL_ANSWERED)
         abort();
     return unused;
 }

@@ -11,6 +11,7 @@ pub mod crate_tree;
 pub mod damaged;
 pub mod definitions;
 pub mod dtc;
+pub mod files;
 pub mod generate;
 pub mod inputs;
 pub mod judge;

@@ -4,13 +4,16 @@ use std::{env, fs, io::Write, process::ExitCode};
 
 use judge::{
     by_01,
+    by_02::{self, files::Files},
     counts::Counts,
-    definitions, dtc, generate, levels,
+    definitions, dtc, files,
+    generate::{self, Case},
+    levels,
     library::Library,
     listing_input, logs, memory, notation, ours, panics,
     parts::{self, ALL, SHORT, Sizes},
     recorded,
-    records::{self, RECORD, Records, SIGNED, UNSIGNED},
+    records::{self, ONE_FILE, RECORD, Records, SIGNED, UNSIGNED},
     short_paths, speed, text_form,
     trees::{self, Judged},
     worked,
@@ -23,9 +26,9 @@ const RECORDED: &str = concat!(env!("CARGO_MANIFEST_DIR"), "/../../crates/replay
 const CRATES: &str = concat!(env!("CARGO_MANIFEST_DIR"), "/../../crates");
 
 const USAGE: &str = "usage: run [all [CASES]] | short | worked FILE | numbers | small | trees FROM CASES
-       | levels [FROM CASES] | short-paths [FROM CASES] | damaged [FROM CASES] | pairs [FROM CASES]
-       | queries [FROM LOGS] | planted | speed
-       | ask [LEVEL] DESCRIPTION | show SEED | input SEED | write FILE | judge FILE | listing FILE
+       | levels [FROM CASES] | short-paths [FROM CASES] | files [FROM CASES] | damaged [FROM CASES]
+       | pairs [FROM CASES] | queries [FROM LOGS] | planted | speed
+       | ask [LEVEL [STARTS]] DESCRIPTION | show SEED | input SEED | write FILE | judge FILE | listing FILE
        | dtc [CASES] | record FOLDER | definitions FOLDER [COUNT] [SEED]";
 
 fn main() -> ExitCode {
@@ -55,6 +58,8 @@ fn command(words: &[&str]) -> Result<(), String> {
         ["levels", from, cases] => part(parts::levels, number(from)?, number(cases)?),
         ["short-paths"] => part(parts::short_paths, 0, ALL.short_paths),
         ["short-paths", from, cases] => part(parts::short_paths, number(from)?, number(cases)?),
+        ["files"] => part(parts::files, files::FROM, ALL.files),
+        ["files", from, cases] => part(parts::files, number(from)?, number(cases)?),
         ["damaged"] => part(parts::damaged, 0, ALL.damaged),
         ["damaged", from, cases] => part(parts::damaged, number(from)?, number(cases)?),
         ["pairs"] => part(parts::pairs, 0, ALL.pairs),
@@ -65,8 +70,9 @@ fn command(words: &[&str]) -> Result<(), String> {
         ["memory", program, cases] => memory::run(program, Some(number(cases)?)),
         ["speed"] => speed_part(),
         ["planted"] => ours::library().and_then(|_| parts::planted()),
-        ["ask", description] => ask(SIGNED, description),
-        ["ask", level, description] => number(level).and_then(|level| ask(level as u32, description)),
+        ["ask", description] => ask("1", "0", description),
+        ["ask", level, description] => ask(level, "0", description),
+        ["ask", level, starts, description] => ask(level, starts, description),
         ["show", seed] => show(seed),
         ["input", seed] => input(seed),
         ["write", file] => write(file),
@@ -105,6 +111,7 @@ fn parts_of(sizes: &Sizes) -> Result<Counts, String> {
         parts::descriptions(&ours, 0, sizes.descriptions)?,
         parts::levels(&ours, 0, sizes.levels)?,
         parts::short_paths(&ours, 0, sizes.short_paths)?,
+        parts::files(&ours, files::FROM, sizes.files)?,
         parts::damaged(&ours, 0, sizes.damaged)?,
         parts::pairs(&ours, 0, sizes.pairs)?,
         parts::queries(&ours, 0, sizes.logs)?,
@@ -131,7 +138,8 @@ fn speed_part() -> Result<(), String> {
     logs::speed::run(&ours.queries)?;
     speed::run(&ours)?;
     levels::speed::run(&ours)?;
-    short_paths::speed::run(&ours)
+    short_paths::speed::run(&ours)?;
+    files::speed::run(&ours)
 }
 
 /// Theorems on small descriptions, for the checker.
@@ -143,22 +151,37 @@ fn definitions_part(folder: &str, more: &[&str]) -> Result<(), String> {
     Ok(())
 }
 
-/// The text form of a description in the short notation at a level, and where 01's sentences differ.
-fn ask(level: u32, description: &str) -> Result<(), String> {
+/// The text form of a description in the short notation at a level, its files starting there, and where 01's sentences differ.
+fn ask(level: &str, starts: &str, description: &str) -> Result<(), String> {
+    let level = number(level)? as u32;
     if ![SIGNED, UNSIGNED].contains(&level) {
         return Err(format!("{level} is no level"));
     }
-    let top = notation::read(description)?;
-    print_judged(&trees::judged_tree(&top, level, 40));
+    let starts: Vec<u32> = starts.split_whitespace().map(start).collect::<Result<_, _>>()?;
+    if !by_02::files::faults(&starts).is_empty() {
+        return Err(format!("{starts:?} is no list of files' starts"));
+    }
+    let case = Case::known(notation::read(description)?, level).of_files(&starts);
+    print_judged(&trees::judged_case(case, 40));
     Ok(())
 }
 
-/// The text form of what is due, and where 01's sentences differ.
+fn start(text: &str) -> Result<u32, String> {
+    text.parse().map_err(|_| format!("{text} is no start"))
+}
+
+/// The text form of what is due, with files where there are several, and where 01's sentences differ.
 fn print_judged(judged: &Judged) {
     if judged.is_aside() {
         println!("set aside for a short path: by 01's and 02's sentences");
     }
-    print!("{}", text_form::text_form(&judged.answer, &judged.queries));
+    let (Judged { answer, queries, .. }, starts) = (judged, &judged.case.records.starts);
+    if starts.len() > 1 {
+        println!("files from {starts:?}");
+        print!("{}", text_form::with_files(answer, queries, &Files::of(answer, starts)));
+    } else {
+        print!("{}", text_form::text_form(answer, queries));
+    }
     for (by_01, rust) in trees::difference(judged) {
         println!("different: 01 {by_01}, Rust {rust}");
     }
@@ -194,7 +217,7 @@ fn judged_file(file: &str) -> Result<Judged, String> {
     let (words, text) =
         rest.split_at_checked(u32::from_le_bytes(*count) as usize * RECORD * 4).ok_or_else(short)?;
     let words = words.as_chunks::<4>().0.iter().map(|word| u32::from_le_bytes(*word)).collect();
-    let records = Records { words, text: text.to_vec(), level: SIGNED };
+    let records = Records { words, text: text.to_vec(), level: SIGNED, starts: ONE_FILE.to_vec() };
     if let Some((number, returned)) = by_01::rows::refusal(&records) {
         return Err(format!("{file} is refused: R {number} {returned}"));
     }

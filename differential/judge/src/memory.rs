@@ -1,12 +1,12 @@
 //! The comparison with our library under valgrind, which must find nothing: descriptions at both levels,
-//! with short paths, damaged ones, pairs of runs and queries of lent logs. `differential/memory` starts it.
+//! with short paths, of several files, damaged ones, pairs of runs and queries of lent logs. `differential/memory` starts it.
 
 use std::{env, iter, process::Stdio, slice::Iter, sync::Mutex, thread};
 
 use crate::{
     counts::Counts,
     coverage::Coverage,
-    damaged, levels,
+    damaged, files, levels,
     library::Library,
     logs,
     ours::served::{self, FAULTS, FOUND, NO_LEVEL, Served},
@@ -23,7 +23,7 @@ struct Part {
 }
 
 /// The parts, those that take longest first.
-static PARTS: [Part; 6] = [
+static PARTS: [Part; 7] = [
     Part {
         name: "descriptions",
         all: |side| parts::descriptions(side, 0, ALL.descriptions),
@@ -47,6 +47,15 @@ static PARTS: [Part; 6] = [
         all: |side| parts::short_paths(side, 0, ALL.short_paths),
         some: |side, cases| {
             let counts = short_paths::compare(side, 0, cases, &mut Coverage::empty());
+            println!("{}", counts.line());
+            counts.total()
+        },
+    },
+    Part {
+        name: "files",
+        all: |side| parts::files(side, files::FROM, ALL.files),
+        some: |side, cases| {
+            let counts = files::compare(side, files::FROM, cases, &mut Coverage::empty());
             println!("{}", counts.line());
             counts.total()
         },
@@ -134,9 +143,10 @@ fn sum((one, calls): Total, (other, more): Total) -> Total {
 }
 
 /// The faults that the program can make, in its order. All but the last are valgrind's to find.
-const PLANTED: [&str; 7] = [
+const PLANTED: [&str; 8] = [
     "a word read before the words",
     "a byte read behind the text",
+    "a start read behind the files' starts",
     "a byte written behind the bytes",
     "a byte not written",
     "an answer by what the words held before",
@@ -156,7 +166,7 @@ fn found(program: &str, function: u64) -> Result<Option<String>, String> {
     let mut served = Served::start(program, "planted", Stdio::piped())?;
     let mut ask = |_| {
         let (words, bytes) = (&mut [7; 64], &mut [7; 9]);
-        served.ask(function, NO_LEVEL, &[&[1; 64], b"text"], &mut [words, bytes])
+        served.ask(function, NO_LEVEL, &[&[1; 64], b"text", &[0; 8]], &mut [words, bytes])
     };
     let fault = (0..2).find_map(|time| ask(time).err());
     let (status, said) = served.end().map_err(|error| error.to_string())?;

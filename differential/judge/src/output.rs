@@ -2,6 +2,7 @@
 
 use crate::{
     answer::{Answer, Binding, Cell, Definition, Diagnosis, Extension, Target, Text, Value},
+    by_02::files::{Files, Pair},
     tree::Span,
 };
 
@@ -11,6 +12,8 @@ pub const RECORD: usize = 16;
 #[derive(Debug, Default)]
 pub struct Output {
     pub answer: Answer,
+    /// Words 13 and 14 of its records.
+    pub files: Files,
     /// Records and bytes used, as record 0 says.
     pub records: u32,
     pub bytes: u32,
@@ -26,6 +29,7 @@ const N: usize = 7;
 const M: usize = 8;
 const SPAN: [usize; 2] = [9, 10];
 const NAME_SPAN: [usize; 2] = [11, 12];
+const FILES: [usize; 2] = [13, 14];
 
 /// The words, other than kind and next, that 01 names for an output kind.
 pub fn named(kind: u32) -> Vec<usize> {
@@ -42,6 +46,15 @@ pub fn named(kind: u32) -> Vec<usize> {
         _ => &[&TEXT, &[N], &SPAN, &NAME_SPAN],
     };
     words.concat()
+}
+
+/// The words that 02's request 3 names for an output kind: a binding has no name span.
+fn filed(kind: u32) -> &'static [usize] {
+    match kind {
+        1..=6 | 13 | 15 => &FILES,
+        14 => &FILES[..1],
+        _ => &[],
+    }
 }
 
 /// Reads a written log; the first thing that is not as 01 says is the fault.
@@ -62,7 +75,7 @@ pub fn read(words: &[u32], bytes: &[u8]) -> Result<Output, String> {
         post: reader.each(first[6], Reader::diagnosis)?,
     };
     reader.rest_is_zero()?;
-    Ok(Output { answer, records: first[0], bytes: first[5], numbers })
+    Ok(Output { answer, files: reader.files(first)?, records: first[0], bytes: first[5], numbers })
 }
 
 struct Reader<'a> {
@@ -104,8 +117,9 @@ impl<'a> Reader<'a> {
             if std::mem::replace(&mut self.seen[number as usize], true) {
                 return Err(format!("record {number} is reached twice"));
             }
-            let named = named(words[0]);
-            if (2..RECORD).any(|word| words[word] != 0 && !named.contains(&word)) {
+            let (named, filed) = (named(words[0]), filed(words[0]));
+            let is_named = |word: usize| named.contains(&word) || filed.contains(&word);
+            if (2..RECORD).any(|word| words[word] != 0 && !is_named(word)) {
                 return Err(format!("record {number} has a word that is not zero"));
             }
             found.push(read(self, words)?);
@@ -200,6 +214,24 @@ impl<'a> Reader<'a> {
         })
     }
 
+    /// Words 13 and 14 of the chains that record 0 leads to.
+    fn files(&self, first: &[u32]) -> Result<Files, String> {
+        let of_chain = |first: u32| -> Result<Vec<Pair>, String> {
+            self.chain(first)?.into_iter().map(|number| self.words_of(number).map(files)).collect()
+        };
+        let extension = |number: u32| -> Result<(Pair, Vec<Pair>), String> {
+            let words = self.words_of(number)?;
+            Ok((files(words), of_chain(words[M])?))
+        };
+        Ok(Files {
+            definitions: of_chain(first[1])?,
+            extensions: self.chain(first[2])?.into_iter().map(extension).collect::<Result<_, _>>()?,
+            bindings: of_chain(first[3])?,
+            lowering: of_chain(first[4])?,
+            post: of_chain(first[6])?,
+        })
+    }
+
     /// Words and bytes that no chain reaches are zero.
     fn rest_is_zero(&self) -> Result<(), String> {
         let of_seen = |word: usize| self.seen.get(word / RECORD) == Some(&true);
@@ -220,6 +252,10 @@ fn wanted(words: &[u32], kinds: std::ops::RangeInclusive<u32>) -> Result<u32, St
     } else {
         Err(format!("kind {} where {kinds:?} is due", words[0]))
     }
+}
+
+fn files(words: &[u32]) -> Pair {
+    FILES.map(|word| words[word])
 }
 
 fn span(words: &[u32], [start, end]: [usize; 2]) -> Span {

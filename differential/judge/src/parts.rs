@@ -3,7 +3,7 @@
 use crate::{
     counts::Counts,
     coverage::Coverage,
-    damaged, levels,
+    damaged, files, levels,
     library::{self, Library},
     logs, numbers,
     ours::Leaves,
@@ -20,6 +20,8 @@ pub struct Sizes {
     pub levels: u64,
     /// Descriptions whose references leave unit addresses out.
     pub short_paths: u64,
+    /// Descriptions of up to 16 files, lowered as one too.
+    pub files: u64,
     pub damaged: u64,
     /// Pairs of runs tried, one in two to meet the premises of demand 3.
     pub pairs: u64,
@@ -32,6 +34,7 @@ pub const ALL: Sizes = Sizes {
     descriptions: 200_000,
     levels: 100_000,
     short_paths: 100_000,
+    files: 50_000,
     damaged: 100_000,
     pairs: 50_000,
     logs: 120_000,
@@ -42,6 +45,7 @@ pub const SHORT: Sizes = Sizes {
     descriptions: 20_000,
     levels: 10_000,
     short_paths: 10_000,
+    files: 10_000,
     damaged: 20_000,
     pairs: 5_000,
     logs: 12_000,
@@ -115,6 +119,15 @@ pub fn short_paths(side: &Library, from: u64, cases: u64) -> Result<Counts, Stri
     Ok(counts.total())
 }
 
+/// Descriptions of up to 16 files, and as one, with the coverage report.
+pub fn files(side: &Library, from: u64, cases: u64) -> Result<Counts, String> {
+    println!("files, 02's sentences on the Rust's spans against our lowering:");
+    let mut coverage = files::wanted();
+    let counts = files::compare(side, from, cases, &mut coverage);
+    reported(&coverage, &format!("{cases} cases of files"), &counts.line())?;
+    Ok(counts.total())
+}
+
 /// 01's and 02's sentences as a whole side at both levels and with short paths, which shows that the comparison itself
 /// is sound.
 pub fn sentences() -> Counts {
@@ -138,9 +151,9 @@ pub fn sentences() -> Counts {
     counts
 }
 
-/// Damaged descriptions and those at the limits, rows 1 to 7, with the coverage report.
+/// Damaged descriptions and those at the limits, 18, rows 1 to 7 and 14, with the coverage report.
 pub fn damaged(side: &Library, from: u64, inputs: u64) -> Result<Counts, String> {
-    println!("damaged descriptions, 18 and rows 1 to 7 against our lowering:");
+    println!("damaged descriptions, 18, rows 1 to 7 and 14 against our lowering:");
     let mut coverage = damaged::wanted();
     let counts = damaged::compare(side, from, inputs, &mut coverage);
     let complete = reported(&coverage, &format!("{inputs} descriptions"), &counts.line());

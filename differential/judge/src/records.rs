@@ -13,12 +13,16 @@ pub const MOST_TEXT: usize = 65_536;
 pub const SIGNED: u32 = 1;
 pub const UNSIGNED: u32 = 2;
 
-/// A description in 01's form, with the level that the caller gives beside it.
+/// The starts of a description that is one file (02, request 3).
+pub const ONE_FILE: [u32; 1] = [0];
+
+/// A description in 01's form, with the level and the files' starts that the caller gives beside it.
 #[derive(Debug, Clone, PartialEq, Eq)]
 pub struct Records {
     pub words: Vec<u32>,
     pub text: Vec<u8>,
     pub level: u32,
+    pub starts: Vec<u32>,
 }
 
 /// In which order records are numbered.
@@ -42,9 +46,10 @@ pub struct Layout {
     pub noise: bool,
 }
 
-/// Writes a tree that is told with a level. There must be room for it.
+/// Writes a tree that is told with a level, as one file. There must be room for it.
 pub fn write(top: &[Rec], level: u32, layout: Layout, random: &mut Random) -> Records {
-    let out = Records { words: vec![0; RECORD], text: Vec::new(), level };
+    let starts = ONE_FILE.to_vec();
+    let out = Records { words: vec![0; RECORD], text: Vec::new(), level, starts };
     let mut writer = Writer { out, open: Vec::new(), shared: layout.shared };
     writer.open_chain(top, 0, 2);
     while !writer.open.is_empty() {

@@ -11,28 +11,28 @@ use crate::{
     measure::{Times, measured},
     output::RECORD,
     random::Random,
-    records::{self, MOST_RECORDS, Records, SIGNED},
+    records::{self, MOST_RECORDS, ONE_FILE, Records, SIGNED},
     tree::{self, Rec},
     trees::judged_case,
     whole::{self, Due},
 };
 
 /// Records of the descriptions, record 0 counted.
-const SIZES: [usize; 3] = [100, 500, MOST_RECORDS];
+pub const SIZES: [usize; 3] = [100, 500, MOST_RECORDS];
 
 /// Buffers of the largest log.
 const FULL: (usize, usize) = (65_536 * RECORD, 1 << 24);
 
 /// What a description has much of: its name, how often an item of a body is a node, a property or a
 /// deletion, of how many nodes one has a label, and whether top items reopen nodes.
-struct Mix {
-    name: &'static str,
+pub struct Mix {
+    pub name: &'static str,
     weights: [usize; 3],
     labels: usize,
     reopens: bool,
 }
 
-const MIXES: [Mix; 4] = [
+pub const MIXES: [Mix; 4] = [
     Mix { name: "properties", weights: [1, 6, 0], labels: 4, reopens: false },
     Mix { name: "nodes", weights: [5, 1, 0], labels: 4, reopens: false },
     Mix { name: "references", weights: [2, 3, 0], labels: 1, reopens: true },
@@ -135,11 +135,11 @@ impl<'a> Bench<'a> {
 
 /// A description of record 0 alone.
 fn empty() -> Records {
-    Records { words: vec![0; records::RECORD], text: Vec::new(), level: SIGNED }
+    Records { words: vec![0; records::RECORD], text: Vec::new(), level: SIGNED, starts: ONE_FILE.to_vec() }
 }
 
 /// A description of just so many records, record 0 counted.
-fn made(mix: &Mix, size: usize) -> Vec<Rec> {
+pub fn made(mix: &Mix, size: usize) -> Vec<Rec> {
     let mut maker = Maker { random: Random::new(size as u64), left: size - 1, labels: 0, place: 0 };
     let mut top = vec![maker.directive(1, Vec::new())];
     let room = if mix.reopens { size / 2 } else { 0 };

@@ -4,6 +4,7 @@ use std::fmt::Write;
 
 use crate::{
     answer::{Answer, Cell, Definition, Diagnosis, Query, Target, Text, Value},
+    by_02::files::Files,
     tree::Span,
     worked::{escaped, hex},
 };
@@ -34,6 +35,21 @@ pub fn text_form(answer: &Answer, queries: &[Query]) -> String {
         let _ = writeln!(out, "L {path}{}", numbers(&query.live));
         let _ = writeln!(out, "H {path}{}", numbers(&query.history));
         let _ = writeln!(out, "C {path} {}", u32::from(query.contains));
+    }
+    out
+}
+
+/// The same with words 13 and 14 behind each record that has files, as ` in 13 14`.
+pub fn with_files(answer: &Answer, queries: &[Query], files: &Files) -> String {
+    let mut pairs = files.in_order().into_iter();
+    let mut out = String::new();
+    for line in text_form(answer, queries).lines() {
+        out += line;
+        if ["D ", "+D ", "E ", "B ", "M ", "P "].iter().any(|begins| line.starts_with(begins)) {
+            let [file, name_file] = pairs.next().expect("as many as records");
+            let _ = write!(out, " in {file} {name_file}");
+        }
+        out += "\n";
     }
     out
 }

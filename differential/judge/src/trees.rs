@@ -13,7 +13,7 @@ use crate::{
     library::Library,
     logs, notation,
     random::{self, Random},
-    records::{RECORD, SIGNED, read},
+    records::{RECORD, Records, SIGNED, read},
     short_paths::in_full,
     shrink::shrunk,
     text_form::text_form,
@@ -207,10 +207,11 @@ fn compare_side(side: &Library, seed: u64, judged: &Judged, counts: &mut Counts)
         counts.lowered_different += 1;
         if counts.lowered_different <= 3 {
             println!("seed {seed}: {fault}");
-            let fault_of = |top: &[Rec]| fault_of(side, top, judged.case.records.level);
+            let fault_of = |top: &[Rec]| fault_of(side, top, &judged.case.records);
             let smaller = shrunk(judged.case.top.clone(), &|top| fault_of(top).is_some());
             let fault = fault_of(&smaller).unwrap_or("not if written plainly".to_owned());
-            println!("  {}\n  {fault}", notation::written(&smaller));
+            let starts = &judged.case.records.starts;
+            println!("  {}\n  files from {starts:?}: {fault}", notation::written(&smaller));
         }
     }
 }
@@ -222,9 +223,10 @@ pub fn whole_side(side: &Library, seed: u64, judged: &Judged) -> Result<(), Stri
     whole::compare(side, &due, &judged.queries, &mut Random::new(seed))
 }
 
-/// Where a side differs from what is due for a description that is written plainly.
-pub fn fault_of(side: &Library, top: &[Rec], level: u32) -> Option<String> {
-    whole_side(side, 0, &judged_tree(top, level, 40)).err()
+/// Where a side differs from what is due for a description that is written plainly and told as these records are.
+pub fn fault_of(side: &Library, top: &[Rec], told: &Records) -> Option<String> {
+    let case = Case::known(top.to_vec(), told.level).of_files(&told.starts);
+    whole_side(side, 0, &judged_case(case, 40)).err()
 }
 
 fn queries_by_01(answer: &Answer, asked: &[Query]) -> Vec<Query> {

@@ -2,6 +2,7 @@
 
 use crate::{
     answer::{Answer, Query},
+    by_02::files::Files,
     library::{Library, List},
     output::{self, Output, RECORD},
     random::Random,
@@ -51,7 +52,8 @@ pub fn lowered(side: &Library, due: &Due, words: usize, bytes: usize) -> Result<
         let (used, made) = ((output.records, output.bytes), due.made);
         return Err(format!("{used:?} records and bytes used, {made:?} due"));
     }
-    match difference(&output.answer, due.answer) {
+    let files = || output.files.difference(&Files::of(due.answer, &due.records.starts));
+    match difference(&output.answer, due.answer).or_else(files) {
         Some(part) => Err(format!("{part} differ")),
         None => Ok((room, output)),
     }

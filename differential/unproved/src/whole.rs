@@ -2,15 +2,17 @@
 
 use judge::{
     coverage::Coverage,
-    damaged, levels,
+    damaged, files, levels,
     library::{Library, Queries},
-    logs, pairs, parts, short_paths, trees,
+    logs, pairs, parts,
+    records::Records,
+    short_paths, trees,
 };
 
 use crate::definition_log_c::{DlAnswer, dl_contains_node, dl_history, dl_iter_live_defs_under, dl_lower};
 
-/// Compares descriptions at both levels, with short paths, damaged ones, pairs of runs and queries of lent logs, as many of each; what came
-/// up is not counted.
+/// Compares descriptions at both levels, with short paths, of several files, damaged ones, pairs of runs and queries of lent
+/// logs, as many of each; what came up is not counted.
 pub fn compare(from: u64, cases: u64) -> Result<(), String> {
     let (side, coverage) = (library(), &mut Coverage::empty());
     let small = parts::small(&side)?;
@@ -20,6 +22,8 @@ pub fn compare(from: u64, cases: u64) -> Result<(), String> {
     println!("{}", levels.line());
     let short_paths = short_paths::compare(&side, from, cases, coverage);
     println!("{}", short_paths.line());
+    let files = files::compare(&side, files::FROM + from, cases, coverage);
+    println!("{}", files.line());
     let damaged = damaged::compare(&side, from, cases, coverage);
     println!("{}", damaged.line());
     let limits = parts::limits(&side);
@@ -27,7 +31,7 @@ pub fn compare(from: u64, cases: u64) -> Result<(), String> {
     println!("{}", pairs.line());
     let queries = logs::compare(&side.queries, from, cases, coverage);
     println!("{}", queries.line());
-    let lowered = lowered.total() + levels.total() + short_paths.total();
+    let lowered = lowered.total() + levels.total() + short_paths.total() + files.total();
     (small + lowered + damaged.total() + limits + pairs.total() + queries.total()).closing()
 }
 
@@ -38,7 +42,8 @@ fn read(answer: DlAnswer) -> (u32, u32) {
 fn library() -> Library {
     Library {
         lower: |records, words, bytes| {
-            read(dl_lower(&records.words, &records.text, records.level, words, bytes))
+            let Records { words: from, text, level, starts } = records;
+            read(dl_lower(from, text, *level, starts, words, bytes))
         },
         queries: Queries {
             live: |words, bytes, base, list| read(dl_iter_live_defs_under(words, bytes, base, list)),

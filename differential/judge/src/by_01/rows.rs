@@ -1,7 +1,8 @@
-//! Rows 1 to 6, and 02's 18 before them: which descriptions are refused, with which number, what is
+//! Rows 1 to 6, 02's 18 before them and its 14 behind them: which descriptions are refused, with which number, what is
 //! returned, and by which clauses of the table.
 
 use crate::{
+    by_02::files::{self, Bad},
     records::{MOST_RECORDS, MOST_TEXT, RECORD, Records, SIGNED, UNSIGNED},
     tree::Place,
 };
@@ -21,7 +22,10 @@ pub enum Link {
 /// The number of a level that is none.
 pub const NO_LEVEL: u32 = 18;
 
-/// What can be wrong, as rows 1 to 6 list it; the level first.
+/// The number of a list of files' starts that is bad.
+pub const BAD_FILES: u32 = 14;
+
+/// What can be wrong, as rows 1 to 6 list it; the level first, the files' starts last.
 #[derive(Debug, Clone, Copy, PartialEq, Eq)]
 pub enum Clause {
     Level,
@@ -48,6 +52,7 @@ pub enum Clause {
     ReferenceSlash,
     /// More than 64 links, the last of them this one.
     Links(Link),
+    Files(Bad),
 }
 
 /// The same with all clauses that hold of the record returned.
@@ -97,7 +102,14 @@ pub fn refused(from: &Records) -> Option<Refused> {
             lowest(5, &|record| of_reached(record, &|_| bad_name(records[record], text(records[record]))))
         })
         .or_else(|| lowest(6, &|record| of_reached(record, &too_deep)))
+        .or_else(|| bad_files(from))
     })
+}
+
+/// 14: "A list that is empty, has over 16 entries, doesn't begin with 0 or doesn't rise strictly is refused .. after 6."
+fn bad_files(from: &Records) -> Option<Refused> {
+    let clauses: Vec<Clause> = files::faults(&from.starts).into_iter().map(Clause::Files).collect();
+    (!clauses.is_empty()).then_some(Refused { number: BAD_FILES, returned: 0, clauses })
 }
 
 /// Row 1: "words not 8 times 1 to 2,048, or text over 65,536 bytes".

@@ -3,7 +3,7 @@
 use super::{lower::lower_by, queries, rows};
 use crate::{
     answer::{Answer, Cell, Definition, Diagnosis, Target, Value},
-    by_02::short_paths::Rules,
+    by_02::{files::file_of, short_paths::Rules},
     output::{self, RECORD},
     records::{self, Records},
     tree::Span,
@@ -30,13 +30,13 @@ pub fn lower_by_rules(rules: Rules, from: &Records, words: &mut [u32], bytes: &m
     if lowered.records > room || lowered.bytes > MOST_BYTES.min(bytes.len() as u64) {
         return (7, 0);
     }
-    write(&lowered.answer, (lowered.records as u32, lowered.bytes as u32), words, bytes);
+    write(&lowered.answer, &from.starts, (lowered.records as u32, lowered.bytes as u32), words, bytes);
     (0, 0)
 }
 
-/// Writes a log and the counts of what was made into cleared buffers that have room for it.
-pub fn write(answer: &Answer, made: (u32, u32), words: &mut [u32], bytes: &mut [u8]) {
-    let mut writer = Writer { words, bytes, records: 1, used: 0 };
+/// Writes a log of files that start there, and the counts of what was made, into cleared buffers that have room for it.
+pub fn write(answer: &Answer, starts: &[u32], made: (u32, u32), words: &mut [u32], bytes: &mut [u8]) {
+    let mut writer = Writer { words, bytes, starts, records: 1, used: 0 };
     writer.words[0] = made.0;
     writer.words[5] = made.1;
     writer.chain(1, &answer.definitions, Writer::definition);
@@ -56,6 +56,7 @@ pub fn write(answer: &Answer, made: (u32, u32), words: &mut [u32], bytes: &mut [
 struct Writer<'a> {
     words: &'a mut [u32],
     bytes: &'a mut [u8],
+    starts: &'a [u32],
     records: usize,
     used: usize,
 }
@@ -84,6 +85,9 @@ impl Writer<'_> {
             }
         }
         self.words[record + 9..record + 13].copy_from_slice(&[span.0, span.1, name_span.0, name_span.1]);
+        // What has no span has 0-0, which lies in file 0.
+        let files = [span, name_span].map(|span| file_of(self.starts, span.0));
+        self.words[record + 13..record + 15].copy_from_slice(&files);
         record
     }
 

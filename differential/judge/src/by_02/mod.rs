@@ -1,4 +1,5 @@
 //! 02's sentences where they add to 01's, not taken from our sources.
 
+pub mod files;
 pub mod level_2;
 pub mod short_paths;

@@ -5,6 +5,7 @@
 
 use crate::{
     by_01,
+    by_02::files::Files,
     library::Library,
     output::{self, RECORD},
     random::Random,
@@ -58,7 +59,8 @@ fn call(side: &Library, records: &Records, words: usize, bytes: usize, number: u
     if (u64::from(output.records), u64::from(output.bytes)) != (due.records, due.bytes) {
         return Err("other counts".to_owned());
     }
-    if output.answer == due.answer { Ok(()) } else { Err("the log differs".to_owned()) }
+    let same = output.answer == due.answer && output.files == Files::of(&due.answer, &records.starts);
+    if same { Ok(()) } else { Err("the log differs".to_owned()) }
 }
 
 /// A root with a property whose strings, all from the same text, make so many bytes with the paths; the

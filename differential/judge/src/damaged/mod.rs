@@ -1,10 +1,11 @@
-//! Damaged descriptions and descriptions at the limits: 18 and rows 1 to 7 against a side. What is due is said
+//! Damaged descriptions and descriptions at the limits: 18, rows 1 to 6, 14 and row 7 against a side. What is due is said
 //! by 01's table (`by_01::rows`) and, of what is accepted, by 01's sentences.
 
 mod damage;
 mod deep;
 mod hand;
 pub mod limits;
+mod lists;
 pub mod tables;
 mod wanted;
 
@@ -19,7 +20,7 @@ use crate::{
     by_01::{
         self,
         lower::Lowered,
-        rows::{NO_LEVEL, Refused},
+        rows::{BAD_FILES, NO_LEVEL, Refused},
     },
     counts,
     coverage::Coverage,
@@ -50,8 +51,11 @@ impl Counts {
         let by = |row: u32| self.answered.get(&row).unwrap_or(&0);
         let rows: Vec<String> = (1..8).map(|row| format!("{} by row {row}", by(row))).collect();
         let (inputs, different) = (self.inputs, self.different);
-        let by_level = by(NO_LEVEL);
-        format!("{inputs} descriptions, refused {by_level} by 18, {}, {different} different", rows.join(", "))
+        let (by_level, by_files) = (by(NO_LEVEL), by(BAD_FILES));
+        format!(
+            "{inputs} descriptions, refused {by_level} by 18, {}, {by_files} by 14, {different} different",
+            rows.join(", ")
+        )
     }
 }
 
@@ -81,7 +85,24 @@ pub fn compare_seed(
     wanted::note(&damages, records.level, by_01::rows::refused(&records).as_ref(), coverage);
     let names: Vec<&str> = damages.iter().map(|place| DAMAGES[*place].name).collect();
     let result = compare_records(side, &records, random, counts, coverage);
-    result.map_err(|fault| format!("{}: {fault}", names.join(", ")))
+    result.map_err(|fault| format!("{}: {fault}", names.join(", ")))?;
+    compare_list(side, seed, records, &damages, counts, coverage)
+}
+
+/// Compares on the same description with a bad list of files' starts; one in four as it was before it was changed.
+fn compare_list(
+    side: &Library,
+    seed: u64,
+    records: Records,
+    damages: &[usize],
+    counts: &mut Counts,
+    coverage: &mut Coverage,
+) -> Result<(), String> {
+    let random = &mut Random::new(seed ^ 0xf11e_da3a);
+    if seed % 4 == 1 {
+        return lists::compare(side, &generated(seed, records.level), false, random, counts, coverage);
+    }
+    lists::compare(side, &records, !damages.is_empty(), random, counts, coverage)
 }
 
 /// Compares on any words and text.
@@ -117,20 +138,28 @@ fn level(random: &mut Random) -> u32 {
     }
 }
 
-/// A generated description, one in eight with short paths, with one change or, often, more; which, by their places in the list.
-/// One whose level is none may have no change.
-fn damaged(seed: u64, random: &mut Random) -> (Records, Vec<usize>) {
+/// A generated description that is told any level, one in eight with short paths.
+fn generated(seed: u64, level: u32) -> Records {
     let size = match seed % 100 {
         ..94 => Size::Small,
         94..99 => Size::Middle,
         _ => Size::Limit,
     };
-    let level = level(random);
-    let is_level = [SIGNED, UNSIGNED].contains(&level);
-    let wanted = if is_level { random.pick(&[1, 1, 1, 2, 3]) } else { random.below(4) };
     let made = if seed % 8 == 7 { generate_short } else { generate };
-    let records = made(seed, size, if is_level { level } else { UNSIGNED }).records;
-    let mut hand = Hand::new(Records { level, ..records }, Random::new(random.next()));
+    let records = made(seed, size, if is_level(level) { level } else { UNSIGNED }).records;
+    Records { level, ..records }
+}
+
+fn is_level(level: u32) -> bool {
+    [SIGNED, UNSIGNED].contains(&level)
+}
+
+/// A generated description with one change or, often, more; which, by their places in the list. One whose level is none may
+/// have no change.
+fn damaged(seed: u64, random: &mut Random) -> (Records, Vec<usize>) {
+    let level = level(random);
+    let wanted = if is_level(level) { random.pick(&[1, 1, 1, 2, 3]) } else { random.below(4) };
+    let mut hand = Hand::new(generated(seed, level), Random::new(random.next()));
     let mut made = Vec::new();
     while made.len() < wanted {
         let place = hand.random.below(DAMAGES.len());
@@ -152,7 +181,7 @@ const RARE: usize = 500;
 const WORDS_ABOVE: usize = 65_537 * RECORD + 3;
 const BYTES_ABOVE: usize = (1 << 24) + 5;
 
-/// 18 and rows 1 to 6: the number, what is returned, and both buffers as they were.
+/// 18, rows 1 to 6 and 14: the number, what is returned, and both buffers as they were.
 fn compare_refused(
     side: &Library,
     records: &Records,
@@ -190,6 +219,7 @@ fn compare_accepted(
 ) -> Result<(), String> {
     let lowered = by_01::lower::lower(&records::read(records), records.level);
     wanted::note_short(&lowered, coverage);
+    lists::note_accepted(records, coverage);
     let Lowered { answer, records: made, bytes, .. } = lowered;
     let due = Due { records, answer: &answer, made: (made, bytes) };
     let (words, bytes) = (made as usize * RECORD, bytes as usize);

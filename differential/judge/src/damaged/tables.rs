@@ -37,6 +37,10 @@ const WS: [u32; 21] = [
 /// The kinds of a child.
 const CHILDREN: [Option<u32>; 4] = [None, Some(5), Some(9), Some(15)];
 
+/// The span of each record, and two files of which it starts in the second.
+const SPAN: [u32; 2] = [3, 4];
+const STARTS: [u32; 2] = [0, 3];
+
 /// Compares a side with 01's table on all of them at both levels; the differences.
 pub fn compare(side: &Library, counts: &mut Counts) -> Vec<String> {
     let random = &mut Random::new(0);
@@ -90,7 +94,7 @@ fn description(place: Place, kind: u32, w: u32, child: Option<u32>) -> Records {
         writer.link = number * RECORD + 5;
         writer.add(w, 0);
     }
-    Records { words: writer.words, text: b"7".to_vec(), level: SIGNED }
+    Records { words: writer.words, text: b"7".to_vec(), level: SIGNED, starts: STARTS.to_vec() }
 }
 
 struct Writer {
@@ -104,7 +108,7 @@ impl Writer {
     fn add(&mut self, kind: u32, w: u32) -> usize {
         let number = self.words.len() / RECORD;
         self.words[self.link] = number as u32;
-        self.words.extend([kind, 0, 0, 0, 1, w, 3, 4]);
+        self.words.extend([kind, 0, 0, 0, 1, w, SPAN[0], SPAN[1]]);
         number
     }
 }

@@ -1,6 +1,6 @@
 //! What is to come up among damaged descriptions.
 
-use super::{NO_LEVELS, damage::DAMAGES};
+use super::{NO_LEVELS, damage::DAMAGES, lists};
 use crate::{
     by_01::{
         lower::Lowered,
@@ -13,7 +13,7 @@ use crate::{
 };
 
 /// What is to come up: each change alone with its row, each clause as the one returned, each row before
-/// a later one, 18 before each row and each change, each answer at level 2, short paths, and each sort of room.
+/// a later one, 18 before each row and each change, each answer at level 2, short paths, bad lists, and each sort of room.
 pub fn wanted() -> Coverage {
     let mut levels: Vec<String> = (1..=6).map(before_row).collect();
     levels.extend(DAMAGES.iter().map(|damage| before_change(damage.name)));
@@ -21,6 +21,7 @@ pub fn wanted() -> Coverage {
     levels.extend([NO_CHANGE, OTHER_LEVEL].map(str::to_owned));
     levels.extend((0..=7).map(at_level_2));
     levels.extend(SHORT.map(str::to_owned));
+    levels.extend(lists::wanted());
     let alone = DAMAGES.iter().map(|damage| alone(damage.name, damage.row));
     let clauses = clauses().into_iter().map(returned_for);
     let rows = (2..=5).flat_map(|row| (row + 1..=6).map(move |later| before(row, later)));
@@ -63,6 +64,7 @@ fn clauses() -> Vec<Clause> {
     all.extend([4, 5, 9, 10, 11, 12, 14, 15, 16].map(Clause::Child));
     all.extend([Clause::NameEmpty, Clause::NameSlash, Clause::ReferenceSlash]);
     all.extend([Link::Child, Link::Items, Link::Values].map(Clause::Links));
+    all.extend(lists::clauses());
     all
 }
 
@@ -70,7 +72,7 @@ fn alone(damage: &str, row: u32) -> String {
     if row == 0 { format!("{damage}, alone: accepted") } else { format!("{damage}, alone: row {row}") }
 }
 
-fn returned_for(clause: Clause) -> String {
+pub fn returned_for(clause: Clause) -> String {
     format!("returned for {clause:?} alone")
 }
 

@@ -2,16 +2,18 @@
 //! computes our definitions and finds them equal to the answers, or does not.
 
 use std::{
-    collections::BTreeMap,
+    collections::{BTreeMap, BTreeSet},
     fmt::Write as _,
     fs,
     path::{Path, PathBuf},
 };
 
 use crate::{
-    answer::Query,
+    answer::{Answer, Query},
     by_01::{self, rows::Refusal},
+    by_02::files::{faults, file_of},
     coverage::{Coverage, FULL_TEXT},
+    files::spans,
     generate::{Case, Size},
     levels::{self, has_expression},
     random::Random,
@@ -37,6 +39,9 @@ const TRIED: usize = 24;
 const ASKED: usize = 5;
 /// Descriptions in one file.
 const IN_A_FILE: usize = 10;
+
+/// Lists of files' starts that are taken of generated descriptions.
+const LISTS: usize = 40;
 
 /// Numbers of which some are levels.
 const LEVELS: [u32; 7] = [0, SIGNED, UNSIGNED, 3, 4, 1 << 31, u32::MAX];
@@ -81,7 +86,7 @@ pub fn write(folder: &str, crates: &str, count: usize, from: u64) -> Result<Stri
     }
     put(home.join("src/lib.rt"), "// Descriptions with the Rust's answers: no code, theorems in specs/.\n")?;
     put(home.join("specs/Computed.antt"), &computed(Path::new(crates))?)?;
-    let files = files(&samples);
+    let files = files(&samples)?;
     let mut modules = "pub mod Computed\n".to_owned();
     for (number, file) in files.iter().enumerate() {
         let _ = writeln!(modules, "pub mod J{number:03}");
@@ -92,8 +97,8 @@ pub fn write(folder: &str, crates: &str, count: usize, from: u64) -> Result<Stri
     Ok(format!("{theorems} theorems on {} descriptions", samples.len()))
 }
 
-/// The files: of the samples, and of the levels.
-fn files(samples: &[Sample]) -> Vec<File> {
+/// The files: of the samples, of the levels, and of the lists of files' starts.
+fn files(samples: &[Sample]) -> Result<Vec<File>, String> {
     let of_part = |(number, part): (usize, &[Sample])| {
         let mut file = File::new();
         for (place, sample) in part.iter().enumerate() {
@@ -103,7 +108,33 @@ fn files(samples: &[Sample]) -> Vec<File> {
     };
     let mut levels = File::new();
     levels.levels(&LEVELS);
-    samples.chunks(IN_A_FILE).enumerate().map(of_part).chain([levels]).collect()
+    let parts = samples.chunks(IN_A_FILE).enumerate().map(of_part);
+    Ok(parts.chain([levels, lists(samples)?]).collect())
+}
+
+/// The lists of cases/files.txt with the starts of all spans, and some of the samples' with one in each file.
+fn lists(samples: &[Sample]) -> Result<File, String> {
+    let mut file = File::new();
+    let known = small::cases_of_files()?;
+    for (number, Case { records, top, .. }) in known.iter().enumerate() {
+        let places = places(&by_01::lower::lower(top, SIGNED).answer);
+        let is_good = faults(&records.starts).is_empty();
+        file.starts(number, &records.starts, if is_good { &places } else { &[] });
+    }
+    let several = samples.iter().filter(|sample| sample.judged.case.records.starts.len() > 1);
+    for (number, Sample { judged, .. }) in several.take(LISTS).enumerate() {
+        let starts = &judged.case.records.starts;
+        let mut places = places(&judged.answer);
+        places.dedup_by_key(|place| file_of(starts, *place));
+        file.starts(known.len() + number, starts, &places);
+    }
+    Ok(file)
+}
+
+/// Where the spans and name spans of a log start, from the lowest on.
+fn places(answer: &Answer) -> Vec<u32> {
+    let places: BTreeSet<u32> = spans(answer).concat().iter().map(|span| span.0).collect();
+    places.into_iter().collect()
 }
 
 fn put(file: PathBuf, text: &str) -> Result<(), String> {
@@ -251,6 +282,10 @@ fn computed(crates: &Path) -> Result<String, String> {
     let mut names = Vec::new();
     for used in used() {
         let specs = crates.join(used).join("specs/meaning");
+        // A crate without definitions of its own has steps of the code alone.
+        if !specs.exists() {
+            continue;
+        }
         let fault = |error: std::io::Error| format!("{}: {error}", specs.display());
         let mut files = Vec::new();
         for entry in fs::read_dir(&specs).map_err(fault)? {

@@ -6,6 +6,7 @@ use super::{Sample, asked};
 use crate::{
     answer::{Answer, Binding, Cell, Definition, Diagnosis, Extension, Query, Target, Value},
     by_01::lower::Lowered,
+    by_02::files,
     notation,
     records::{Records, SIGNED, UNSIGNED},
     tree::Span,
@@ -26,6 +27,7 @@ use Rattle.making.specs.meaning.State.{State}
 use Rattle.post_checks.specs.meaning.Post.{postChecks}
 use Rattle.input.specs.meaning.Rows.{verdict, accepted, refused}
 use Rattle.levels.specs.meaning.Rules.{isLevel}
+use Rattle.files.specs.meaning.Files.{fileOf, goodFiles}
 use Rattle.lowering.specs.meaning.Lowered.{meaning, recordsMade, bytesMade}
 use Rattle.judged.specs.Computed.{computed, span, definition, extension, binding, diagnostic}
 ";
@@ -49,6 +51,17 @@ impl File {
         }
     }
 
+    /// Whether a list of files' starts is good, and which files some places lie in.
+    pub fn starts(&mut self, number: usize, starts: &[u32], places: &[u32]) {
+        let (at, list) = (format!("{number:03}"), inner(listed(starts, u32::to_string)));
+        let is_good = files::faults(starts).is_empty();
+        self.theorem(&format!("good-{at}"), &format!("goodFiles {list}"), &is_good.to_string());
+        for place in places {
+            let file = files::file_of(starts, *place).to_string();
+            self.theorem(&format!("file-{at}-{place}"), &format!("fileOf {list} {place}"), &file);
+        }
+    }
+
     fn theorem(&mut self, name: &str, left: &str, right: &str) {
         self.theorems += 1;
         let _ = write!(self.out, "\npub {name} : {left} ≡ {right}\nunfolding computed\n{name} = refl\n");
@@ -61,7 +74,7 @@ impl File {
     pub fn sample(&mut self, number: usize, sample: &Sample) {
         let Sample { about, judged, damaged } = sample;
         let at = format!("{number:03}");
-        let Records { words, text: bytes, level } = &judged.case.records;
+        let Records { words, text: bytes, level, .. } = &judged.case.records;
         let _ =
             write!(self.out, "\n-- {at}, {about}, level {level}: {}\n", notation::written(&judged.case.top));
         self.named(&format!("words-{at}"), "List ℕ", &listed(words, u32::to_string));

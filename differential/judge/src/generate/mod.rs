@@ -3,6 +3,7 @@
 //! Names, labels and paths come from small alphabets, so that they meet often: prefixes of one
 //! another, deleted and added again, labels bound twice, references found and not found.
 
+mod files;
 mod nodes;
 mod short;
 mod unsigned;
@@ -31,11 +32,17 @@ pub enum Size {
 }
 
 impl Case {
-    /// A known description, written in the plainest way.
+    /// A known description of one file, written in the plainest way.
     pub fn known(top: Vec<Rec>, level: u32) -> Self {
         let layout = Layout { order: Order::Down, shared: false, noise: false };
         let records = records::write(&top, level, layout, &mut Random::new(0));
         Self { top, records, layout, look: 0 }
+    }
+
+    /// The same with files that start there.
+    pub fn of_files(mut self, starts: &[u32]) -> Self {
+        self.records.starts = starts.to_vec();
+        self
     }
 }
 
@@ -72,7 +79,8 @@ fn made(seed: u64, size: Size, level: u32, short: bool) -> Case {
         if records.words.len() / records::RECORD <= MOST_RECORDS && records.text.len() <= MOST_TEXT {
             records.words.shrink_to_fit();
             records.text.shrink_to_fit();
-            return Case { top, records, layout, look: random.next() };
+            let starts = files::starts(seed, &top);
+            return Case { top, records, layout, look: random.next() }.of_files(&starts);
         }
     }
 }

@@ -2,6 +2,7 @@
 
 use crate::{
     answer::{Answer, Cell, Definition, Diagnosis, Extension, Target, Text, Value},
+    by_02::files::file_of,
     output::{RECORD, named},
     random::Random,
     tree::Span,
@@ -12,6 +13,16 @@ use crate::{
 pub struct Log {
     pub words: Box<[u32]>,
     pub bytes: Box<[u8]>,
+}
+
+impl Log {
+    /// Puts the files' numbers into a log that is written plainly, as lowering would.
+    pub fn put_files(&mut self, starts: &[u32]) {
+        let records = self.words.chunks_mut(RECORD).skip(1);
+        for record in records.filter(|record| matches!(record[0], 1..=6 | 13..=15)) {
+            (record[13], record[14]) = (file_of(starts, record[9]), file_of(starts, record[11]));
+        }
+    }
 }
 
 /// How a log is written.

@@ -16,12 +16,14 @@ use layout::{Layout, Log};
 use crate::{
     answer::Answer,
     by_01::row_8::{self, Chain, Refusal, Rule},
+    by_02::files::MOST_FILES,
     counts,
     coverage::Coverage,
     generate::generate,
     library::Queries,
+    output::RECORD,
     random::{self, Random},
-    records::SIGNED,
+    records::{ONE_FILE, SIGNED},
     trees::{by_the_rust, size_of_case},
 };
 
@@ -90,13 +92,15 @@ pub fn wanted() -> Coverage {
     Coverage::wanting(damages.chain(rules).chain(SEEN.map(str::to_owned)))
 }
 
-const SEEN: [&str; 18] = [
+const SEEN: [&str; 20] = [
     "the Rust's lowering, written plainly",
     "the Rust's lowering, written in any order",
     "any log, written plainly",
     "any log, written in any order",
     "a log without definitions",
     "a link to a lower record",
+    FILES,
+    NO_FILES,
     "an extension's body with definitions",
     "texts that are not UTF-8",
     "a list without answers",
@@ -110,6 +114,10 @@ const SEEN: [&str; 18] = [
     "a path that stands in the log's bytes",
     "several records at fault",
 ];
+
+/// Row 8 does not look at words 13 and 14 (02, request 3).
+const FILES: &str = "files' numbers of several files";
+const NO_FILES: &str = "in the place of files' numbers what none is";
 
 const RULES: [Rule; 16] = [
     Rule::Words,
@@ -140,20 +148,34 @@ fn returned_for(rule: Rule) -> String {
 
 /// The log of a seed.
 fn log(seed: u64, random: &mut Random, coverage: &mut Coverage) -> Log {
-    let (origin, answer) = if seed.is_multiple_of(2) {
+    let (origin, answer, starts) = if seed.is_multiple_of(2) {
         let case = generate(seed / 2, size_of_case(seed / 2), SIGNED);
-        ("the Rust's lowering", by_the_rust(&case, 0).0)
+        ("the Rust's lowering", by_the_rust(&case, 0).0, case.records.starts)
     } else {
-        ("any log", made::made(seed))
+        ("any log", made::made(seed), ONE_FILE.to_vec())
     };
     let layout = if random.once_in(4) { Layout::Plain } else { Layout::Any };
     let written = if layout == Layout::Plain { "plainly" } else { "in any order" };
     coverage.add(format!("{origin}, written {written}"), 1);
     note_answer(&answer, coverage);
-    let log = layout::write(&answer, layout, random);
+    let mut log = layout::write(&answer, layout, random);
+    if layout == Layout::Plain {
+        log.put_files(&starts);
+    }
+    note_files(&log, coverage);
     let down = rust::definitions(&log).windows(2).any(|pair| pair[1].0 < pair[0].0);
     coverage.add("a link to a lower record".to_owned(), down.into());
     log
+}
+
+/// Notes what stands in words 13 and 14 of the definitions.
+fn note_files(log: &Log, coverage: &mut Coverage) {
+    let most = MOST_FILES as u32;
+    let words = rust::definitions(log).into_iter().map(|(number, ..)| number as usize * RECORD + 13);
+    let files: Vec<u32> = words.flat_map(|word| [log.words[word], log.words[word + 1]]).collect();
+    let several = files.iter().any(|file| *file != 0) && files.iter().all(|file| *file < most);
+    coverage.add(FILES.to_owned(), several.into());
+    coverage.add(NO_FILES.to_owned(), files.iter().any(|file| *file >= most).into());
 }
 
 fn note_answer(answer: &Answer, coverage: &mut Coverage) {

@@ -19,7 +19,8 @@ unsafe extern "C" {
     fn dl_history(w: *const u32, wl: usize, b: *const u8, bl: usize, p: *const u8, pl: usize, l: *mut u32, ll: usize) -> Answer;
     fn dl_contains_node(w: *const u32, wl: usize, b: *const u8, bl: usize, p: *const u8, pl: usize) -> Answer;
     fn dl_lower(
-        w: *const u32, wl: usize, t: *const u8, tl: usize, level: u32, o: *mut u32, ol: usize, b: *mut u8, bl: usize,
+        w: *const u32, wl: usize, t: *const u8, tl: usize, level: u32, s: *const u32, sl: usize, o: *mut u32, ol: usize,
+        b: *mut u8, bl: usize,
     ) -> Answer;
 }
 
@@ -57,9 +58,10 @@ const QUERIES: Queries = Queries {
 #[rustfmt::skip]
 pub const LIBRARY: Library = Library {
     lower: |records, out, bytes| unsafe {
-        let Records { words, text, level } = records;
+        let Records { words, text, level, starts } = records;
         dl_lower(
-            start(words), words.len(), start(text), text.len(), *level, start_mut(out), out.len(), start_mut(bytes), bytes.len(),
+            start(words), words.len(), start(text), text.len(), *level, start(starts), starts.len(), start_mut(out), out.len(),
+            start_mut(bytes), bytes.len(),
         )
         .read()
     },

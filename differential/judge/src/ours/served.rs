@@ -30,8 +30,8 @@ pub const FOUND: i32 = 9;
 const OPTIONS: [&str; 5] =
     ["-q", "--error-exitcode=9", "--leak-check=no", "--redzone-size=1024", "--vgdb=no"];
 
-/// A request has a function, a level and four lengths before its slices, a reply the two numbers of the answer.
-const HEAD: usize = 6 * size_of::<u64>();
+/// A request has a function, a level and five lengths before its slices, a reply the two numbers of the answer.
+const HEAD: usize = 7 * size_of::<u64>();
 const ANSWER: usize = 2 * size_of::<u32>();
 
 thread_local! {
@@ -41,18 +41,18 @@ thread_local! {
 /// Our functions under valgrind; `serving` must have started the program.
 pub const LIBRARY: Library = Library {
     lower: |records, out, bytes| {
-        let read = [bytes_of(&records.words), &records.text];
+        let read = [bytes_of(&records.words), &records.text, bytes_of(&records.starts)];
         call(LOWER, records.level, &read, &mut [bytes_of_mut(out), bytes])
     },
     queries: Queries {
         live: |words, bytes, base, list| {
-            call(LIVE, NO_LEVEL, &[bytes_of(words), bytes, base], &mut [bytes_of_mut(list)])
+            call(LIVE, NO_LEVEL, &[bytes_of(words), bytes, base], &mut [bytes_of_mut(list), &mut []])
         },
         history: |words, bytes, path, list| {
-            call(HISTORY, NO_LEVEL, &[bytes_of(words), bytes, path], &mut [bytes_of_mut(list)])
+            call(HISTORY, NO_LEVEL, &[bytes_of(words), bytes, path], &mut [bytes_of_mut(list), &mut []])
         },
         contains_node: |words, bytes, path| {
-            call(CONTAINS_NODE, NO_LEVEL, &[bytes_of(words), bytes, path], &mut [&mut []])
+            call(CONTAINS_NODE, NO_LEVEL, &[bytes_of(words), bytes, path], &mut [&mut [], &mut []])
         },
     },
 };
@@ -112,7 +112,7 @@ impl Served {
         Ok(Self { program, part, child, input, output, calls: 0, request, reply })
     }
 
-    /// Asks for a call: slices that are only read, then those that are written, four in all.
+    /// Asks for a call: slices that are only read, then those that are written, five in all.
     pub fn ask(
         &mut self,
         function: u64,
@@ -151,7 +151,7 @@ impl Served {
         let lengths = slices().map(|slice| slice.len() as u64);
         self.request.clear();
         self.request.extend([function, level.into()].into_iter().chain(lengths).flat_map(u64::to_ne_bytes));
-        assert_eq!(self.request.len(), HEAD, "a call has four slices");
+        assert_eq!(self.request.len(), HEAD, "a call has five slices");
         slices().for_each(|slice| self.request.extend_from_slice(slice));
     }
 

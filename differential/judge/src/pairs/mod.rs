@@ -3,6 +3,7 @@
 //! sees differences.
 
 mod alike;
+mod files;
 mod kinds;
 mod made;
 mod premises;
@@ -101,11 +102,11 @@ fn with_room(case: Case) -> Case {
     if tree::count(&case.top) < MOST_RECORDS - ROOM {
         return case;
     }
-    let (mut top, level) = (case.top, case.records.level);
+    let (mut top, told) = (case.top, case.records);
     while tree::count(&top) > MOST_RECORDS - ROOM {
         top.pop();
     }
-    Case::known(top, level)
+    Case::known(top, told.level).of_files(&told.starts)
 }
 
 /// Records left for the two.
@@ -143,6 +144,7 @@ impl<'a> Pair<'a> {
         let order = random.pick(&[Order::Down, Order::Across, Order::Any]);
         let layout = Layout { order, shared: random.once_in(2), noise: false };
         let records = records::write(&top, level, layout, random);
+        let records = Records { starts: case.records.starts.clone(), ..records };
         let accepted = by_01::rows::refusal(&records).is_none();
         accepted.then_some(Self { case, kind, spot, inserted, ground, new, top, records })
     }
@@ -159,7 +161,9 @@ impl<'a> Pair<'a> {
             counts.alike += 1;
             self.note(&of_a, &of_b, coverage);
             self.note_level(&of_a.answer, &of_b.answer, coverage);
-            for what in short_paths::seen(&of_a, self.ground.looks, &self.new) {
+            let (before, starts) = (self.ground.before.definitions.len(), &self.records.starts);
+            let files = files::seen(&of_a.answer, &of_b.answer, before, starts);
+            for what in short_paths::seen(&of_a, self.ground.looks, &self.new).into_iter().chain(files) {
                 coverage.add(met(what), 1);
             }
             return if found.is_empty() { Ok(()) } else { Err(self.shown(&found)) };
@@ -277,7 +281,8 @@ fn part_differs(part: &str) -> String {
 pub fn wanted() -> Coverage {
     let kinds = KINDS[1..].iter().map(shows);
     let parts = alike::PARTS.into_iter().map(part_differs);
-    let pairs = MET.into_iter().chain(MET_AT_LEVEL_2).chain(short_paths::WANTED).map(met);
+    let pairs =
+        MET.into_iter().chain(MET_AT_LEVEL_2).chain(short_paths::WANTED).chain(files::WANTED).map(met);
     Coverage::wanting(kinds.chain(parts).chain(pairs).chain([BROKEN_AT_LEVEL_2.to_owned()]))
 }
 

@@ -81,6 +81,7 @@ fn reworded(records: &Records, words: &mut [u32], bytes: &mut [u8], change: fn(R
     let top = changed(records::read(records), change);
     let layout = Layout { order: Order::Down, shared: true, noise: false };
     let other = records::write(&top, UNSIGNED, layout, &mut Random::new(0));
+    let other = Records { starts: records.starts.clone(), ..other };
     let records = if rows::refusal(&other).is_none() { &other } else { records };
     lower(records, words, bytes)
 }

@@ -3,6 +3,7 @@
 //! Of 01's slips, counting "" as under "/" does not show in what lowering writes: only nodes are
 //! resolved and unbound, and no node has the path "". It is planted into the queries (`logs::faults`).
 
+mod files;
 mod level_2;
 mod short_paths;
 mod slips;
@@ -30,7 +31,9 @@ enum By {
     Alike,
     /// Descriptions with short paths.
     ShortPaths,
-    /// Rows 1 to 7.
+    /// Descriptions of several files, and as one.
+    Files,
+    /// 18, rows 1 to 7 and 14.
     Rows,
     /// Pairs of runs.
     Pairs,
@@ -45,7 +48,7 @@ const SEEDS: u64 = 4_000;
 /// Where each planted fault is found first, if it is. Our library must be there.
 pub fn found() -> Vec<(&'static str, Option<String>)> {
     let lowerings = wrong::FAULTS.iter().chain(&words::FAULTS).chain(&slips::FAULTS).chain(&level_2::FAULTS);
-    let lowerings = lowerings.chain(&short_paths::FAULTS);
+    let lowerings = lowerings.chain(&short_paths::FAULTS).chain(&files::FAULTS);
     let sides = lowerings.map(|(name, by, lower)| (*name, *by, Library { lower: *lower, ..ours() }));
     let queries = Queries { live: slips::deleted_live, ..ours().queries };
     let pairs = ("pairs: deleted definitions stay live", By::Pairs, Library { queries, ..ours() });
@@ -70,6 +73,13 @@ fn compare_judged(side: &Library, seed: u64, level: u32) -> Result<(), String> {
     trees::whole_side(side, seed, &judged)
 }
 
+/// Compares a side on the description of a seed with its files, and as one.
+fn compare_files(side: &Library, seed: u64) -> Result<(), String> {
+    let judged = crate::files::judged_of(seed, 3);
+    trees::whole_side(side, seed, &judged)?;
+    crate::files::one_file(side, seed, &judged)
+}
+
 fn first_difference(side: &Library, by: By) -> Option<String> {
     let coverage = &mut Coverage::empty();
     (0..SEEDS).find_map(|seed| {
@@ -81,6 +91,7 @@ fn first_difference(side: &Library, by: By) -> Option<String> {
                 if has_expression(&judged.case.top) { Ok(()) } else { alike(side, seed, &judged) }
             }
             By::ShortPaths => trees::whole_side(side, seed, &crate::short_paths::judged(seed, 12)),
+            By::Files => compare_files(side, seed),
             By::Rows => damaged::compare_seed(side, seed, &mut damaged::Counts::default(), coverage),
             By::Pairs => pairs::compare_seed(side, seed, &mut pairs::Counts::default(), coverage),
         };

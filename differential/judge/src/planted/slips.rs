@@ -68,7 +68,7 @@ pub fn rewritten(
         change(&mut log, &records::read(records));
         words.fill(0);
         bytes.fill(0);
-        written::write(&log, (made, used), words, bytes);
+        written::write(&log, &records.starts, (made, used), words, bytes);
     }
     answer
 }

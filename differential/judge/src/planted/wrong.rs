@@ -4,7 +4,7 @@ use super::{By, Fault, lower};
 use crate::{
     by_01::rows::{self, Clause},
     octal::is_octal,
-    records::{MOST_RECORDS, MOST_TEXT, RECORD, Records, SIGNED},
+    records::{MOST_RECORDS, MOST_TEXT, RECORD, Records},
     tree,
 };
 
@@ -81,7 +81,9 @@ pub static FAULTS: [Fault; 20] = [
 /// Lowers another description where this one is accepted.
 fn fixed(records: &Records, words: &mut [u32], bytes: &mut [u8], other: &[[u32; RECORD]]) -> (u32, u32) {
     match lower(records, words, bytes) {
-        (0, 0) => lower(&Records { words: other.concat(), text: Vec::new(), level: SIGNED }, words, bytes),
+        (0, 0) => {
+            lower(&Records { words: other.concat(), text: Vec::new(), ..records.clone() }, words, bytes)
+        }
         answer => answer,
     }
 }
