@@ -11,6 +11,7 @@ use Rattle.paths_numbers.proofs.Texts.{by-test}
 use Rattle.files.specs.meaning.Files.{goodFiles, fileOf}
 use Rattle.files.proofs.Starts.{file-zero}
 use Rattle.log.specs.meaning.Record.{recordWords, headWords, outField, kindOf, nOf, spanStart, nameStart, hasSpan, hasNameSpan}
+use Rattle.log.specs.meaning.Record.{spanFile, nameFile}
 use Rattle.log.specs.meaning.Record.{nextOf, childOf, extensionKind}
 use Rattle.log.specs.meaning.ReadBack.{Log}
 use Rattle.log.specs.meaning.Sound.{isReached}
@@ -35,20 +36,21 @@ module _ {starts w v : List ℕ} {records : ℕ} (good : goodFiles starts ≡ tr
   file-behind : (r i : ℕ) → records ≤ r → fileOf starts (outField w r i) ≡ 0
   file-behind r i h = ap (fileOf starts) (behind-field r i h) ∙ file-zero starts good
 
-  -- so that the numbers stand in every record
-  every-file : (r : ℕ) → outField v r 13 ≡ fileOf starts (spanStart w r)
-  every-file r =
+  -- so that what the records made have, the number of the place in word `from` as word `to`, every record has
+  every : (r from to : ℕ) → to < recordWords → (r < records → outField v r to ≡ fileOf starts (outField w r from))
+      → outField v r to ≡ fileOf starts (outField w r from)
+  every r from to l made =
       by-test (ltb r records)
-      (λ t. p .fileOfSpan r (ltb-true r records t))
-      (λ t. let h = ltb-false r records t in
-      p .others r 13 (omega arith) (λ e l. omega arith) (λ e l. omega arith) ∙ behind-field r 13 h ∙ sym (file-behind r 9 h))
+      (λ t. made (ltb-true r records t))
+      (λ t.
+      let h = ltb-false r records t in
+      p .others r to l (λ e k. omega arith) (λ e k. omega arith) ∙ behind-field r to h ∙ sym (file-behind r from h))
 
-  every-name : (r : ℕ) → outField v r 14 ≡ fileOf starts (nameStart w r)
-  every-name r =
-      by-test (ltb r records)
-      (λ t. p .fileOfName r (ltb-true r records t))
-      (λ t. let h = ltb-false r records t in
-      p .others r 14 (omega arith) (λ e l. omega arith) (λ e l. omega arith) ∙ behind-field r 14 h ∙ sym (file-behind r 11 h))
+  every-file : (r : ℕ) → spanFile v r ≡ fileOf starts (spanStart w r)
+  every-file r = every r 9 13 (omega arith) (p .fileOfSpan r)
+
+  every-name : (r : ℕ) → nameFile v r ≡ fileOf starts (nameStart w r)
+  every-name r = every r 11 14 (omega arith) (p .fileOfName r)
 
   -- a word that is zero in a record stays so, where the spans are zero
   zero-word : (r i : ℕ) → i < recordWords → outField w r i ≡ 0 → (i ≡ 13 → spanStart w r ≡ 0) → (i ≡ 14 → nameStart w r ≡ 0)

@@ -50,25 +50,27 @@ module _ (starts v : List ℕ) (k : ℕ) (room : k * recordWords + recordWords �
       (λ e. g (omega arith) (omega arith))
       ∙ getD-set-other v (k * recordWords + 13) (r * recordWords + i) _ 0 (λ e. f (omega arith) (omega arith))
 
+  -- what the records of `words` before this one have, this one has too: the number of the place in word `from` as word `to`
+  one-more : (words : List ℕ) (r from to : ℕ) → to < recordWords → outField put k to ≡ fileOf starts (outField v k from)
+      → outField v k from ≡ outField words k from → (r < k → outField v r to ≡ fileOf starts (outField words r from)) → r < k + 1
+      → outField put r to ≡ fileOf starts (outField words r from)
+  one-more words r from to l here same before h =
+      by-test (eqb r k)
+      (λ t. rw (eqb-true r k t) (here ∙ ap (fileOf starts) same))
+      (λ t. let n = eqb-false r k t in put-other r to l (λ z e. n e) (λ z e. n e) ∙ before (omega arith))
+
 -- and one more
 pub put-next : (starts words v : List ℕ) (k : ℕ) → k * recordWords + recordWords ≤ length v → FilesPut starts words v k
     → FilesPut starts words (recordPut starts v (k * recordWords)) (k + 1)
 put-next starts words v k room p =
-    let w = recordPut starts v (k * recordWords) in
+    let same : (i : ℕ) → i < 13 → outField v k i ≡ outField words k i =
+    λ i h. p .others k i (omega arith) (λ z. omega arith) (λ z. omega arith) in
     record {
       sameLength = put-length starts v k room ∙ p .sameLength;
-      fileOfSpan = λ r h.
-          by-test (eqb r k)
-          (λ t. let e = eqb-true r k t in
-          rw e (put-13 starts v k room ∙ ap (fileOf starts) (p .others k 9 (omega arith) (λ z. omega arith) (λ z. omega arith))))
-          (λ t. let n = eqb-false r k t in
-          put-other starts v k room r 13 (omega arith) (λ z e. n e) (λ z e. n e) ∙ p .fileOfSpan r (omega arith));
-      fileOfName = λ r h.
-          by-test (eqb r k)
-          (λ t. let e = eqb-true r k t in
-          rw e (put-14 starts v k room ∙ ap (fileOf starts) (p .others k 11 (omega arith) (λ z. omega arith) (λ z. omega arith))))
-          (λ t. let n = eqb-false r k t in
-          put-other starts v k room r 14 (omega arith) (λ z e. n e) (λ z e. n e) ∙ p .fileOfName r (omega arith));
+      fileOfSpan = λ r.
+          one-more starts v k room words r 9 13 (omega arith) (put-13 starts v k room) (same 9 (omega arith)) (p .fileOfSpan r);
+      fileOfName = λ r.
+          one-more starts v k room words r 11 14 (omega arith) (put-14 starts v k room) (same 11 (omega arith)) (p .fileOfName r);
       others = λ r i h f g.
           put-other starts v k room r i h (λ z e. f z (omega arith)) (λ z e. g z (omega arith))
           ∙ p .others r i h (λ z e. f z (omega arith)) (λ z e. g z (omega arith));

@@ -1,5 +1,5 @@
--- What lowering leaves in both buffers on success: 01's rules for writing, by which every word and byte is given but for record numbers and
--- text starts.
+-- What lowering leaves in both buffers on success: 01's rules for writing, and 02's for the files' numbers, by which every word and byte is
+-- given but for record numbers and text starts.
 use Prim.Native.Nat.{ℕ, _+_, _/_, _≤_, _<_}
 use mathlib.Core.Bool.{Bool, true, false, cond}
 use mathlib.Core.Path.{_≡_}
