@@ -29,6 +29,7 @@ use log::answer::REFUSED_NAME;
 use log::answer::REFUSED_SIZE;
 use log::answer::REFUSED_TEXT;
 use log::record::text_in;
+use paths_numbers::phandle::first_slash;
 
 // How a record stands is one number: this times its depth, and its place's number; 0 where no link has led to it.
 const PLACES: u32 = 16;
@@ -352,14 +353,7 @@ fn good_name(name: &[u8]) -> bool
 fn holds_slash(text: &[u8]) -> bool
     ensures { λ t. ⌜ t ≡ holdsSlash (now (text .entry)) ⌝ }
 {
-    let mut i = 0;
-    while i < text.len() {
-        if text[i] == b'/' {
-            return true;
-        }
-        i += 1;
-    }
-    false
+    first_slash(text) < text.len()
 }
 
 // A record's text.

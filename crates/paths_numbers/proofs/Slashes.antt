@@ -1,33 +1,38 @@
 -- The first "/" of a text: where it stands, and the texts before and behind it.
 use Prim.Native.Nat.{ℕ, suc, _+_, _≤_, _<_}
-use mathlib.Core.Path.{_≡_, refl, ap}
+use mathlib.Core.Path.{_≡_, refl, ap, _∙_}
 use mathlib.Core.Bool.{Bool, true, false}
+use mathlib.Core.Option.{Option, some, none}
 use mathlib.Core.List.{List, [], _∷_, _++_}
 use native.Mathlib.Nat.{min-le-right}
-use native.Mathlib.Numerals.{add-one}
 use native.Mathlib.Omega.{arith}
-use borrow.Author.Tests.{eq-eqb, ne-eqb, eqb-true}
+use borrow.Author.Tests.{eqb-true}
 use lib.Dec.{eqb}
-use lib.ListN.{length, getD, take, drop, drop-of-length-le, length-take}
-use lib.Seq.{drop-cons}
+use lib.ListN.{length, take, drop, length-take}
+use Rattle.slashes.specs.meaning.Slash.{firstFrom, nextSlash}
 use Rattle.paths_numbers.specs.meaning.Byte.{slash}
 use Rattle.paths_numbers.specs.meaning.Text.{startsWith}
 use Rattle.paths_numbers.specs.meaning.Reference.{beforeSlash, behindSlash, hasSlash}
 
--- what the byte at i adds to the text before the first "/": it ends it, or belongs to it
-pub slash-here : (s : List ℕ) (i : ℕ) → i < length s → getD s i 0 ≡ slash → beforeSlash (drop i s) ≡ []
-unfolding beforeSlash
-slash-here s i h e = rw (drop-cons s i 0 h) (simp (eq-eqb _ _ e))
+-- where the search finds it, or n
+abbrev pub placeOr : ℕ → Option ℕ → ℕ
+placeOr n (some k) = k
+placeOr n none = n
 
-pub slash-later : (s : List ℕ) (i : ℕ) → i < length s → (getD s i 0 ≡ slash → ⊥)
-    → beforeSlash (drop i s) ≡ getD s i 0 ∷ beforeSlash (drop (i + 1) s)
-unfolding beforeSlash
-slash-later s i h e = rw (drop-cons s i 0 h, add-one) (simp (ne-eqb _ _ e))
+-- the search finds it behind the text before it, and nothing where that is the whole
+first-before : (s : List ℕ) (i : ℕ) → placeOr (i + length s) (firstFrom i s) ≡ i + length (beforeSlash s)
+unfolding firstFrom beforeSlash
+first-before [] i = refl
+first-before (b ∷ s) i = go (first-before s (suc i)) (eqb b slash) refl
+  where
+    go : placeOr (suc i + length s) (firstFrom (suc i) s) ≡ suc i + length (beforeSlash s) → (t : Bool) → eqb b slash ≡ t
+        → placeOr (i + suc (length s)) (firstFrom i (b ∷ s)) ≡ i + length (beforeSlash (b ∷ s))
+    go r true e = rw e (omega arith)
+    go r false e = rw e (ap (λ (n : ℕ). placeOr n (firstFrom (suc i) s)) (omega arith) ∙ r ∙ omega arith)
 
--- past the last byte there is nothing before a "/"
-pub slash-done : (s : List ℕ) (i : ℕ) → length s ≤ i → beforeSlash (drop i s) ≡ []
-unfolding beforeSlash
-slash-done s i h = rw (drop-of-length-le s h)
+pub next-before : (s : List ℕ) → placeOr (length s) (nextSlash s 0) ≡ length (beforeSlash s)
+unfolding nextSlash
+next-before s = ap (λ (n : ℕ). placeOr n (firstFrom 0 s)) (omega arith) ∙ first-before s 0 ∙ omega arith
 
 -- the texts before and behind the first "/" are the parts around its place
 pub take-before : (s : List ℕ) → take (length (beforeSlash s)) s ≡ beforeSlash s

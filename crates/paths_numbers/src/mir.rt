@@ -70,7 +70,7 @@ pub fn good_path(path: &[u8]) -> bool
 
 // Whether nonempty components follow each other, each behind a "/". The loop has no way out of its
 // middle, so that it is compiled to compare many bytes at a time.
-fn has_components(path: &[u8]) -> bool
+pub fn has_components(path: &[u8]) -> bool
     ensures { λ r. ⌜ r ≡ components false (now (path .entry)) ⌝ }
 {
     if path.len() == 0 {

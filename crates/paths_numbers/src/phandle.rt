@@ -3,6 +3,8 @@ ghost use mathlib.Core.Path.{_≡_};
 ghost use Rattle.paths_numbers.specs.meaning.Reference.{isBraced, innerText, beforeSlash, target, numberOf, labelOf, pathOf};
 ghost use Rattle.paths_numbers.specs.meaning.Reference.{targetNumber};
 ghost use lib.ListN.{length};
+use slashes::slash::Found;
+use slashes::slash::next_slash;
 
 // What a raw reference names, by the names of the Rust's MirPhandleTarget; or that it cannot be read.
 pub enum MirPhandleTarget {
@@ -99,12 +101,9 @@ fn inner_text(raw: &[u8]) -> &[u8]
 pub fn first_slash(s: &[u8]) -> usize
     ensures { λ r. ⌜ r ≡ length (beforeSlash (now (s .entry))) ⌝ }
 {
-    let mut i = 0;
-    while i < s.len() {
-        if s[i] == b'/' {
-            return i;
-        }
-        i += 1;
+    let found = next_slash(s, 0);
+    match found {
+        Found::At(k) => k,
+        Found::Nothing => s.len(),
     }
-    i
 }

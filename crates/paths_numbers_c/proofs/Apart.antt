@@ -35,6 +35,9 @@ use Rattle.paths_numbers.specs.declared.dt_node.Built.{Built}
 use Rattle.paths_numbers.specs.declared.dt_node.Built.the-variants as Built
 use Rattle.paths_numbers.specs.declared.phandle.MirPhandleTarget.{MirPhandleTarget}
 use Rattle.paths_numbers.specs.declared.phandle.MirPhandleTarget.the-variants as Target
+use Rattle.slashes.specs.meaning.Slash.{foundTold}
+use Rattle.slashes.specs.declared.slash.Found.{Found}
+use Rattle.slashes.specs.declared.slash.Found.the-variants as Found
 
 -- two answers that tell the same are the same, where there is a way back
 abbrev pub Apart : {A B : Type 0} → (A → B) → Type 0
@@ -146,6 +149,17 @@ written-apart = apart writtenTold back same
     same (Written.Bytes n) = refl
     same Written.MissingDigit = refl
     same Written.NoRoom = refl
+
+pub found-apart : Apart foundTold
+found-apart = apart foundTold back same
+  where
+    back : Option ℕ → Found
+    back (some k) = Found.At k
+    back none = Found.Nothing
+
+    same : (f : Found) → back (foundTold f) ≡ f
+    same (Found.At k) = refl
+    same Found.Nothing = refl
 
 pub built-apart : Apart builtTold
 built-apart = apart builtTold back same

@@ -10,7 +10,8 @@ ghost use Rattle.paths_numbers.specs.meaning.Path.{atOrUnder, stripped, goodPat
 ghost use Rattle.paths_numbers.specs.meaning.Reference.{target};
 ghost use Rattle.paths_numbers.specs.meaning.Text.{same};
 ghost use Rattle.paths_numbers_c.specs.meaning.Told.{truth, numberTold, integerTold, resultTold, lengthTold, bytesTold, pathTold};
-ghost use Rattle.paths_numbers_c.specs.meaning.Told.{widthTold, widthOf, intAt, exprAt, charAt, targetTold};
+ghost use Rattle.paths_numbers_c.specs.meaning.Told.{widthTold, widthOf, intAt, exprAt, charAt, targetTold, placeTold};
+ghost use Rattle.slashes.specs.meaning.Slash.{nextSlash, foundTold};
 use paths_numbers::dt_node::Built;
 use paths_numbers::dt_node::build_path;
 use paths_numbers::dt_node::is_path;
@@ -46,6 +47,8 @@ use paths_numbers::phandle::lower_phandle;
 use paths_numbers::phandle::phandle_label;
 use paths_numbers::phandle::phandle_path;
 use paths_numbers::phandle::target_number;
+use slashes::slash::Found;
+use slashes::slash::next_slash;
 
 // What stands for "no room", and for an operator that is missing: neither has a code.
 const NO_ROOM: u32 = 1;
@@ -71,6 +74,13 @@ pub struct PnInteger {
 pub struct PnWritten {
     pub number: u32,
     pub len: usize,
+}
+
+// Whether something was found, and its place, 0 where it was not.
+#[repr(C)]
+pub struct PnPlace {
+    pub found: u32,
+    pub place: usize,
 }
 
 // A reference: 1 label, 2 label and path, 3 path, 0 unreadable. Its parts stand in the raw text: the
@@ -106,6 +116,14 @@ pub extern "C" fn pn_good_path(path: &[u8]) -> u32
     ensures { λ r. ⌜ r ≡ truth (goodPath (now (path .entry))) ⌝ }
 {
     told_truth(good_path(path))
+}
+
+// The first "/" of a path at or behind a place.
+#[no_mangle]
+pub extern "C" fn pn_next_slash(path: &[u8], from: usize) -> PnPlace
+    ensures { λ r. ⌜ r ≡ placeTold (nextSlash (now (path .entry)) from) ⌝ }
+{
+    told_found(next_slash(path, from))
 }
 
 // The length of the path of a parent and a name, whose unit address is empty where there is none.
@@ -286,6 +304,15 @@ fn told_truth(t: bool) -> u32
         return 1;
     }
     0
+}
+
+fn told_found(f: Found) -> PnPlace
+    ensures { λ r. ⌜ r ≡ placeTold (foundTold f) ⌝ }
+{
+    match f {
+        Found::At(place) => PnPlace { found: 1, place },
+        Found::Nothing => PnPlace { found: 0, place: 0 },
+    }
 }
 
 fn told_built(b: Built) -> PnWritten

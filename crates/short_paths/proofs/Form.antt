@@ -1,14 +1,12 @@
 -- Row 9's form of a path that is given by a parent and a name.
-use Prim.Native.Nat.{ℕ, _+_, _-_, _≤_, _<_}
+use Prim.Native.Nat.{ℕ, _+_, _-_, _<_}
 use mathlib.Core.Path.{_≡_, refl, sym, ap, _∙_}
-use mathlib.Core.Bool.{Bool, true, false, not, cond, _&&_}
+use mathlib.Core.Bool.{Bool, true, false, cond}
 use mathlib.Core.List.{List, [], _∷_, _++_}
-use native.Mathlib.Numerals.{add-one}
 use native.Mathlib.Omega.{arith}
-use borrow.Author.Tests.{eqb-true, ne-eqb}
+use borrow.Author.Tests.{eqb-true, eq-eqb, ne-eqb}
 use lib.Dec.{eqb}
-use lib.ListN.{length, getD, take, drop, drop-of-length-le}
-use lib.Seq.{drop-cons}
+use lib.ListN.{length, getD, take, drop}
 use Rattle.paths_numbers.specs.meaning.Byte.{slash}
 use Rattle.paths_numbers.specs.meaning.Text.{same, isEmpty, startsWith}
 use Rattle.paths_numbers.specs.meaning.Path.{root, join, withUnit, joined, components, goodPath}
@@ -64,18 +62,21 @@ form-joined parent name h =
     (λ e. rw (h, e) (at-root name ∙ ap (λ (t : Bool). cond t (components true name) false) (sym (root-good parent e))))
     (λ e. rw (h, e) (behind parent name e))
 
--- the bytes of a name one by one, behind a "/" or not
-pub next-byte : (after : Bool) (s : List ℕ) (i : ℕ) → i < length s
-    → components after (drop i s)
-    ≡ cond (eqb (getD s i 0) slash && after) false (components (eqb (getD s i 0) slash) (drop (i + 1) s))
+-- a name's first byte, of which it has one, is no "/"; then the "/" in front of it does not matter
+pub no-name : (name : List ℕ) → length name ≡ 0 → components true name ≡ false
 unfolding components
-next-byte after s i h =
-    rw (drop-cons s i 0 h, add-one)
-    (by-test (eqb (getD s i 0) slash) (λ e. rw e refl) (λ e. rw e refl))
+no-name [] h = refl
+no-name (b ∷ s) h = absurd (omega arith)
 
-pub none-next : (after : Bool) (s : List ℕ) (i : ℕ) → length s ≤ i → components after (drop i s) ≡ not after
+pub slash-ahead : (name : List ℕ) → 0 < length name → getD name 0 0 ≡ slash → components true name ≡ false
 unfolding components
-none-next after s i h = rw (drop-of-length-le s h) refl
+slash-ahead [] h e = absurd (omega arith)
+slash-ahead (b ∷ s) h e = rw (eq-eqb b slash e) refl
+
+pub name-ahead : (name : List ℕ) → 0 < length name → (getD name 0 0 ≡ slash → ⊥) → components true name ≡ components false name
+unfolding components
+name-ahead [] h e = absurd (omega arith)
+name-ahead (b ∷ s) h e = rw (ne-eqb b slash e) refl
 
 -- where there are components, the path is what stands before the name, a "/" and the name
 pub front-joined : (parent name : List ℕ) → hasComponents (joined parent name []) ≡ true

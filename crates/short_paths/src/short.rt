@@ -10,6 +10,7 @@ ghost use Rattle.paths_numbers.specs.meaning.Byte.{slash};
 ghost use Rattle.paths_numbers.specs.meaning.Path.{joined, components};
 ghost use Rattle.short_paths.specs.meaning.Short.{hasAt, componentMatches, mayMean, hasComponents};
 ghost use Rattle.short_paths.specs.machine.Front.{frontOf, Matched};
+use paths_numbers::mir;
 use paths_numbers::mir::good_path;
 use paths_numbers::mir::is_root;
 use paths_numbers::phandle::first_slash;
@@ -45,17 +46,13 @@ pub fn has_components(parent: &[u8], name: &[u8]) -> bool
 fn holds_components(name: &[u8]) -> bool
     ensures { λ t. ⌜ t ≡ components true (now (name .entry)) ⌝ }
 {
-    let mut after = true;
-    let mut i = 0;
-    while i < name.len() {
-        let slash = name[i] == b'/';
-        if slash & after {
-            return false;
-        }
-        after = slash;
-        i += 1;
+    if name.len() == 0 {
+        return false;
     }
-    !after
+    if name[0] == b'/' {
+        return false;
+    }
+    mir::has_components(name)
 }
 
 // How many bytes of a parent stand before the "/" in front of a name: none of "/".

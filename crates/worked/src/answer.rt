@@ -9,6 +9,8 @@ use paths_numbers::mir;
 use paths_numbers::operators;
 use paths_numbers::phandle;
 use paths_numbers::text::equals;
+use slashes::slash::Found;
+use slashes::slash::next_slash;
 
 // Prints the answer to a case of this kind.
 pub fn answer(kind: &[u8], a: &[u8], b: &[u8], c: &[u8]) {
@@ -20,6 +22,9 @@ pub fn answer(kind: &[u8], a: &[u8], b: &[u8], c: &[u8]) {
     }
     if equals(kind, b"path") {
         return number(mir::good_path(a) as u64);
+    }
+    if equals(kind, b"slash") {
+        return slash(a, small_of(b));
     }
     if equals(kind, b"bytes") {
         return bytes(a);
@@ -62,6 +67,15 @@ fn strip(path: &[u8], base: &[u8]) {
         return print_text(mir::strip_base(path, base));
     }
     print(b"-");
+}
+
+// The first "/" from a place on, or -.
+fn slash(path: &[u8], from: u32) {
+    let found = next_slash(path, from as usize);
+    match found {
+        Found::At(k) => number(k as u64),
+        Found::Nothing => print(b"-"),
+    }
 }
 
 // The path of a parent and a name.

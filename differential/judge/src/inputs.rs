@@ -6,18 +6,32 @@ use crate::random::Random;
 
 /// All texts over an alphabet up to a length, shorter ones first.
 pub fn texts(alphabet: &[&str], longest: usize) -> Vec<String> {
-    let mut all = vec![String::new()];
+    sequences(alphabet, longest).iter().map(|letters| letters.concat()).collect()
+}
+
+/// The same of anything.
+pub fn sequences<T: Copy>(alphabet: &[T], longest: usize) -> Vec<Vec<T>> {
+    let mut all = vec![Vec::new()];
     let mut last = 0;
     for _ in 0..longest {
         let end = all.len();
         for shorter in last..end {
             for letter in alphabet {
-                all.push(format!("{}{letter}", all[shorter]));
+                all.push([&all[shorter][..], &[*letter]].concat());
             }
         }
         last = end;
     }
     all
+}
+
+/// Raw references of up to 24 bytes in their braces, with no slash or one, at each place.
+pub fn long_references() -> impl Iterator<Item = String> {
+    (0..=24).flat_map(|length: usize| {
+        let inner = "l".repeat(length);
+        let slash = (0..length).map(|place| format!("{}/{}", &inner[..place], &inner[place + 1..]));
+        slash.chain([inner.clone()]).map(|inner| format!("&{{{inner}}}")).collect::<Vec<_>>()
+    })
 }
 
 /// All pairs out of two lists, those of early places first.

@@ -26,6 +26,17 @@ pub fn join(parent: &str, name: &str) -> String {
     reach::build_path(parent, name)
 }
 
+/// The place of the first "/" at or behind a place. A text that is no UTF-8 from there on has no `find`: there the Rust looks for the
+/// byte.
+pub fn next_slash(path: &[u8], from: usize) -> Option<usize> {
+    let rest = path.get(from..)?;
+    let found = match str::from_utf8(rest) {
+        Ok(text) => text.find('/'),
+        Err(_) => rest.iter().position(|byte| *byte == b'/'),
+    };
+    found.map(|place| from + place)
+}
+
 /// Runs something that reports at most one diagnostic: what it gives, or 01's code (0 if none).
 fn coded<T>(run: impl FnOnce(&mut Diag<'_>) -> Result<T, ()>) -> Result<T, u32> {
     let mut sink = Vec::new();

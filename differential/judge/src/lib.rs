@@ -37,6 +37,7 @@ pub mod records;
 pub mod room;
 pub mod short_paths;
 pub mod shrink;
+pub mod slashes;
 pub mod small;
 pub mod speed;
 pub mod text_form;

@@ -14,7 +14,7 @@ use judge::{
     parts::{self, ALL, SHORT, Sizes},
     recorded,
     records::{self, ONE_FILE, RECORD, Records, SIGNED, UNSIGNED},
-    short_paths, speed, text_form,
+    short_paths, slashes, speed, text_form,
     trees::{self, Judged},
     worked,
 };
@@ -69,7 +69,7 @@ fn command(words: &[&str]) -> Result<(), String> {
         ["memory", program] => memory::run(program, None),
         ["memory", program, cases] => memory::run(program, Some(number(cases)?)),
         ["speed"] => speed_part(),
-        ["planted"] => ours::library().and_then(|_| parts::planted()),
+        ["planted"] => ours::leaves().and(ours::library()).and_then(|_| parts::planted()),
         ["ask", description] => ask("1", "0", description),
         ["ask", level, description] => ask(level, "0", description),
         ["ask", level, starts, description] => ask(level, starts, description),
@@ -132,14 +132,15 @@ fn short() -> Result<(), String> {
     parts_of(&SHORT)?.closing()
 }
 
-/// The tables of queries and of lowering.
+/// The tables of queries, of lowering and of slashes.
 fn speed_part() -> Result<(), String> {
-    let ours = ours::library()?;
+    let (leaves, ours) = (ours::leaves()?, ours::library()?);
     logs::speed::run(&ours.queries)?;
     speed::run(&ours)?;
     levels::speed::run(&ours)?;
     short_paths::speed::run(&ours)?;
-    files::speed::run(&ours)
+    files::speed::run(&ours)?;
+    slashes::speed::run(&leaves)
 }
 
 /// Theorems on small descriptions, for the checker.

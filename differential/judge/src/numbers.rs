@@ -6,17 +6,19 @@ use dt_tools_lowering::mir::MirPhandleTarget;
 use crate::{
     answer::Target,
     by_01::{self, paths},
+    by_02,
     counts::Counts,
     coverage::{AS_WIDTH, Coverage},
-    inputs::{OCTAL, boundary_values, near_limits, pairs, pairs_of, texts},
+    inputs::{OCTAL, boundary_values, long_references, near_limits, pairs, pairs_of, texts},
     leaves::{self, INTS, Int},
     octal,
     ours::Leaves,
     panics::Outcome,
     random::Random,
+    slashes,
 };
 
-/// 01's sentences as a side.
+/// 01's and 02's sentences as a side.
 pub fn by_01() -> Leaves {
     Leaves {
         strip: Some(|path, base| paths::strip(path, base).map(|rest| path.len() - rest.len())),
@@ -26,6 +28,7 @@ pub fn by_01() -> Leaves {
             [path == joined, paths::under(path, &joined), paths::under(&joined, path)]
         }),
         is_path: Some(paths::is_path),
+        next_slash: Some(by_02::slashes::next_slash),
         int: Some(|kind, text| match kind {
             Int::U8 => by_01::numbers::read_unsigned(text, 8).map(i128::from),
             Int::U16 => by_01::numbers::read_unsigned(text, 16).map(i128::from),
@@ -53,22 +56,22 @@ fn with_unit(name: &[u8], unit: &[u8]) -> Vec<u8> {
 pub type Lines = Vec<(&'static str, Counts)>;
 
 /// One leaf's comparison, of at most `most` cases.
-struct Run {
+pub struct Run {
     leaf: &'static str,
     most: u64,
     counts: Counts,
 }
 
 impl Run {
-    fn new(leaf: &'static str, most: u64) -> Self {
+    pub fn new(leaf: &'static str, most: u64) -> Self {
         Self { leaf, most, counts: Counts::default() }
     }
 
-    fn full(&self) -> bool {
+    pub fn full(&self) -> bool {
         self.counts.compared >= self.most
     }
 
-    fn compare<T: PartialEq + std::fmt::Debug>(&mut self, input: impl Fn() -> String, rust: T, other: T) {
+    pub fn compare<T: PartialEq + std::fmt::Debug>(&mut self, input: impl Fn() -> String, rust: T, other: T) {
         self.counts.compared += 1;
         if rust != other {
             self.counts.different += 1;
@@ -85,17 +88,18 @@ impl Run {
         self.compare(input, coded(rust), other);
     }
 
-    fn end(self, lines: &mut Lines) {
+    pub fn end(self, lines: &mut Lines) {
         lines.push((self.leaf, self.counts));
     }
 }
 
-/// What is to come up of a side's numbers: octal texts, good and bad ones.
+/// What is to come up of a side's numbers and paths: octal texts, good and bad ones, and slashes.
 pub fn wanted(side: &Leaves) -> Coverage {
     let ints = INTS.iter().flat_map(|(name, _)| octal::wanted(&as_int(name), &[17, 18], "read"));
     let ints = side.int.map(|_| ints).into_iter().flatten();
     let widths = side.width.map(|_| octal::wanted(AS_WIDTH, &[12, 17, 18], "code 12"));
-    Coverage::wanting(ints.chain(widths.into_iter().flatten()))
+    let slashes = side.next_slash.map(|_| slashes::wanted());
+    Coverage::wanting(ints.chain(widths.into_iter().flatten()).chain(slashes.into_iter().flatten()))
 }
 
 /// A number's text read as one of the kinds of integers.
@@ -108,6 +112,7 @@ pub fn compare(side: &Leaves, most: u64, coverage: &mut Coverage) -> Lines {
     let mut lines = Lines::new();
     let random = &mut Random::new(3);
     compare_paths(side, most, &mut lines);
+    slashes::compare(side, most, coverage, &mut lines);
     compare_ints(side, most, random, coverage, &mut lines);
     compare_values(side, most, random, &mut lines);
     compare_operators(side, most, random, &mut lines);
@@ -232,7 +237,7 @@ fn compare_values(side: &Leaves, most: u64, random: &mut Random, lines: &mut Lin
     if let Some(reference) = side.reference {
         let mut run = Run::new("reference", most);
         let readable = texts(&["/", "l", "m", "}"], 4).into_iter().map(|inner| format!("&{{{inner}}}"));
-        for raw in readable.chain(texts(&["&", "{", "}", "/", "l", "m"], 7)) {
+        for raw in long_references().chain(readable).chain(texts(&["&", "{", "}", "/", "l", "m"], 7)) {
             if run.full() {
                 break;
             }

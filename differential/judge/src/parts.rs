@@ -9,7 +9,7 @@ use crate::{
     ours::Leaves,
     pairs, planted,
     records::{SIGNED, UNSIGNED},
-    short_paths, small,
+    short_paths, slashes, small,
     trees::{self, judged, size_of_case},
 };
 
@@ -63,7 +63,7 @@ fn reported(coverage: &Coverage, of: &str, counted: &str) -> Result<(), String> 
 
 /// The leaves.
 pub fn numbers(ours: &Leaves) -> Result<Counts, String> {
-    let sides = [("01's sentences", &numbers::by_01()), ("our library", ours)];
+    let sides = [("01's and 02's sentences", &numbers::by_01()), ("our library", ours)];
     let compared = sides.map(|(name, side)| {
         println!("numbers and paths, the Rust against {name}:");
         leaves(side, u64::MAX)
@@ -198,6 +198,7 @@ pub fn queries(side: &Library, from: u64, logs: u64) -> Result<Counts, String> {
 pub fn planted() -> Result<(), String> {
     let mut found = logs::faults::found();
     found.extend(planted::found());
+    found.extend(slashes::faults::found());
     all_found(&found)
 }
 

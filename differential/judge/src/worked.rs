@@ -25,6 +25,11 @@ fn answer(line: &[u8]) -> Option<String> {
     if kind == "path" {
         return Some(format!("={}", u32::from(by_01::paths::is_path(fields.get(1)?))));
     }
+    if kind == "slash" {
+        let from: u32 = str::from_utf8(fields.get(2)?).ok()?.parse().ok()?;
+        let found = leaves::next_slash(fields.get(1)?, from as usize);
+        return Some(found.map_or("-".to_owned(), |place| format!("={place}")));
+    }
     let texts: Vec<String> =
         fields[1..].iter().map(|field| String::from_utf8(field.clone()).ok()).collect::<Option<_>>()?;
     let text = |place: usize| texts.get(place).map(String::as_str);

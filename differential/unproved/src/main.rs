@@ -22,6 +22,7 @@ use paths_numbers::{
     operators::{self, Evaluated},
     phandle::{self, MirPhandleTarget},
 };
+use slashes::slash::{self, Found};
 
 fn main() -> ExitCode {
     panics::install_hook();
@@ -69,6 +70,10 @@ fn ours() -> Leaves {
             ]
         }),
         is_path: Some(mir::good_path),
+        next_slash: Some(|path, from| match slash::next_slash(path, from) {
+            Found::At(place) => Some(place),
+            Found::Nothing => None,
+        }),
         int: Some(int),
         width: Some(|text| match BitsSize::from_token(text) {
             SizeRead::Size(size) => Ok(size.bits()),

@@ -2,10 +2,11 @@
 use Prim.Native.Nat.{ℕ, _-_}
 use mathlib.Core.Bool.{cond}
 use lib.Dec.{leb}
+use Rattle.slashes.specs.meaning.Slash as Slash
 
 -- "/"
 abbrev pub slash : ℕ
-slash = 47
+slash = Slash.slash
 
 -- "@", between a name and its unit address
 abbrev pub atSign : ℕ

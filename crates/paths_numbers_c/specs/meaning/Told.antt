@@ -15,6 +15,7 @@ use Rattle.paths_numbers_c.specs.declared.PnNumber.{PnNumber}
 use Rattle.paths_numbers_c.specs.declared.PnInteger.{PnInteger}
 use Rattle.paths_numbers_c.specs.declared.PnWritten.{PnWritten}
 use Rattle.paths_numbers_c.specs.declared.PnReference.{PnReference}
+use Rattle.paths_numbers_c.specs.declared.PnPlace.{PnPlace}
 
 -- a truth is 1 or 0
 abbrev pub truth : Bool → ℕ
@@ -79,3 +80,8 @@ charAt bits ch = atWidth (λ s. numberTold (charCell (bitsOf s) ch)) (widthOf bi
 -- what a reference names: its kind by 01's N, 0 where it cannot be read, and the lengths of its label and its path
 abbrev pub targetTold : Target → PnReference
 targetTold t = record { kind = numberOf t; «label_len» = length (labelOf t); «path_len» = length (pathOf t) }
+
+-- a place: 1 and where it is, or 0 and 0
+abbrev pub placeTold : Option ℕ → PnPlace
+placeTold (some k) = record { found = 1; place = k }
+placeTold none = record { found = 0; place = 0 }

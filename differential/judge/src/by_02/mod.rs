@@ -3,3 +3,4 @@
 pub mod files;
 pub mod level_2;
 pub mod short_paths;
+pub mod slashes;

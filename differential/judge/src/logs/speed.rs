@@ -46,7 +46,14 @@ pub fn run(side: &Queries) -> Result<(), String> {
         "\n| log | definitions | query | answers | ours, µs | Rust, µs | ratio | by medians | row 8's test | ratio without it |"
     );
     println!("|---|---:|---|---:|---:|---:|---:|---:|---:|---:|");
-    each_log(|mix, size, log, nodes, random| Bench::new(side, log, nodes, random).run(mix, size))
+    each_log(|mix, size, log, nodes, random| Bench::new(side, log, nodes, random).run(mix, size))?;
+    println!("\n| log | definitions | row 8's test, µs | ns for a definition |\n|---|---:|---:|---:|");
+    each_log(|mix, size, log, nodes, random| {
+        let bench = Bench::new(side, log, nodes, random);
+        let [times] = measured([&mut || bench.row_8()]);
+        println!("| {mix} | {size} | {:.1} | {:.1} |", times.least / 1e3, times.least / size as f64);
+        Ok(())
+    })
 }
 
 /// Makes each log, and hands it on with the paths of its nodes.

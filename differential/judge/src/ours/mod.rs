@@ -10,7 +10,7 @@ mod definition_log;
 mod paths_numbers;
 pub mod served;
 
-use crate::{answer::Target, leaves::Int, library::Library};
+use crate::{answer::Target, leaves::Int, library::Library, slashes::NextSlash};
 
 /// The leaves on one side of a comparison. Codes are 01's. A name has a unit address, empty where
 /// there is none.
@@ -25,6 +25,8 @@ pub struct Leaves {
     /// whether that lies at or under the path.
     pub against_joined: Option<fn(&[u8], &[u8], &[u8], &[u8]) -> [bool; 3]>,
     pub is_path: Option<fn(&[u8]) -> bool>,
+    /// Where the first "/" at or behind a place of a path stands.
+    pub next_slash: Option<NextSlash>,
     pub int: Option<fn(Int, &[u8]) -> Result<i128, u32>>,
     pub width: Option<fn(&[u8]) -> Result<u32, u32>>,
     pub cell: Option<fn(u32, i64) -> Result<u64, u32>>,

@@ -22,6 +22,12 @@ struct Written {
 }
 
 #[repr(C)]
+struct Place {
+    found: u32,
+    place: usize,
+}
+
+#[repr(C)]
 struct Reference {
     kind: u32,
     label_len: usize,
@@ -34,6 +40,7 @@ unsafe extern "C" {
     fn pn_lies_under(p: *const u8, pl: usize, b: *const u8, bl: usize) -> u32;
     fn pn_strip_base(p: *const u8, pl: usize, b: *const u8, bl: usize) -> usize;
     fn pn_good_path(p: *const u8, pl: usize) -> u32;
+    fn pn_next_slash(p: *const u8, pl: usize, from: usize) -> Place;
     fn pn_path_len(p: *const u8, pl: usize, n: *const u8, nl: usize, u: *const u8, ul: usize) -> usize;
     fn pn_build_path(p: *const u8, pl: usize, n: *const u8, nl: usize, u: *const u8, ul: usize,
         o: *mut u8, ol: usize, at: usize) -> Written;
@@ -71,6 +78,17 @@ impl Written {
     }
 }
 
+impl Place {
+    /// What is neither 1 and a place nor 0 and 0 reads as a place that no path has.
+    fn read(self) -> Option<usize> {
+        match (self.found, self.place) {
+            (0, 0) => None,
+            (1, place) => Some(place),
+            _ => Some(usize::MAX),
+        }
+    }
+}
+
 /// SAFETY of the calls: each slice is passed with its own length, and `out` is a buffer apart.
 pub fn leaves() -> Leaves {
     Leaves {
@@ -95,6 +113,7 @@ pub fn leaves() -> Leaves {
             ]
         }),
         is_path: Some(|path| unsafe { pn_good_path(path.as_ptr(), path.len()) == 1 }),
+        next_slash: Some(|path, from| unsafe { pn_next_slash(path.as_ptr(), path.len(), from).read() }),
         int: Some(|kind, text| unsafe {
             let unsigned = |bits| pn_parse_int(text.as_ptr(), text.len(), bits).read().map(i128::from);
             match kind {

@@ -1,63 +1,39 @@
--- A search: what is left of the text decides.
-use Prim.Native.Nat.{ℕ, _-_, _≤_}
-use mathlib.Core.Path.{_≡_, refl}
-use native.Mathlib.Omega.{arith}
-use borrow.Author.Tests.{eq-eqb, ne-eqb}
-use lib.Dec.{eqb}
-use lib.ListN.{length, drop}
+-- A text holds a "/" where what stands before the first one is shorter than the whole.
+use Prim.Native.Nat.{ℕ}
+use mathlib.Core.Path.{_≡_, refl, sym, ap, _∙_}
+use mathlib.Core.Bool.{true, cond}
+use mathlib.Core.List.{List, [], _∷_}
+use borrow.Author.Needs.{needs}
+use borrow.Author.Tests.{ltb-true, ltb-false}
+use lib.Dec.{eqb, ltb}
+use lib.ListN.{length}
 use Rattle.paths_numbers.specs.meaning.Byte.{slash}
 use Rattle.paths_numbers.specs.meaning.Lists.{any}
-use Rattle.input.proofs.RowsLoops.{any-here, any-later, any-none}
-use borrow.Author.Needs.{needs}
+use Rattle.paths_numbers.specs.meaning.Reference.{beforeSlash, hasSlash}
+use Rattle.paths_numbers.proofs.Slashes.{slash-found, slash-missing}
+use Rattle.paths_numbers.proofs.Texts.{by-test}
+use Rattle.input.specs.meaning.Rows.{holdsSlash}
 use Rattle.input.proofs.refusal.holds_slash.Statement.{statement}
 use Rattle.input.proofs.refusal.holds_slash.Tie as tie
 
-abbrev Inv-loop : tie.InvT-loop
-Inv-loop text i₀ i = (i ≤ length text) × (any (λ (c : ℕ). eqb c slash) text ≡ any (λ (c : ℕ). eqb c slash) (drop i text))
+same-test : (s : List ℕ) → hasSlash s ≡ holdsSlash s
+unfolding hasSlash any
+same-test [] = refl
+same-test (b ∷ s) = ap (cond (eqb b slash) true) (same-test s)
 
-abbrev μ-loop : tie.MeasureT-loop
-μ-loop text i₀ i = length text - i
+held : (s : List ℕ) → ltb (length (beforeSlash s)) (length s) ≡ holdsSlash s
+held s =
+    by-test (ltb (length (beforeSlash s)) (length s))
+    (λ e. e ∙ sym (slash-found s (ltb-true _ _ e)) ∙ same-test s)
+    (λ e. e ∙ sym (slash-missing s (ltb-false _ _ e)) ∙ same-test s)
 
-loop-holds : tie.Need-loop-holds Inv-loop μ-loop
-loop-holds c = (search needs, refl)
+first-slash-requires : tie.Need-first-slash-requires
+first-slash-requires c κs = search needs
 
-shared-slice-read-if1 : tie.Need-shared-slice-read-if1 Inv-loop μ-loop
-shared-slice-read-if1 c = search needs
-
-returns : tie.Need-returns Inv-loop μ-loop
+returns : tie.Need-returns
 returns c =
-    let a = c .before .before .before .before .args in
-    let l = c .before .before .before .loop in
-    any-here _ (a .text .now) (l .i) _ (l .inv .1) (omega arith) (eq-eqb _ _ (c .if1 .taken))
-
-add-i : tie.Need-add-i Inv-loop μ-loop
-add-i c = search needs
-
-loop-less : tie.Need-loop-less Inv-loop μ-loop
-loop-less c = search needs
-
-loop-again : tie.Need-loop-again Inv-loop μ-loop
-loop-again c =
-    let a = c .before .before .before .before .args in
-    let l = c .before .before .before .loop in
-    (omega arith, any-later _ (a .text .now) (l .i) _ (l .inv .1) (omega arith) (ne-eqb _ _ (c .if1 .left)))
-
-returns-2 : tie.Need-returns-2 Inv-loop μ-loop
-returns-2 c =
-    let a = c .before .before .args in
-    let l = c .before .loop in
-    any-none _ (a .text .now) (l .i) _ (l .inv .1) (c .loop-test .left)
+    let s = c .before .before .args .text .now in
+    ap (λ (k : ℕ). ltb k (length s)) (c .first-slash .ensures) ∙ held s
 
 pub holds-slash-spec : {M : Type 1} → statement M
-holds-slash-spec =
-    tie.close
-    (tie.spec
-    Inv-loop
-    μ-loop
-    loop-holds
-    shared-slice-read-if1
-    returns
-    add-i
-    loop-less
-    loop-again
-    returns-2)
+holds-slash-spec = tie.close (tie.spec first-slash-requires returns)

@@ -1,0 +1,3 @@
+pub mod meaning
+pub mod machine
+pub mod examples

@@ -1,0 +1,2 @@
+-- Steps of the code that its inner contracts cite.
+pub mod Word
