@@ -23,12 +23,27 @@ static void integer(const char *what, struct PnInteger n)
     printf("%s: code %" PRIu32 ", value %" PRId64 "\n", what, n.code, n.value);
 }
 
+/* The places of all slashes of a path. */
+static void slashes(const char *path)
+{
+    struct PnPlace next = pn_next_slash(TEXT(path), 0);
+
+    printf("slashes of %s:", path);
+    while (next.found) {
+        printf(" %zu", next.place);
+        next = pn_next_slash(TEXT(path), next.place + 1);
+    }
+    printf("\n");
+}
+
 int main(void)
 {
     uint8_t out[8];
 
     printf("/ab under /a: %" PRIu32 "\n", pn_lies_under(TEXT("/ab"), TEXT("/a")));
     printf("/a/b without /a: %zu bytes\n", pn_strip_base(TEXT("/a/b"), TEXT("/a")));
+    slashes("/dock-rack@0/bay@2/drawer");
+    slashes("drawer");
     struct PnWritten path = pn_build_path(TEXT("/a"), TEXT("b"), TEXT("1"), out, sizeof out, 1);
     printf("/a and b@1: number %" PRIu32 ", %.*s\n", path.number, (int)path.len, (const char *)out + 1);
     path = pn_build_path(TEXT("/a"), TEXT("b"), TEXT("1"), out, sizeof out, 3);

@@ -1,4 +1,4 @@
-/* Paths, numbers, operators, cells, bytestrings and references, proved in Rattle; docs/01-scope.md and request 2 of
+/* Paths, numbers, operators, cells, bytestrings and references, proved in Rattle; docs/01-scope.md and requests 2 and 8 of
  * docs/02-change-requests.md say what each gives, and "01" and "02" below are these pages.
  *
  * A slice is a pointer and a length in bytes. What a caller keeps:
@@ -39,6 +39,12 @@ struct PnWritten {
     size_t len;
 };
 
+/* Found 1 with the place; or found 0 with place 0. */
+struct PnPlace {
+    uint32_t found;
+    size_t place;
+};
+
 /* What a raw reference names: kind 1 a label, 2 a label and a path, 3 a path, 0 it cannot be read. The parts stand in the raw text: the
  * label from 2 on; the path from 2 on where the kind is 3, from 3 + label_len on where it is 2. A part that the kind does not name has
  * length 0. */
@@ -59,6 +65,11 @@ size_t pn_strip_base(const uint8_t *path, size_t path_len, const uint8_t *base, 
 
 /* Whether a path is empty, "/", or "/" before each of its nonempty components. */
 uint32_t pn_good_path(const uint8_t *path, size_t path_len);
+
+/* The first "/" of `path` at or behind index `from`, its place counted from the start of `path` (02, request 8). There is none from the
+ * end on: in "a/b/c", 1 gives 1, 2 gives 3, and 4, 5 and SIZE_MAX give none. It looks at eight bytes at a time, and at none outside `path`;
+ * add 1 to the place to go on to the next. */
+struct PnPlace pn_next_slash(const uint8_t *path, size_t path_len, size_t from);
 
 /* The path of a parent and a name, whose unit address is empty where there is none: its length, SIZE_MAX where it is longer. */
 size_t pn_path_len(const uint8_t *parent, size_t parent_len, const uint8_t *name, size_t name_len, const uint8_t *unit, size_t unit_len);

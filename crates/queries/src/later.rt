@@ -127,7 +127,8 @@ fn takes_at(words: &[u32], bytes: &[u8], r: u32, deleted: bool, path: &[u8]) -> 
     overwrites_at(words, bytes, r, path)
 }
 
-// Whether a later definition deletes the node at a path or one above it, and the path's hash.
+// Whether a later definition deletes the node at a path or one above it, and the path's hash. Each byte goes
+// into the hash, so that the loop goes byte by byte.
 pub struct Above {
     pub deleted: bool,
     pub hash: u32,

@@ -21,6 +21,7 @@ use crate::{
     small,
     tree::Rec,
     trees::{Judged, judged, judged_case},
+    worked,
 };
 
 mod theorems;
@@ -51,6 +52,9 @@ const LIMITS: [&str; 4] = ["2048 records", FULL_TEXT, "64 links", "path of 40 co
 
 /// The repository's crates, each with those that it uses.
 const LISTED: &str = include_str!("../../../../crates.txt");
+
+/// The worked cases, a line each.
+const WORKED: &str = include_str!("../../../../crates/worked/stdin");
 
 /// The crates whose definitions are computed through: lowering and all that it uses.
 fn used() -> impl Iterator<Item = &'static str> {
@@ -97,7 +101,7 @@ pub fn write(folder: &str, crates: &str, count: usize, from: u64) -> Result<Stri
     Ok(format!("{theorems} theorems on {} descriptions", samples.len()))
 }
 
-/// The files: of the samples, of the levels, and of the lists of files' starts.
+/// The files: of the samples, of the levels, of the lists of files' starts, and of the next slash.
 fn files(samples: &[Sample]) -> Result<Vec<File>, String> {
     let of_part = |(number, part): (usize, &[Sample])| {
         let mut file = File::new();
@@ -109,7 +113,7 @@ fn files(samples: &[Sample]) -> Result<Vec<File>, String> {
     let mut levels = File::new();
     levels.levels(&LEVELS);
     let parts = samples.chunks(IN_A_FILE).enumerate().map(of_part);
-    Ok(parts.chain([levels, lists(samples)?]).collect())
+    Ok(parts.chain([levels, lists(samples)?, slashes()]).collect())
 }
 
 /// The lists of cases/files.txt with the starts of all spans, and some of the samples' with one in each file.
@@ -129,6 +133,17 @@ fn lists(samples: &[Sample]) -> Result<File, String> {
         file.starts(known.len() + number, starts, &places);
     }
     Ok(file)
+}
+
+/// The worked cases of the next slash.
+fn slashes() -> File {
+    let mut file = File::new();
+    let cases = WORKED.lines().filter_map(|line| line.strip_prefix("slash\t"));
+    for (number, (text, from)) in cases.filter_map(|case| case.split_once('\t')).enumerate() {
+        let from = from.parse().expect("a place");
+        file.next_slash(number, &worked::unescaped(text.as_bytes()), from);
+    }
+    file
 }
 
 /// Where the spans and name spans of a log start, from the lowest on.

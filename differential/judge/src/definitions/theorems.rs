@@ -7,7 +7,7 @@ use crate::{
     answer::{Answer, Binding, Cell, Definition, Diagnosis, Extension, Query, Target, Value},
     by_01::lower::Lowered,
     by_02::files,
-    notation,
+    leaves, notation,
     records::{Records, SIGNED, UNSIGNED},
     tree::Span,
 };
@@ -17,7 +17,9 @@ const HEAD: &str = "-- Descriptions with the Rust's answers, in the judge's nota
 use Prim.Native.Nat.{ℕ}
 use mathlib.Core.Bool.{true, false}
 use mathlib.Core.Path.{_≡_, refl}
+use mathlib.Core.Option.{some, none}
 use mathlib.Core.List.{List, [], _∷_}
+use Rattle.slashes.specs.meaning.Slash.{nextSlash}
 use Rattle.paths_numbers.specs.meaning.Reference.{label, labelPath, path}
 use Rattle.log.specs.meaning.Contents.{Def, number, reference, string, cellList, bytestring, phandle}
 use Rattle.log.specs.meaning.Contents.{node, property, deletedNode, deletedProperty, version, plugin}
@@ -60,6 +62,14 @@ impl File {
             let file = files::file_of(starts, *place).to_string();
             self.theorem(&format!("file-{at}-{place}"), &format!("fileOf {list} {place}"), &file);
         }
+    }
+
+    /// Where the first "/" of a text stands at or behind a place.
+    pub fn next_slash(&mut self, number: usize, text: &[u8], from: usize) {
+        let found = leaves::next_slash(text, from);
+        let due = found.map_or("none".to_owned(), |place| format!("some {place}"));
+        let left = format!("nextSlash {} {from}", inner(listed(text, u8::to_string)));
+        self.theorem(&format!("slash-{number:03}"), &left, &due);
     }
 
     fn theorem(&mut self, name: &str, left: &str, right: &str) {
