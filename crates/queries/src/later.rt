@@ -127,13 +127,13 @@ fn takes_at(words: &[u32], bytes: &[u8], r: u32, deleted: bool, path: &[u8]) -> 
     overwrites_at(words, bytes, r, path)
 }
 
-// Whether a later definition deletes the node at a path or one above it, and the path's hash. Each byte goes
-// into the hash, so that the loop goes byte by byte.
+// Whether a later definition deletes the node at a path or one above it, and the path's hash.
 pub struct Above {
     pub deleted: bool,
     pub hash: u32,
 }
 
+// The same of a path. Each byte goes into the hash, so that the loop goes byte by byte.
 pub fn look_above(
     words: &[u32],
     bytes: &[u8],

@@ -6,14 +6,15 @@ use mathlib.Core.List.{List, [], _∷_}
 use Rattle.slashes.specs.meaning.Slash.{slash, firstFrom, nextSlash}
 use Rattle.slashes.specs.machine.Word.{word, markOf}
 
--- "a/b/c" has a "/" at 1 and at 3; a place at or behind the end gives none, the largest too
+-- "a/b/c" has a "/" at 1 and at 3; a place at or behind the end gives none, also the largest of 64 bits
 abbrev threeComponents : List ℕ
 threeComponents = 97 ∷ slash ∷ 98 ∷ slash ∷ 99 ∷ []
 
 pub places : (nextSlash threeComponents 0 ≡ some 1) × (nextSlash threeComponents 1 ≡ some 1) × (nextSlash threeComponents 2 ≡ some 3)
     × (nextSlash threeComponents 4 ≡ none) × (nextSlash threeComponents 5 ≡ none) × (nextSlash threeComponents 9 ≡ none)
+    × (nextSlash threeComponents 0xffff_ffff_ffff_ffff ≡ none)
 unfolding nextSlash firstFrom
-places = (refl, refl, refl, refl, refl, refl)
+places = (refl, refl, refl, refl, refl, refl, refl)
 
 -- the bytes next to "/" and with its low bits, 0 and 255 are none
 abbrev neighbours : List ℕ
