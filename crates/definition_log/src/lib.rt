@@ -1,4 +1,6 @@
 // The definition log: its records read, and tested by row 8.
+#![tactic(auto)]
+
 pub mod answer;
 pub mod kinds;
 pub mod layout;

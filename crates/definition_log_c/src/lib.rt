@@ -1,5 +1,7 @@
 // The definition log for C, on numbers and slices; include/definition_log.h declares these functions.
 // Each calls one function of a crate below and hands its answer over.
+#![tactic(auto)]
+
 ghost use Rattle.std.specs.Prelude.{◌≡◌, length};
 ghost use Rattle.definition_log.specs.meaning.Alike.{Words32};
 ghost use Rattle.queries.specs.meaning.Query.{query_answer, query_out, live_answers, history_answers, contains_answer};

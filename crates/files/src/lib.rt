@@ -1,2 +1,4 @@
 // Which file a span came from.
+#![tactic(auto)]
+
 pub mod files;

@@ -1,5 +1,7 @@
 // The description: its records tested by rows 1 to 6, and names, references, expressions and values
 // read from them.
+#![tactic(auto)]
+
 pub mod expr_eval;
 pub mod kinds;
 pub mod layout;

@@ -1,4 +1,6 @@
 // Reads a description from standard input, lowers it and prints the listing of its log.
+#![tactic(auto)]
+
 ghost use Rattle.std.specs.Prelude.{ℕ, ◌*◌, ◌≤◌, ◌≡◌, List, length, take};
 ghost use Rattle.io.specs.Counts.{IsPrefixLen};
 ghost use Rattle.listing.specs.machine.Page.{page_at, filled};

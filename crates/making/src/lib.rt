@@ -1,4 +1,6 @@
 // The log in the making: LowerCtx and the operations that make and unmake records.
+#![tactic(auto)]
+
 mod add;
 mod body;
 pub mod ctx;

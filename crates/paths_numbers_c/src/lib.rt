@@ -1,5 +1,7 @@
 // The functions of paths_numbers for C, on numbers and slices; include/paths_numbers.h declares
 // them.
+#![tactic(auto)]
+
 ghost use Rattle.std.specs.Prelude.{◌≡◌, length};
 ghost use Rattle.paths_numbers.specs.meaning.Bytestring.{count_of, count_told, written_told, bytes_answer, bytes_out};
 ghost use Rattle.paths_numbers.specs.meaning.Cell.{size_of, size_told, cell_told};

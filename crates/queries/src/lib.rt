@@ -1,4 +1,6 @@
 // Queries of a definition log: what is live, and what a path's history is.
+#![tactic(auto)]
+
 pub mod definition;
 pub mod history;
 mod later;

@@ -1,6 +1,8 @@
 // Replays the recorded sample (README.md): lowers each case into buffers of several sizes, reads the
 // log back, asks the queries, and compares all of it with what the Rust answered. It prints a line
 // for each difference, and how many there were.
+#![tactic(auto)]
+
 mod chains;
 mod log_read;
 mod queried;

@@ -1,2 +1,4 @@
 // Where references lead.
+#![tactic(auto)]
+
 pub mod resolve;

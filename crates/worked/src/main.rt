@@ -1,5 +1,7 @@
 // Prints the worked cases of standard input, a case to a line, each with what the crates
 // paths_numbers, slashes and boxes answer behind it. Fields are parted by tabs; \xHH stands for any byte.
+#![tactic(auto)]
+
 mod answer;
 mod field;
 
