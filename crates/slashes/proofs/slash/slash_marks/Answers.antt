@@ -1,0 +1,10 @@
+-- The marks are those of each byte by itself.
+use lib.Dec.{lit<}
+use Rattle.slashes.proofs.Marks.{marks_word, sum_fits}
+use Rattle.slashes.proofs.slash.slash_marks.Goals as goal
+
+-- LOST add-result c = record { fits = search (sum_fits, lit<, tt) }
+-- LOST
+
+pub returns : goal.returns
+returns c = marks_word c.args.w
