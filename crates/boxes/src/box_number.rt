@@ -10,14 +10,14 @@ use definition_log::answer::{Answer, REFUSED_DIGIT, REFUSED_LENGTH, REFUSED_NUMB
 const MOST_BYTES: usize = 8;
 
 // A number that was read with success, or why none was, with value 0.
-#[derive(Drop)]
+#[derive(Clone, Copy)]
 pub struct BoxRead {
     pub number: u32,
     pub value: u64,
 }
 
 // What bytes stand for, or that a digit is above 9.
-#[derive(Drop)]
+#[derive(Clone, Copy)]
 pub enum Parsed {
     Value(u64),
     Digit,

@@ -1,7 +1,7 @@
 // What a call answers, by 01's table: a number, and what is returned with it.
 
 // 01's number and what is returned with it.
-#[derive(Drop)]
+#[derive(Clone, Copy)]
 pub struct Answer {
     pub number: u32,
     pub returned: u32,

@@ -7,14 +7,14 @@ use crate::layout;
 use crate::record::out_field;
 
 // A span: where it starts and where it ends.
-#[derive(Drop)]
+#[derive(Clone, Copy)]
 pub struct Span {
     pub from: u32,
     pub to: u32,
 }
 
 // What a reference names: a label, a path below a label, or a path.
-#[derive(Drop)]
+#[derive(Clone, Copy)]
 pub enum TargetKind {
     Label,
     LabelPath,

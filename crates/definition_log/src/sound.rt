@@ -50,7 +50,7 @@ const MET: u8 = 1;
 const WRONG: u8 = 2;
 
 // The output rules kept, or the lowest record that breaks one.
-#[derive(Drop)]
+#[derive(Clone, Copy)]
 pub enum Soundness {
     Sound,
     Broken(u32),

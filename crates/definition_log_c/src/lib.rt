@@ -15,7 +15,7 @@ use queries::query::{contains_node, history, iter_live_defs_under};
 
 // 01's number and what is returned with it.
 #[repr(C)]
-#[derive(Drop)]
+#[derive(Clone, Copy)]
 pub struct DlAnswer {
     pub number: u32,
     pub returned: u32,
@@ -23,7 +23,7 @@ pub struct DlAnswer {
 
 // A box number with number 0, or why there is none, with value 0.
 #[repr(C)]
-#[derive(Drop)]
+#[derive(Clone, Copy)]
 pub struct DlBox {
     pub number: u32,
     pub value: u64,

@@ -18,7 +18,7 @@ use paths_numbers::expr_eval::{ParsedI64, int_code};
 use paths_numbers::operators::{AND, CONDITIONAL, Evaluated, OR, eval_code, is_true};
 
 // A value, or why there is none.
-#[derive(Drop)]
+#[derive(Clone, Copy)]
 pub enum Evaluation {
     Value(i64),
     // a missing operand or operator, which has no code

@@ -15,7 +15,7 @@ use crate::record::{child_at, field, first_of, no_text, span_at, text_at};
 use definition_log::parts::Span;
 
 // The record of a name, or of the macro that stands in its place.
-#[derive(Drop)]
+#[derive(Clone, Copy)]
 pub enum NameOrMacro {
     Name(u32),
     Macro(u32),
@@ -23,7 +23,7 @@ pub enum NameOrMacro {
 }
 
 // A name, and the name of its unit address, which is nothing where there is no unit address.
-#[derive(Drop)]
+#[derive(Clone, Copy)]
 pub struct FullName {
     pub name: NameOrMacro,
     pub addressed: bool,

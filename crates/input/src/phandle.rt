@@ -14,7 +14,7 @@ use paths_numbers::phandle::{MirPhandleTarget, phandle_label, phandle_path};
 
 // What a reference names, by the names of the Rust's MirPhandleTarget; or the macro that is not
 // defined, or that it cannot be read.
-#[derive(Drop)]
+#[derive(Clone, Copy)]
 pub enum PhandleRead {
     Macro(u32),
     Label,

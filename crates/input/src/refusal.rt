@@ -25,14 +25,14 @@ use paths_numbers::phandle::first_slash;
 const PLACES: u32 = 16;
 
 // Accepted, or refused by one of 01's causes with the record that it returns.
-#[derive(Drop)]
+#[derive(Clone, Copy)]
 pub enum Checked {
     Accepted,
     Refused(u32, u32),
 }
 
 // What a search for a record found.
-#[derive(Drop)]
+#[derive(Clone, Copy)]
 enum Found {
     Nothing,
     Record(u32),

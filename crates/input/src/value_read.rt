@@ -34,7 +34,7 @@ use paths_numbers::expr_eval::{ParsedInt, int_code, parse_int_tok};
 const REFERENCE_BITS: u32 = 32;
 
 // What a cell's record gives: a number, a reference of a kind, or nothing but a report.
-#[derive(Drop)]
+#[derive(Clone, Copy)]
 pub enum CellRead {
     Number(u64),
     Phandle(TargetKind),
@@ -42,7 +42,7 @@ pub enum CellRead {
 }
 
 // A value without cells, by its kind.
-#[derive(Drop)]
+#[derive(Clone, Copy)]
 pub enum PlainValue {
     String,
     Bytestring,
@@ -50,7 +50,7 @@ pub enum PlainValue {
 }
 
 // What a value's record gives: such a value, a cell list of a width, or nothing but a report.
-#[derive(Drop)]
+#[derive(Clone, Copy)]
 pub enum ValueRead {
     Plain(PlainValue),
     CellList(BitsSize),
@@ -58,7 +58,7 @@ pub enum ValueRead {
 }
 
 // What a reference's record gives: a reference of a kind, or nothing but a report.
-#[derive(Drop)]
+#[derive(Clone, Copy)]
 pub enum TargetRead {
     Target(TargetKind),
     Failed(Report),

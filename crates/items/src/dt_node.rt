@@ -37,7 +37,7 @@ use resolving::resolve::{Resolved, report_unresolved, resolve_phandle};
 // Where a node goes before its body is lowered: to the place of its path; to a log of its own for the
 // reference of a record, of this kind, and whether that log is kept; to a log that is dropped; or
 // nowhere, and then nothing below is lowered.
-#[derive(Drop)]
+#[derive(Clone, Copy)]
 pub enum NodePlace {
     At(PathAt),
     Aside(u32, TargetKind, bool),
@@ -45,7 +45,7 @@ pub enum NodePlace {
     Nowhere,
 }
 
-#[derive(Drop)]
+#[derive(Clone, Copy)]
 pub struct PlacedNode {
     pub node: NodePlace,
     pub ctx: LowerCtx,

@@ -26,7 +26,7 @@ use making::recs::DefKind;
 use resolving::resolve::Resolved;
 
 // A node whose definition is made: where its path stands.
-#[derive(Drop)]
+#[derive(Clone, Copy)]
 pub struct Opened {
     pub place: PathAt,
     pub ctx: LowerCtx,

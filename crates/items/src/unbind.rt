@@ -19,7 +19,7 @@ use resolving::resolve::first_with;
 
 // The path of a deletion: of a name below a place, that of a place, the name itself, a binding's path, or of
 // the name below that.
-#[derive(Drop)]
+#[derive(Clone, Copy)]
 pub enum Base {
     Named(PathAt),
     There(PathAt),
@@ -29,14 +29,14 @@ pub enum Base {
 }
 
 // After one binding: the state, and the last binding that is left before the next.
-#[derive(Drop)]
+#[derive(Clone, Copy)]
 pub struct Unlinked {
     pub ctx: LowerCtx,
     pub previous: u32,
 }
 
 // After several: the next one too, and how many records may be left from there on.
-#[derive(Drop)]
+#[derive(Clone, Copy)]
 pub struct Unbound {
     pub ctx: LowerCtx,
     pub previous: u32,

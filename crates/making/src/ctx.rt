@@ -16,7 +16,7 @@ use definition_log::record::log_count;
 use paths_numbers::dt_property::{ByteCount, bytestring_len, lower_bytestring};
 
 // The first and the last record of a chain, 0 where there is none.
-#[derive(Drop)]
+#[derive(Clone, Copy)]
 pub struct Chain {
     pub first: u32,
     pub last: u32,
@@ -25,7 +25,7 @@ pub struct Chain {
 // The log in hand: how many records and bytes are made, its chains, and whether the buffers ran
 // short. Bindings and diagnostics are in one chain each for all logs. `part` is the last label or
 // value of the newest definition and `cell` the last cell of that value, 0 where there is none.
-#[derive(Drop)]
+#[derive(Clone, Copy)]
 pub struct LowerCtx {
     pub records: u32,
     pub bytes: u32,
@@ -39,7 +39,7 @@ pub struct LowerCtx {
 }
 
 // What a record says beside its texts and its links.
-#[derive(Drop)]
+#[derive(Clone, Copy)]
 pub struct Rec {
     pub kind: u32,
     pub n: u32,

@@ -8,7 +8,7 @@ use definition_log::record::{out_field, text_in};
 use paths_numbers::dt_node::{path_byte, path_len};
 
 // A path: these bytes, or "/".
-#[derive(Drop)]
+#[derive(Clone, Copy)]
 pub struct PathAt {
     pub root: bool,
     pub start: u32,

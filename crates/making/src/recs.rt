@@ -7,7 +7,7 @@ use definition_log::kinds::{DELETED_NODE, DELETED_PROPERTY, NODE, PLUGIN, PROPER
 use definition_log::parts::{Span, TargetKind};
 
 // What a definition is; a node with an omit mark is a kind of its own.
-#[derive(Drop)]
+#[derive(Clone, Copy)]
 pub enum DefKind {
     Node,
     OmittedNode,

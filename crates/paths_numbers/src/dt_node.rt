@@ -9,7 +9,7 @@ ghost use Rattle.paths_numbers.specs.meaning.Text.{same, begins, written};
 use crate::mir::is_root;
 
 // What became of a path that was to be written.
-#[derive(Drop)]
+#[derive(Clone, Copy)]
 pub enum Built {
     Bytes(usize),
     NoRoom,

@@ -13,7 +13,7 @@ use crate::expr_eval::{IntErrorKind, ParsedInt, digit, int_code, parse_int_tok};
 const CLOSING_BRACKET: u8 = b']';
 
 // The widths of cells.
-#[derive(Drop)]
+#[derive(Clone, Copy)]
 pub enum BitsSize {
     Bits8,
     Bits16,
@@ -22,7 +22,7 @@ pub enum BitsSize {
 }
 
 // A cell list's width, or why it has none.
-#[derive(Drop)]
+#[derive(Clone, Copy)]
 pub enum SizeRead {
     Size(BitsSize),
     Unsupported,
@@ -30,7 +30,7 @@ pub enum SizeRead {
 }
 
 // A cell's number, or why it has none.
-#[derive(Drop)]
+#[derive(Clone, Copy)]
 pub enum Cell {
     Number(u64),
     CharTooLarge,
@@ -136,14 +136,14 @@ pub fn cell_code(cell: Cell) -> u32
 }
 
 // How many bytes a bytestring has, or that a hex digit is missing.
-#[derive(Drop)]
+#[derive(Clone, Copy)]
 pub enum ByteCount {
     Bytes(usize),
     MissingDigit,
 }
 
 // What became of a bytestring that was to be written.
-#[derive(Drop)]
+#[derive(Clone, Copy)]
 pub enum BytesWritten {
     Bytes(usize),
     MissingDigit,

@@ -25,7 +25,7 @@ const OCTAL: u64 = 8;
 const NO_DIGIT: u64 = 36;
 
 // How the reading of an integer fails, by the names of the Rust's std::num::IntErrorKind.
-#[derive(Drop)]
+#[derive(Clone, Copy)]
 pub enum IntErrorKind {
     Empty,
     InvalidDigit,
@@ -34,14 +34,14 @@ pub enum IntErrorKind {
 }
 
 // An unsigned number, or how its reading failed.
-#[derive(Drop)]
+#[derive(Clone, Copy)]
 pub enum ParsedInt {
     Value(u64),
     Failed(IntErrorKind),
 }
 
 // A signed number, or how its reading failed.
-#[derive(Drop)]
+#[derive(Clone, Copy)]
 pub enum ParsedI64 {
     Value(i64),
     Failed(IntErrorKind),

@@ -9,7 +9,7 @@ use crate::codes;
 use crate::expr_eval::{MOST_DOWN, MOST_UP};
 
 // An operator's result, or why there is none.
-#[derive(Drop)]
+#[derive(Clone, Copy)]
 pub enum Evaluated {
     Value(i64),
     // outside 64 bits

@@ -6,7 +6,7 @@ ghost use Rattle.paths_numbers.specs.meaning.Reference.{target_number};
 use slashes::slash::{Found, next_slash};
 
 // What a raw reference names, by the names of the Rust's MirPhandleTarget; or that it cannot be read.
-#[derive(Drop)]
+#[derive(Clone, Copy)]
 pub enum MirPhandleTarget {
     Label,
     LabelPath,

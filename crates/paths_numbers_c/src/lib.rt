@@ -34,7 +34,7 @@ const MISSING: u32 = 1;
 
 // A number with code 0, or a code with value 0.
 #[repr(C)]
-#[derive(Drop)]
+#[derive(Clone, Copy)]
 pub struct PnNumber {
     pub code: u32,
     pub value: u64,
@@ -42,7 +42,7 @@ pub struct PnNumber {
 
 // The same of a signed number.
 #[repr(C)]
-#[derive(Drop)]
+#[derive(Clone, Copy)]
 pub struct PnInteger {
     pub code: u32,
     pub value: i64,
@@ -50,7 +50,7 @@ pub struct PnInteger {
 
 // Number 0 and how many bytes, or why there are none.
 #[repr(C)]
-#[derive(Drop)]
+#[derive(Clone, Copy)]
 pub struct PnWritten {
     pub number: u32,
     pub len: usize,
@@ -58,7 +58,7 @@ pub struct PnWritten {
 
 // Whether something was found, and its place, 0 where it was not.
 #[repr(C)]
-#[derive(Drop)]
+#[derive(Clone, Copy)]
 pub struct PnPlace {
     pub found: u32,
     pub place: usize,
@@ -67,7 +67,7 @@ pub struct PnPlace {
 // A reference: 1 label, 2 label and path, 3 path, 0 unreadable. Its parts stand in the raw text: the
 // label from 2 on; the path from 2 on where the kind is 3, from 3 + label_len on where it is 2.
 #[repr(C)]
-#[derive(Drop)]
+#[derive(Clone, Copy)]
 pub struct PnReference {
     pub kind: u32,
     pub label_len: usize,

@@ -23,7 +23,7 @@ use queries::definition::goes_on;
 
 // Directive order: whether all definitions so far are headers, whether a plugin directive may follow,
 // and whether a version directive or the report of its lack came before.
-#[derive(Drop)]
+#[derive(Clone, Copy)]
 pub struct Headers {
     pub only: bool,
     pub allowed: bool,

@@ -81,7 +81,7 @@ fn history_of(words: &[u32], bytes: &[u8], first: u32, path: &[u8], found: &mut 
 }
 
 // What becomes of a path's history at a definition.
-#[derive(Drop)]
+#[derive(Clone, Copy)]
 struct Passed {
     listed: bool,
     defined: bool,

@@ -123,7 +123,7 @@ fn takes_at(words: &[u32], bytes: &[u8], r: u32, deleted: bool, path: &[u8]) -> 
 }
 
 // Whether a later definition deletes the node at a path or one above it, and the path's hash.
-#[derive(Drop)]
+#[derive(Clone, Copy)]
 pub struct Above {
     pub deleted: bool,
     pub hash: u32,

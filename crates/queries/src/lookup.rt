@@ -18,7 +18,7 @@ use paths_numbers::text::equals;
 use short_paths::short::{has_components, may_mean};
 
 // What a look-up finds: a node at the path itself, no node, one by a definition of it, or several.
-#[derive(Drop)]
+#[derive(Clone, Copy)]
 pub enum Lookup {
     Exact,
     NoNode,

@@ -4,7 +4,7 @@ use paths_numbers::text::equals;
 
 // The place in the sample, the number of the case, from 1, and how many fields were compared and
 // were different.
-#[derive(Drop)]
+#[derive(Clone, Copy)]
 pub struct Tally {
     pub at: usize,
     pub case: u64,

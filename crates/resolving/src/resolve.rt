@@ -20,7 +20,7 @@ use queries::mir::sets_overlay_in;
 // Where a reference leads: to the path of a binding, to its own path below that, to its own path, or to the
 // path of a definition; or nowhere, for its label, or with a code for its own path or the path below a
 // binding's.
-#[derive(Drop)]
+#[derive(Clone, Copy)]
 pub enum Resolved {
     Bound(u32),
     BoundPath(u32),
@@ -32,7 +32,7 @@ pub enum Resolved {
 }
 
 // A record of a chain, and the one before it, 0 where there is none.
-#[derive(Drop)]
+#[derive(Clone, Copy)]
 pub struct Found {
     pub number: u32,
     pub previous: u32,

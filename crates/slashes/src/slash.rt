@@ -4,7 +4,7 @@ ghost use Rattle.slashes.specs.meaning.Slash.{next_slash, found_told};
 ghost use Rattle.slashes.specs.machine.Word.{Loaded, Marked};
 
 // Where a "/" stands, or that there is none.
-#[derive(Drop)]
+#[derive(Clone, Copy)]
 pub enum Found {
     At(usize),
     Nothing,
