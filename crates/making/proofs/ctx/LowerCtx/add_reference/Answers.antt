@@ -1,0 +1,9 @@
+-- A reference made (Typed).
+use Rattle.making.proofs.Typed.{makes_reference}
+use Rattle.making.proofs.ctx.LowerCtx.add_reference.Goals as goal
+
+pub returns : goal.returns
+returns c = let a = c.args in makes_reference c.add_cell.ensures a.kind _ _ _
+    c.part_rec-rec.ensures
+    c.target_number.ensures
+    c.label_of.ensures c.path_of.ensures

@@ -1,0 +1,10 @@
+-- A body kept as an extension (Typed).
+use Rattle.making.proofs.Typed.{keeps_body}
+use Rattle.making.proofs.ctx.LowerCtx.leave_kept.Goals as goal
+
+pub returns : goal.returns
+returns c =
+    let a = c.args in
+    keeps_body a.span a.name-span a.kind _ _
+    c.add_extension-with.ensures
+    c.add_target-made.ensures c.left_kept.ensures

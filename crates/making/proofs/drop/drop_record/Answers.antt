@@ -1,0 +1,26 @@
+-- By whether the record stays.
+use mathlib.Core.Path.{◌≡◌, refl, sym, ap, ◌∙◌}
+use mathlib.Core.Bool.{true, false}
+use Prim.Native.Nat.{ℕ}
+use Rattle.definition_log.specs.meaning.Record.{kind_of}
+use Rattle.making.specs.machine.Dropped.{stays_kind, dropped_words, dropped_bytes}
+use Rattle.making.proofs.drop.drop_record.Goals as goal
+
+pub returns-then-stays : goal.returns-then-stays
+unfolding dropped_words dropped_bytes
+returns-then-stays c =
+    let a = c.args in
+    let t : stays_kind (kind_of a.words.now a.r) ≡ true = ap (λ (k : ℕ). stays_kind k) (sym c.kind_of.ensures)
+    ∙ sym c.stays.ensures ∙ c.if-stays.true in
+    rw t (refl, refl)
+
+pub returns : goal.returns
+unfolding dropped_words dropped_bytes
+returns c =
+    let a = c.args
+    in
+    let t : stays_kind (kind_of a.words.now a.r) ≡ false = ap (λ (k : ℕ). stays_kind k)
+    (sym c.kind_of.ensures)
+    ∙ sym c.stays.ensures
+    ∙ c.if-stays.false in
+    rw t (c.clear_words.ensures, c.clear_texts.ensures)
