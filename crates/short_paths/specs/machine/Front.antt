@@ -1,5 +1,5 @@
 -- Steps of the match of two paths, component by component.
-use Rattle.std.specs.Prelude.{ℕ, Bool, false, cond, ◌≡◌, List, [], ◌∷◌, ◌++◌, leb, length, drop}
+use Rattle.std.specs.Prelude.{ℕ, false, cond, ◌≡◌, List, [], ◌∷◌, ◌++◌, leb, length, drop}
 use Rattle.paths_numbers.specs.meaning.Text.{same}
 use Rattle.paths_numbers.specs.meaning.Path.{root}
 use Rattle.short_paths.specs.meaning.Short.{split, all_match}

@@ -2,7 +2,6 @@
 use Rattle.std.proofs.Common.{eq-eqb, ne_eqb}
 use Rattle.levels.specs.machine.Held.{rules_at}
 use Rattle.paths_numbers.proofs.Integers.{read}
-use Rattle.paths_numbers.proofs.operators.eval_infix.Reads as eval-infix-reads
 use Rattle.levels.proofs.level.binary.Goals as goal
 
 pub returns-then-level-eq-UNSIGNED : goal.returns-then-level-eq-UNSIGNED

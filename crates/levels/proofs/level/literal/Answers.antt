@@ -1,7 +1,6 @@
 -- By the level.
 use Rattle.std.proofs.Common.{eq-eqb, ne_eqb}
 use Rattle.levels.specs.machine.Held.{rules_at}
-use Rattle.paths_numbers.proofs.expr_eval.parse_int_tok_i64.Reads as parse-int-tok-i64-reads
 use Rattle.levels.proofs.level.literal.Goals as goal
 
 pub returns-then-level-eq-UNSIGNED : goal.returns-then-level-eq-UNSIGNED

@@ -2,7 +2,6 @@
 use Rattle.std.proofs.Common.{eq-eqb, ne_eqb}
 use Rattle.levels.specs.machine.Held.{rules_at}
 use Rattle.paths_numbers.proofs.Integers.{read}
-use Rattle.paths_numbers.proofs.operators.eval_prefix.Reads as eval-prefix-reads
 use Rattle.levels.proofs.level.unary.Goals as goal
 
 pub returns-then-level-eq-UNSIGNED : goal.returns-then-level-eq-UNSIGNED

@@ -6,8 +6,6 @@ use Rattle.paths_numbers.proofs.Integers.{read}
 use Rattle.levels.specs.meaning.Unsigned.{truth_of, unsigned_prefix}
 use Rattle.levels.specs.machine.Held.{held}
 use Rattle.levels.proofs.Wrapping.{holds_bits, wrapped_opposite}
-use Rattle.paths_numbers.proofs.operators.is_true.Reads as is-true-reads
-use Rattle.std.proofs.num.wrapping_sub_u64.Reads as wrapping-sub-u64-reads
 use Rattle.levels.proofs.unsigned.eval_prefix_unsigned.Goals as goal
 
 pub returns-in-1 : goal.returns-in-1
@@ -23,7 +21,7 @@ returns-in-2 c =
     (c.of_bits.ensures
     ∙ ap (λ (n : ℕ). held (value n))
     (wrapped_opposite _ _ c.wrapping_sub_u64.type_inv (of_z_fits w64 _ k.ranges.a).fits
-    (rw x at c.wrapping_sub_u64.ensures)))
+    (rw x at c.wrapping_sub_u64.ensures.value)))
 
 pub returns-in-3 : goal.returns-in-3
 unfolding unsigned_prefix

@@ -4,15 +4,13 @@ use Rattle.paths_numbers.specs.meaning.Reading.{value}
 use Rattle.levels.specs.meaning.Unsigned.{unsigned_infix}
 use Rattle.levels.specs.machine.Held.{held}
 use Rattle.levels.proofs.Wrapping.{wrapped_difference}
-use Rattle.std.proofs.num.wrapping_add_u64.Reads as wrapping-add-u64-reads
-use Rattle.std.proofs.num.wrapping_sub_u64.Reads as wrapping-sub-u64-reads
 use Rattle.levels.proofs.unsigned.infix_unsigned.Goals as goal
 
 pub returns-in-1 : goal.returns-in-1
 unfolding unsigned_infix
 returns-in-1 c =
     rw c.in-1.is
-    (c.of_bits.ensures ∙ ap (λ (n : ℕ). held (value n)) c.wrapping_add_u64.ensures)
+    (c.of_bits.ensures ∙ ap (λ (n : ℕ). held (value n)) c.wrapping_add_u64.ensures.value)
 
 pub returns-in-2 : goal.returns-in-2
 unfolding unsigned_infix
@@ -21,7 +19,7 @@ returns-in-2 c =
     (c.of_bits-in-2.ensures
     ∙ ap (λ (n : ℕ). held (value n))
     (wrapped_difference _ _ _ c.wrapping_sub_u64.type_inv c.ranges.b.fits
-    c.wrapping_sub_u64.ensures))
+    c.wrapping_sub_u64.ensures.value))
 
 pub returns-in-3 : goal.returns-in-3
 unfolding unsigned_infix

@@ -14,4 +14,4 @@ overflow_add-result c =
 pub returns : goal.returns
 returns c =
     let a = c in
-    let e = end_read a.args.path.now a.args.from _ c.first_slash.ensures in record {value = ap (λ (n : _). a.args.from + n) e; upper_bound = omega (arith, e, end_within a.args.path.now a.args.from a.requires); }
+    let e = end_read a.args.path.now a.args.from _ c.first_slash.ensures in record { value = ap (λ (n : _). a.args.from + n) e; upper_bound = omega (arith, e, end_within a.args.path.now a.args.from a.requires) }

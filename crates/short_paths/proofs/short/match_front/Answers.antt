@@ -1,7 +1,7 @@
-use Prim.Native.Nat.{◌+◌, ◌-◌}
+use Prim.Native.Nat.{◌+◌}
 use mathlib.Core.Path.{◌∙◌}
 use native.Mathlib.Omega.{arith}
-use borrow.Author.Tests.{not-true, not-false, le-leb, lt-leb}
+use borrow.Author.Tests.{le-leb, lt-leb}
 use lib.ListN.{length, drop}
 use Rattle.short_paths.proofs.Components.{compared, step_none, path_ends, full_ends, both_go_on}
 use Rattle.short_paths.proofs.short.match_front.Goals as goal
@@ -13,9 +13,9 @@ returns-then-not-component_matches c =
     let e = c.component_end-end in
     let f = c.component_end-behind in
     let m =
-    compared a.path.now a.full.now l.i l.j e.result f.result _ e.ensures.0 f.ensures.0
+    compared a.path.now a.full.now l.i l.j e.result f.result _ e.ensures.value f.ensures.value
     c.component_matches.ensures
-    ∙ not-true _ c.if-not-component_matches.true-raw in
+    ∙ c.if-not-component_matches.true in
     λ cs. simp (lt-leb (length a.full.now + 1) (length a.full.now) (omega arith))
     (l.invariant.2 cs ∙ step_none (drop l.i a.path.now) (drop l.j a.full.now) cs m)
 
@@ -26,11 +26,11 @@ returns-then-end-path c =
     let e = c.component_end-end in
     let f = c.component_end-behind in
     let m =
-    compared a.path.now a.full.now l.i l.j e.result f.result _ e.ensures.0 f.ensures.0
+    compared a.path.now a.full.now l.i l.j e.result f.result _ e.ensures.value f.ensures.value
     c.component_matches.ensures
-    ∙ not-false _ c.if-not-component_matches.false-raw in
-    λ cs. simp (le-leb f.result (length a.full.now) f.ensures.1)
-    (l.invariant.2 cs ∙ path_ends a.path.now a.full.now l.i l.j e.result f.result e.ensures.0 f.ensures.0 m cs
+    ∙ c.if-not-component_matches.false in
+    λ cs. simp (le-leb f.result (length a.full.now) f.ensures.upper_bound)
+    (l.invariant.2 cs ∙ path_ends a.path.now a.full.now l.i l.j e.result f.result e.ensures.value f.ensures.value m cs
     (omega arith))
 
 pub returns-then-behind-full : goal.returns-then-behind-full
@@ -40,11 +40,11 @@ returns-then-behind-full c =
     let e = c.component_end-end in
     let f = c.component_end-behind in
     let m =
-    compared a.path.now a.full.now l.i l.j e.result f.result _ e.ensures.0 f.ensures.0
+    compared a.path.now a.full.now l.i l.j e.result f.result _ e.ensures.value f.ensures.value
     c.component_matches.ensures
-    ∙ not-false _ c.if-not-component_matches.false-raw in
+    ∙ c.if-not-component_matches.false in
     λ cs. simp (lt-leb (length a.full.now + 1) (length a.full.now) (omega arith))
-    (l.invariant.2 cs ∙ full_ends a.path.now a.full.now l.i l.j e.result f.result e.ensures.0 f.ensures.0 m cs
+    (l.invariant.2 cs ∙ full_ends a.path.now a.full.now l.i l.j e.result f.result e.ensures.value f.ensures.value m cs
     (omega arith) (omega arith))
 
 pub loop-i-preserved : goal.loop-i-preserved
@@ -54,13 +54,13 @@ loop-i-preserved c =
     let e = c.component_end-end in
     let f = c.component_end-behind in
     let m =
-    compared a.path.now a.full.now l.i l.j e.result f.result _ e.ensures.0 f.ensures.0
+    compared a.path.now a.full.now l.i l.j e.result f.result _ e.ensures.value f.ensures.value
     c.component_matches.ensures
-    ∙ not-false _ c.if-not-component_matches.false-raw in (
+    ∙ c.if-not-component_matches.false in (
       omega arith,
       omega arith,
       λ cs. l.invariant.2 cs ∙ both_go_on a.path.now a.full.now l.i l.j e.result f.result
-          e.ensures.0 f.ensures.0 m cs (omega arith) (omega arith),
+          e.ensures.value f.ensures.value m cs (omega arith) (omega arith),
     )
 
 pub returns : goal.returns

@@ -14,14 +14,14 @@ use Rattle.short_paths.proofs.short.may_mean.Goals as goal
 pub slice_bounds-match_front-end : goal.slice_bounds-match_front-end
 slice_bounds-match_front-end c =
     let g = c.front_len-n in
-    sym (length-take-le g.result c.args.parent.now g.ensures.1)
+    sym (length-take-le g.result c.args.parent.now g.ensures.upper_bound)
 
 pub returns-then-full-behind : goal.returns-then-full-behind
 returns-then-full-behind c =
     let a = c.args in
     let g = c.front_len-n in
     let m = c.match_front-behind in
-    sym (ap (λ (x : List ℕ). may_mean (x ++ slash ∷ a.name.now) a.full.now) (sym g.ensures.0)
+    sym (ap (λ (x : List ℕ). may_mean (x ++ slash ∷ a.name.now) a.full.now) (sym g.ensures.parent_value)
     ∙ not_meant (take g.result a.parent.now) a.name.now a.full.now m.result m.ensures (omega arith))
 
 pub returns : goal.returns
@@ -31,7 +31,7 @@ returns c =
     let m = c.match_front-behind in
     let k = m.result + 1 in
     let w = rest a.full.now k in
-    sym (ap (λ (x : List ℕ). may_mean (x ++ slash ∷ a.name.now) a.full.now) (sym g.ensures.0)
+    sym (ap (λ (x : List ℕ). may_mean (x ++ slash ∷ a.name.now) a.full.now) (sym g.ensures.parent_value)
     ∙ meant (take g.result a.parent.now) a.name.now a.full.now m.result m.ensures (omega arith)
     ∙ ap (λ (x : List ℕ). all_match (split a.name.now) (split x)) (sym w)
     ∙ matched_end a.name.now _ c.match_front.result c.match_front.ensures)
