@@ -12,7 +12,7 @@ use Rattle.paths_numbers.proofs.Texts.{by_test, both}
 use Rattle.definition_log.specs.meaning.Record.{kind_of, next_of, child_of, m_of, extension_kind, log_count, leads}
 use Rattle.definition_log.specs.meaning.Sound.{Place, times}
 use Rattle.making.specs.machine.Events.{Event, defs_of, exts_of, bindings, diagnostics, post_diagnostics, children_of, in_chain, first}
-use Rattle.making.specs.machine.Events.{bytes_in, all_words, Ordered, ordered_next}
+use Rattle.making.specs.machine.Events.{bytes_in, all_words, Ordered, ordered_none, ordered_next}
 use Rattle.making.specs.machine.Whole.{At, at_here, at_later, There, Logged, logged_hand, logged_body, Stands, in_defs, in_exts}
 use Rattle.making.specs.machine.Whole.{in_bindings, in_diagnostics, in_post, in_children, main_log, Whole}
 use Rattle.making.specs.machine.Finished.{head_in}
@@ -27,6 +27,7 @@ use Rattle.making.proofs.LogLinks.{sixteen, head_def_lem, head_ext_lem, head_bin
 owner_before : {k t o : ℕ} {es : List Event} {y : Event} → Ordered k es → At k es t y → y.chain ≡ children_of o → o < t
 owner_before {o = o} (ordered_next f h) at_here q = f o q
 owner_before (ordered_next f h) (at_later p) q = owner_before h p q
+owner_before ordered_none p q = elim p [ ]
 
 -- what a link of a record that is reached leads to
 next_led : (words : List ℕ) (a t : ℕ) → Reached words a → next_of words a ≡ t → leads words t ≡ true → Reached words t

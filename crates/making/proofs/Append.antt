@@ -235,6 +235,7 @@ module _ (c : ℕ) (e : Event) (alive : e.alive ≡ true) (q : e.chain ≡ c) wh
       → words_from k at (es ++ e ∷ []) ≡ set (words_from k at es ++ words16 (k + length es) (end_of at es) e []) ((o - k) * 16 + 6)
       (k + length es)
   unfolding words_from end_of
+  words_first_child o k at [] p w = elim w [ ]
   words_first_child o k at (x ∷ es) p (owner_here cq t d l) =
       let n : k + suc (length es) ≡ k + 1 + length es = omega arith in
       let w = words_from (k + 1) (at + bytes_in x) es in

@@ -23,11 +23,14 @@ at_to at_here = omega arith
 at_to (at_later p) = omega (arith, at_to p)
 
 -- and names one record
+at_alike : {k r s : ℕ} {es : List Event} {e f : Event} → At k es r e → At k es s f → r ≡ s → e ≡ f
+at_alike at_here at_here n = refl
+at_alike at_here (at_later q) n = absurd (omega (arith, n, at_from q))
+at_alike (at_later p) at_here n = absurd (omega (arith, n, at_from p))
+at_alike (at_later p) (at_later q) n = at_alike p q n
+
 pub at_same : {k r : ℕ} {es : List Event} {e f : Event} → At k es r e → At k es r f → e ≡ f
-at_same at_here at_here = refl
-at_same at_here (at_later q) = absurd (omega (arith, at_from q))
-at_same (at_later p) at_here = absurd (omega (arith, at_from p))
-at_same (at_later p) (at_later q) = at_same p q
+at_same p q = at_alike p q refl
 
 -- a number below the end has a record
 pub record Found (k r : ℕ) (es : List Event) : Type 0 where

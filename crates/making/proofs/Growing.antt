@@ -19,12 +19,13 @@ use Rattle.making.proofs.FirstOf.{at_from}
 pub each_at : {P : ℕ → Event → Type 0} {k r : ℕ} {es : List Event} {e : Event} → Each P k es → At k es r e → P r e
 each_at (each_next p h) at_here = p
 each_at (each_next p h) (at_later a) = each_at h a
+each_at each_none a = elim a [ ]
 
-pub each_more : {P : ℕ → Event → Type 0} {k : ℕ} (es : List Event) {e : Event} → Each P k es → P (k + length es) e → Each P k (es ++ e ∷ [])
-each_more {P} {k} [] {e} each_none p =
+pub each_more : {P : ℕ → Event → Type 0} (es : List Event) {k : ℕ} {e : Event} → Each P k es → P (k + length es) e → Each P k (es ++ e ∷ [])
+each_more {P} [] {k} {e} each_none p =
     let z : k + 0 ≡ k = omega arith in
     each_next (subst (λ (i : ℕ). P i e) z p) each_none
-each_more {P} {k} (x ∷ es) {e} (each_next q h) p =
+each_more {P} (x ∷ es) {k} {e} (each_next q h) p =
     let z : k + suc (length es) ≡ k + 1 + length es = omega arith in
     each_next q (each_more es h (subst (λ (i : ℕ). P i e) z p))
 
@@ -98,7 +99,7 @@ pub sorts_more : {es : List Event} (e : Event) → Each (Sort es) 1 es → Sort 
 sorts_more {es} e h p = each_more es (each_map (λ r x q. sort_more (e ∷ []) r x q) h) p
 
 -- record 0 has no children
-pub no_child_lem : {es : List Event} {gs : List Event} {k : ℕ} → Each (Sort gs) k es → last (children_of 0) k es ≡ 0
+pub no_child_lem : {gs : List Event} {es : List Event} {k : ℕ} → Each (Sort gs) k es → last (children_of 0) k es ≡ 0
 unfolding last
 no_child_lem each_none = refl
 no_child_lem {gs = gs} {k} (each_next {e = e} s h) = rw (no_child_lem h, chain_other e.chain (children_of 0) e refl (owner s)) refl

@@ -1,7 +1,7 @@
 -- The log in hand with one record more: the ends of its chains, where the link to the record stands, and what the state and the buffers
 -- then hold.
 use Prim.Native.Nat.{ℕ, suc, ◌+◌, ◌≤◌, ◌<◌}
-use mathlib.Core.Path.{◌≡◌, refl, sym, ap, ◌∙◌}
+use mathlib.Core.Path.{◌≡◌, refl, sym, ap, ◌∙◌, subst}
 use mathlib.Core.Bool.{Bool, true, false}
 use mathlib.Core.List.{List, [], ◌∷◌, ◌++◌}
 use native.Mathlib.Omega.{arith}
@@ -99,8 +99,9 @@ pub there_new : (k : ℕ) (es : List Event) (e : Event) → e.alive ≡ true →
 unfolding there
 there_new k [] e t = let z : k + 0 ≡ k = omega arith in rw (z, eq-eqb k k refl) t
 there_new k (x ∷ es) e t =
-    let z : k + suc (length es) ≡ k + 1 + length es = omega arith in
-    rw (z, ne_eqb (k + 1 + length es) k (λ q. omega arith)) (there_new (k + 1) es e t)
+    let z : k + length (x ∷ es) ≡ k + 1 + length es = omega arith in
+    subst (λ (n : ℕ). there n k (x ∷ es ++ e ∷ []) ≡ true) (sym z)
+    (rw (ne_eqb (k + 1 + length es) k (λ q. omega arith)) (there_new (k + 1) es e t))
 
 -- a record that is there is the owner of its first child
 child_owner : (o k : ℕ) (es : List Event) → 0 < k → Ordered k es → there o k es ≡ true → last (children_of o) k es ≡ 0

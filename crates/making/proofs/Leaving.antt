@@ -171,16 +171,16 @@ module _ (c : ℕ) (shared : (e : Event) → e.chain ≡ c → Shared e) where
       record { first_is = r.first_is ∙ sym (first_dropped mark 1 es ss); last_is = r.last_is ∙ sym (last_dropped mark 1 es ss) }
 
 -- lists in two parts
-pub each_back : {P : ℕ → Event → Type 0} {k : ℕ} (xs : List Event) {ys : List Event} → Each P k (xs ++ ys) → Each P (k + length xs) ys
-each_back {P} {k} [] {ys} h = let z : k ≡ k + 0 = omega arith in subst (λ (i : ℕ). Each P i ys) z h
-each_back {P} {k} (x ∷ xs) {ys} (each_next p h) =
+pub each_back : {P : ℕ → Event → Type 0} (xs : List Event) {k : ℕ} {ys : List Event} → Each P k (xs ++ ys) → Each P (k + length xs) ys
+each_back {P} [] {k} {ys} h = let z : k ≡ k + 0 = omega arith in subst (λ (i : ℕ). Each P i ys) z h
+each_back {P} (x ∷ xs) {k} {ys} (each_next p h) =
     let z : k + 1 + length xs ≡ k + suc (length xs) = omega arith in
     subst (λ (i : ℕ). Each P i ys) z (each_back xs h)
 
-pub each_join : {P : ℕ → Event → Type 0} {k : ℕ} (xs : List Event) {ys : List Event} → Each P k xs → Each P (k + length xs) ys
+pub each_join : {P : ℕ → Event → Type 0} (xs : List Event) {k : ℕ} {ys : List Event} → Each P k xs → Each P (k + length xs) ys
     → Each P k (xs ++ ys)
-each_join {P} {k} [] {ys} each_none q = let z : k + 0 ≡ k = omega arith in subst (λ (i : ℕ). Each P i ys) z q
-each_join {P} {k} (x ∷ xs) {ys} (each_next p h) q =
+each_join {P} [] {k} {ys} each_none q = let z : k + 0 ≡ k = omega arith in subst (λ (i : ℕ). Each P i ys) z q
+each_join {P} (x ∷ xs) {k} {ys} (each_next p h) q =
     let z : k + suc (length xs) ≡ k + 1 + length xs = omega arith in
     each_next p (each_join xs h (subst (λ (i : ℕ). Each P i ys) z q))
 
@@ -190,10 +190,10 @@ at_cut k (x ∷ xs) e ys =
     let z : k + 1 + length xs ≡ k + suc (length xs) = omega arith in
     at_later (subst (λ (i : ℕ). At (k + 1) (xs ++ e ∷ ys) i e) z (at_cut (k + 1) xs e ys))
 
-at_back : {k r : ℕ} (xs : List Event) {ys : List Event} {e : Event} → k + length xs ≤ r → At k (xs ++ ys) r e → At (k + length xs) ys r e
-at_back {k} {r} [] {ys} {e} h a = let z : k ≡ k + 0 = omega arith in subst (λ (i : ℕ). At i ys r e) z a
-at_back {k} (x ∷ xs) h at_here = absurd (omega arith)
-at_back {k} {r} (x ∷ xs) {ys} {e} h (at_later a) =
+at_back : (xs : List Event) {k r : ℕ} {ys : List Event} {e : Event} → k + length xs ≤ r → At k (xs ++ ys) r e → At (k + length xs) ys r e
+at_back [] {k} {r} {ys} {e} h a = let z : k ≡ k + 0 = omega arith in subst (λ (i : ℕ). At i ys r e) z a
+at_back (x ∷ xs) h at_here = absurd (omega arith)
+at_back (x ∷ xs) {k} {r} {ys} {e} h (at_later a) =
     let z : k + 1 + length xs ≡ k + suc (length xs) = omega arith in
     subst (λ (i : ℕ). At i ys r e) z (at_back xs (omega arith) a)
 

@@ -97,7 +97,7 @@ inside_out mark x e (above {w} {ws} us vs q n kp o a h st mk) m g i =
           (arith, i.of_parts r c);
     })
 
-pub stack_behind : {ws : List Waiting} {k : ℕ} (xs zs : List Event) → Stack ws xs → Each (λ (i : ℕ) (e : Event). InsideTop ws e) k zs
+pub stack_behind : {ws : List Waiting} (xs zs : List Event) → Stack ws xs → {k : ℕ} → Each (λ (i : ℕ) (e : Event). InsideTop ws e) k zs
     → Stack ws (xs ++ zs)
 stack_behind {ws} xs [] st each_none = subst (λ (l : List Event). Stack ws l) (sym (append-nil xs)) st
 stack_behind {ws} xs (e ∷ zs) st (each_next i h) =

@@ -18,7 +18,7 @@ use Rattle.making.proofs.Standing.{def_range, child_range}
 use Rattle.making.proofs.MakingMore.{Stays, stays_binding, stays_diagnostic, stays_post, making_stays}
 
 -- a record that is there was there
-at_before : {k r : ℕ} (xs : List Event) (e : Event) (ys : List Event) {f : Event} → At k (xs ++ dead e ∷ ys) r f → f.alive ≡ true
+at_before : (xs : List Event) {k r : ℕ} (e : Event) (ys : List Event) {f : Event} → At k (xs ++ dead e ∷ ys) r f → f.alive ≡ true
     → At k (xs ++ e ∷ ys) r f
 at_before [] e ys at_here t = absurd (not_both t refl)
 at_before [] e ys (at_later p) t = at_later p
@@ -26,7 +26,7 @@ at_before (x ∷ xs) e ys at_here t = at_here
 at_before (x ∷ xs) e ys (at_later p) t = at_later (at_before xs e ys p t)
 
 -- and is there, where it is another
-at_after : {k r : ℕ} (xs : List Event) (e : Event) (ys : List Event) {f : Event} → At k (xs ++ e ∷ ys) r f → (f.kind ≡ e.kind → ⊥)
+at_after : (xs : List Event) {k r : ℕ} (e : Event) (ys : List Event) {f : Event} → At k (xs ++ e ∷ ys) r f → (f.kind ≡ e.kind → ⊥)
     → At k (xs ++ dead e ∷ ys) r f
 at_after [] e ys at_here n = absurd (n refl)
 at_after [] e ys (at_later p) n = at_later p

@@ -16,7 +16,7 @@ use Rattle.making.specs.machine.Adding.{last_is, is_node, is_cell_list, is_prope
 use Rattle.making.specs.machine.Adding.{with_label, with_cell, in_node, in_property, in_cell_list, add_label, add_value, add_cell}
 use Rattle.definition_log.specs.meaning.Record.{node_kind, property_kind, deleted_node_kind, deleted_property_kind, plugin_kind, cell_list_kind, bytestring_kind}
 use Rattle.definition_log.specs.meaning.Record.{reference_kind, label_kind, one_of, has_children, extension_kind}
-use Rattle.making.specs.machine.Events.{Event, defs_of, exts_of, children_of, last, Ordered, ordered_next, Numbered, members, below}
+use Rattle.making.specs.machine.Events.{Event, defs_of, exts_of, children_of, last, Ordered, ordered_none, ordered_next, Numbered, members, below}
 use Rattle.making.specs.machine.Events.{cell_of, value_of, def_value_of, def_of, defs_in}
 use Rattle.making.specs.machine.Buffers.{event_of}
 use Rattle.making.specs.machine.Made.{Told, child_link, with_part, with_last_cell}
@@ -219,10 +219,11 @@ module _ {c d f : LowerCtx} {words bytes w b : List ℕ} {r : Rec} {x y : List �
 pub behind : {k r d : ℕ} {es : List Event} {e : Event} → Ordered k es → At k es r e → e.chain ≡ children_of d → d < r
 behind {d = d} (ordered_next f h) at_here c = f d c
 behind (ordered_next f h) (at_later a) c = behind h a c
+behind ordered_none a c = elim a [ ]
 
 -- a cell of the newest definition's last value
 module _ {c d f : LowerCtx} {words bytes w b : List ℕ} {r : Rec} {x y : List ℕ} {link : ℕ} (told : Told c d words bytes w b r x y link)
-    (at : link ≡ child_link c.part c.cell) (with_cell : f ≡ with_last_cell d c.records) (v : Cell)
+    (at : link ≡ child_link c.part c.cell) (last_celled : f ≡ with_last_cell d c.records) (v : Cell)
     (fits : part_fits cell_list_kind r.kind ≡ true)
     (sized : cell_bytes v ≡ length x + length y) (plain : (o : ℕ) → Plain (event_of (children_of o) 0 r x y))
     (says : (n o : ℕ) → cell_of (record { number = n; event = event_of (children_of o) 0 r x y }) ≡ v) where
@@ -266,13 +267,13 @@ module _ {c d f : LowerCtx} {words bytes w b : List ℕ} {r : Rec} {x y : List �
         chain = newpart.chain;
       } in
       let there₀ : o ≡ 0 → ⊥ = λ z. filled (sym pl ∙ z) in
-      let made = holds_parts c.part c.records (with_cell ∙ cell_state)
+      let made = holds_parts c.part c.records (last_celled ∙ cell_state)
       ((added_child o c.cell (rw at at told)).holds (hand_of k) es (H.going h lay (ends op m))
       (λ _. at_there owner.at ∙ owner.there) (λ _. op.cell_is)) in
-      let fd : f.defs ≡ c.defs = ap (λ (a : LowerCtx). a.defs) with_cell ∙ (keeps_log told).0 in
+      let fd : f.defs ≡ c.defs = ap (λ (a : LowerCtx). a.defs) last_celled ∙ (keeps_log told).0 in
       let fl : f.defs.last ≡ g = ap (λ (a : _). a.last) fd in
-      let fp : f.part ≡ o = ap (λ (a : LowerCtx). a.part) with_cell ∙ (keeps_log told).2 in
-      let fc : f.cell ≡ 1 + length es = ap (λ (a : LowerCtx). a.cell) with_cell ∙ lay.records_are in
+      let fp : f.part ≡ o = ap (λ (a : LowerCtx). a.part) last_celled ∙ (keeps_log told).2 in
+      let fc : f.cell ≡ 1 + length es = ap (λ (a : LowerCtx). a.cell) last_celled ∙ lay.records_are in
       let up : g < o = behind lay.ordered owner.at owner.chain in
       let lw : l ≤ g = low l (each_at ss definition.at) definition.chain in
       one_more_lem c s lay cr cb st ps ss (inside_part ws o r x y (omega arith))
@@ -311,4 +312,4 @@ module _ {c d f : LowerCtx} {words bytes w b : List ℕ} {r : Rec} {x y : List �
 
   pub steps_cell : StepsIn in_cell_list c f words bytes w b (add_cell v)
   unfolding with_last_cell
-  steps_cell = record { steps = cell_added; stays = stays_short told f (ap (λ (a : LowerCtx). a.short) with_cell) }
+  steps_cell = record { steps = cell_added; stays = stays_short told f (ap (λ (a : LowerCtx). a.short) last_celled) }

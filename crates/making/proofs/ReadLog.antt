@@ -11,7 +11,7 @@ use Rattle.definition_log.specs.meaning.Record.{kind_of, child_of, n_of, m_of, s
 use Rattle.definition_log.specs.meaning.Record.{second_length, first_text, second_text, log_count}
 use Rattle.definition_log.specs.meaning.ReadBack.{chain_of, span_at, name_span_at, target_at, read_labels, cell_at, read_cells, value_at, read_values}
 use Rattle.definition_log.specs.meaning.ReadBack.{def_value_at, def_at, read_defs, binding_at, read_bindings, diag_at, read_diags, ext_target, ext_at, read_exts}
-use Rattle.making.specs.machine.Events.{Event, Ordered, ordered_next, children_of, defs_of, in_chain, first, words16}
+use Rattle.making.specs.machine.Events.{Event, Ordered, ordered_none, ordered_next, children_of, defs_of, in_chain, first, words16}
 use Rattle.making.specs.machine.Events.{bytes_in, Numbered, members, all_words, all_bytes, start_of, span_of, name_span_of, target_of, below}
 use Rattle.making.specs.machine.Events.{label_of, cell_of, value_of, def_value_of, def_of, defs_in, binding_of, diag_of, target_below, ext_of}
 use Rattle.making.proofs.ReadEvents.{Splits, splits_here, splits_later, splits_from, field_at, numbers_of, leads_there, chain_members}
@@ -29,6 +29,7 @@ first_behind {k} {r = r} (ordered_next {e = x} o h) (splits_later s) =
     by_test (in_chain (children_of r) x)
     (λ t. absurd (omega (arith, o r (eqb-true x.chain (children_of r) (both x.alive _ t).1), splits_from s)))
     (λ t. rw t (first_behind h s))
+first_behind ordered_none s = elim s [ ]
 
 -- a chain mapped by number is the chain mapped by record
 map_chain : {B : Type 0} (f : ℕ → B) (g : Numbered → B) (c k at : ℕ) (es : List Event)

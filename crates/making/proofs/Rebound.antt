@@ -77,8 +77,8 @@ rebound_thinned none_rebound = none_thinned
 rebound_thinned (same_bound h) = same_there (rebound_thinned h)
 rebound_thinned (unbound c k h) = gone (rebound_thinned h)
 
-pub each_thinned : {P : ℕ → Event → Type 0} {k : ℕ} {es fs : List Event} → ((r : ℕ) (e : Event) → P r e → P r (dead e)) → Thinned es fs
-    → Each P k es → Each P k fs
+pub each_thinned : {P : ℕ → Event → Type 0} {es fs : List Event} → ((r : ℕ) (e : Event) → P r e → P r (dead e)) → Thinned es fs
+    → {k : ℕ} → Each P k es → Each P k fs
 each_thinned f none_thinned each_none = each_none
 each_thinned f (same_there h) (each_next p q) = each_next p (each_thinned f h q)
 each_thinned f (gone h) (each_next p q) = each_next (f _ _ p) (each_thinned f h q)
@@ -94,10 +94,11 @@ record Kinded (k : ℕ) (fs : List Event) (r kind : ℕ) : Type 0 where
   at : At k fs r event
   is : event.kind ≡ kind
 
-kind_thinned : {k r : ℕ} {es fs : List Event} {e : Event} → Thinned es fs → At k es r e → Kinded k fs r e.kind
+kind_thinned : {es fs : List Event} → Thinned es fs → {k r : ℕ} {e : Event} → At k es r e → Kinded k fs r e.kind
 kind_thinned (same_there h) at_here = record { event = _; at = at_here; is = refl }
 kind_thinned (gone h) at_here = record { event = _; at = at_here; is = refl }
 kind_thinned (same_there h) (at_later a) = let m = kind_thinned h a in record { event = m.event; at = at_later m.at; is = m.is }
+kind_thinned none_thinned a = elim a [ ]
 kind_thinned (gone h) (at_later a) = let m = kind_thinned h a in record { event = m.event; at = at_later m.at; is = m.is }
 
 sort_thinned : {es fs : List Event} → Thinned es fs → (r : ℕ) (e : Event) → Sort es r e → Sort fs r e

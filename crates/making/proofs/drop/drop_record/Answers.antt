@@ -12,7 +12,7 @@ returns-then-stays c =
     let a = c.args in
     let t : stays_kind (kind_of a.words.now a.r) ≡ true = ap (λ (k : ℕ). stays_kind k) (sym c.kind_of.ensures)
     ∙ sym c.stays.ensures ∙ c.if-stays.true in
-    rw t (refl, refl)
+    record { words_after = rw t refl; bytes_after = rw t refl }
 
 pub returns : goal.returns
 unfolding dropped_words dropped_bytes
@@ -23,4 +23,4 @@ returns c =
     (sym c.kind_of.ensures)
     ∙ sym c.stays.ensures
     ∙ c.if-stays.false in
-    rw t (c.clear_words.ensures, c.clear_texts.ensures)
+    record { words_after = rw t c.clear_words.ensures; bytes_after = rw t c.clear_texts.ensures }

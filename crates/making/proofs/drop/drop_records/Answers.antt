@@ -13,8 +13,7 @@ loop-r-init c =
 pub loop-r-preserved : goal.loop-r-preserved
 loop-r-preserved c =
     let a = c.args in
-    let l = c.loop-r in
- (
+    let l = c.loop-r in (
       omega arith,
       rw c.drop_record.ensures.words_after (length_words_left l.words l.r ∙ l.invariant.1),
       rw c.drop_record.ensures.bytes_after (length_bytes_left l.words l.bytes l.r ∙ l.invariant.2),

@@ -4,7 +4,7 @@ use mathlib.Core.Path.{refl}
 use Rattle.making.proofs.ctx.LowerCtx.define.Goals as goal
 
 pub returns : goal.returns
-returns c = let a = c.args in makes_def c.make_joined-made.ensures a.kind a.span a.name-span
+returns c = let a = c.args in makes_def c.make_joined-made.ensures a.kind a.span a.name_span
     _ _ refl c.spanned_rec-rec.ensures
     c.kind_number.ensures
     c.omit_number.ensures

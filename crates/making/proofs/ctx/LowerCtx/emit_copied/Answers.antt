@@ -8,5 +8,8 @@ pub returns : goal.returns
 returns c =
     let a = c.args in
     let told = c.make_copied-made.ensures in
-    let link = c.end_link-link.ensures in record {steps = makes_diag told a.code a.span a.name-span refl
-          c.spanned_rec-rec.ensures link c.with_diag.ensures; keeps = emit_keeps told link c.with_diag.ensures; }
+    let link = c.end_link-link.ensures in record {
+      steps = makes_diag told a.code a.span a.name_span refl
+          c.spanned_rec-rec.ensures link c.with_diag.ensures;
+      keeps = emit_keeps told link c.with_diag.ensures;
+    }

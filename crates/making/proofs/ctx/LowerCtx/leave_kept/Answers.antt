@@ -5,6 +5,6 @@ use Rattle.making.proofs.ctx.LowerCtx.leave_kept.Goals as goal
 pub returns : goal.returns
 returns c =
     let a = c.args in
-    keeps_body a.span a.name-span a.kind _ _
+    keeps_body a.span a.name_span a.kind _ _
     c.add_extension-with.ensures
     c.add_target-made.ensures c.left_kept.ensures
