@@ -1,7 +1,7 @@
 -- Reading then writing returns the bytes, and writing then reading the number.
 use Prim.Native.Nat.{ℕ, zero, suc, ◌+◌, ◌*◌, ◌/◌, ◌%◌, ◌<◌}
 use mathlib.Core.Path.{◌≡◌, refl, sym, ap, ap₂, ◌∙◌, subst}
-use mathlib.Core.Bool.{Bool, true, false, cond}
+use mathlib.Core.Bool.{true}
 use mathlib.Core.Option.{Option, some, none, none-ne-some, some-injective}
 use mathlib.Core.List.{List, [], ◌∷◌, ◌++◌}
 use native.Mathlib.Nat.{mod-lt, div-add-mod', div-lt_iff_lt-mul, div-div-eq-div-mul, mul_comm, div-one, add-mul, mul_assoc}
@@ -11,7 +11,7 @@ use lib.Arith.{digits_div, digits_mod, digits_lt}
 use lib.Dec.{ltb, lit<}
 use lib.ListN.{length, length-append}
 use Rattle.paths_numbers.proofs.Texts.{by_test}
-use Rattle.definition_log.specs.meaning.Answer.{Answered, success, refused_length, refused_number}
+use Rattle.definition_log.specs.meaning.Answer.{Answered, success, refused_length}
 use Rattle.boxes.specs.declared.box_number.BoxRead.{BoxRead}
 use Rattle.boxes.specs.meaning.Box.{is_packed, two_digits, pack, value_behind, packed_value, hundreds, packed_bytes, is_length}
 use Rattle.boxes.specs.meaning.Box.{read_told, no_box, read_answer, returns0, write_number, write_answer, write_out}

@@ -26,18 +26,15 @@ use Rattle.paths_numbers.specs.declared.dt_property.BitsSize.{BitsSize}
 use Rattle.paths_numbers.specs.declared.dt_property.SizeRead.{SizeRead}
 use Rattle.paths_numbers.specs.declared.dt_property.SizeRead.TheVariants as Size
 use Rattle.paths_numbers.specs.declared.dt_property.Cell.{Cell}
-use Rattle.paths_numbers.specs.declared.dt_property.Cell.TheVariants as Cell
 use Rattle.paths_numbers.specs.declared.dt_property.ByteCount.{ByteCount}
 use Rattle.paths_numbers.specs.declared.dt_property.ByteCount.TheVariants as Count
 use Rattle.paths_numbers.specs.declared.dt_property.BytesWritten.{BytesWritten}
 use Rattle.paths_numbers.specs.declared.dt_property.BytesWritten.TheVariants as Written
 use Rattle.paths_numbers.specs.declared.dt_node.Built.{Built}
-use Rattle.paths_numbers.specs.declared.dt_node.Built.TheVariants as Built
 use Rattle.paths_numbers.specs.declared.phandle.MirPhandleTarget.{MirPhandleTarget}
 use Rattle.paths_numbers.specs.declared.phandle.MirPhandleTarget.TheVariants as Target
 use Rattle.slashes.specs.meaning.Slash.{found_told}
 use Rattle.slashes.specs.declared.slash.Found.{Found}
-use Rattle.slashes.specs.declared.slash.Found.TheVariants as Found
 
 -- two answers that tell the same are the same, where there is a way back
 abbrev pub Apart : {A B : Type 0} → (A → B) → Type 0

@@ -1,27 +1,21 @@
 -- What is told at a width in bits: by the width that was read, and where it is none.
 use mathlib.Core.Path.{◌≡◌, refl, sym, ap, ◌∙◌}
-use mathlib.Core.List.{[], ◌∷◌}
-use mathlib.Core.Logic.{⊎_elim}
-use native.Mathlib.Omega.{arith}
-use denote.Enum.Declared.{tag_of}
-use types.Run.{OneOf}
 use Rattle.paths_numbers.specs.meaning.Reading.{Reading}
 use Rattle.paths_numbers.specs.meaning.Cell.{size_told}
 use Rattle.paths_numbers.specs.declared.dt_property.BitsSize.{BitsSize}
 use Rattle.paths_numbers.specs.declared.dt_property.SizeRead.{SizeRead}
 use Rattle.paths_numbers.specs.declared.dt_property.SizeRead.TheVariants.{Size, Unsupported, Failed}
-use Rattle.paths_numbers.specs.contracts.dt_property.SizeRead.{the_type}
 use Rattle.paths_numbers_c.specs.declared.PnNumber.{PnNumber}
 use Rattle.paths_numbers_c.specs.meaning.Told.{at_width, width_told}
 
 -- a reading that is no width
 abbrev pub None : SizeRead → Type 0
-None read = OneOf (1 ∷ 2 ∷ []) (tag_of the_type read)
+None read = (s : BitsSize) → read ≡ Size s → ⊥
 
 -- it is told the same whatever is asked of the width
 same_code : (f : BitsSize → PnNumber) (read : SizeRead) → None read → width_told (size_told read) ≡ at_width f (size_told read)
 unfolding at_width
-same_code f (Size s) h = absurd (⊎_elim (λ e. omega arith) (λ e. omega arith) h)
+same_code f (Size s) h = absurd (h s refl)
 same_code f Unsupported h = refl
 same_code f (Failed e) h = refl
 

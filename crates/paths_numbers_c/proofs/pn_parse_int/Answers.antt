@@ -1,0 +1,14 @@
+-- `pn_parse_int`: what `parse_int_tok` ensures of the width, told, or the code of no width.
+use mathlib.Core.Path.{ap, ◌∙◌}
+use Rattle.paths_numbers_c.proofs.Widths.{at_size, at_none}
+use Rattle.paths_numbers_c.specs.meaning.Told.{number_told}
+use Rattle.paths_numbers_c.proofs.pn_parse_int.Goals as goal
+
+pub returns-in-Size : goal.returns-in-Size
+returns-in-Size c = at_size _ c.size_of-read.result
+    c.size_of-read.ensures c.in-Size.is
+    (c.told_int.ensures ∙ ap number_told c.parse_int_tok.ensures)
+
+pub returns-in_default : goal.returns-in_default
+returns-in_default c = at_none _ c.size_of-read.result c.size_of-read.ensures c.in_default.not-Size
+    c.told_width.ensures
