@@ -12,7 +12,9 @@ use definition_log::kinds::{DELETED_NODE, DELETED_PROPERTY, NODE, PLUGIN, PROPER
 use definition_log::layout;
 use definition_log::layout::{FIRST_BINDING, FIRST_DEFINITION};
 use definition_log::parts::{name_span_of, span_of};
-use definition_log::record::{child_of, first_text, kind_of, log_count, next_of, out_field, second_text};
+use definition_log::record::{
+    child_of, first_text, kind_of, log_count, next_of, out_field, second_text,
+};
 use queries::definition::goes_on;
 
 // A record of the chain whose first record stands at a place of record 0.

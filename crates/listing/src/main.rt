@@ -12,14 +12,16 @@ mod listing;
 mod page;
 mod reading;
 
+use definition_log::answer::REFUSED_SIZE;
+use definition_log::layout;
+use full_reads::read_full;
 use input::layout::RECORD_WORDS;
 use input::limits::{MOST_RECORDS, MOST_TEXT};
 use levels::level::SIGNED;
 use listing::{list_answer, list_refusal};
-use definition_log::answer::REFUSED_SIZE;
-use definition_log::layout;
 use lowering::lower::lower;
 use reading::{RECORD_BYTES, WORD_BYTES, read_words, word_at};
+use std::io;
 
 // The longest input that is not refused by its size, and one byte more, by which a longer one is seen to be
 // longer.
@@ -33,12 +35,12 @@ const OUT_BYTES: usize = 65536;
 // The longest listing: each record but record 0 has at most 50 bytes beside its texts, and the last line 2.
 const MOST_PAGE: usize = (OUT_RECORDS - 1) * 50 + OUT_BYTES + 2;
 
-fn main() {
+fn main(rt: HostRuntime) -> io::Result<()> {
     let mut buffer = [0u8; MOST_INPUT];
-    let n = io::read_full(0, &mut buffer);
+    let n = read_full(&mut rt.reader(), &mut buffer)?;
     let mut page = [0u8; MOST_PAGE];
     let used = list_whole(&buffer, n, &mut page);
-    io::write_all(1, &page[..used]);
+    rt.write_all(&page[..used])
 }
 
 // Writes what is printed for an input to the start of a page that is long enough for any, and returns how

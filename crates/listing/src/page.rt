@@ -6,6 +6,7 @@ ghost use Rattle.listing.specs.meaning.Listing.{decimal, span_field};
 ghost use Rattle.listing.specs.machine.Page.{Puts};
 
 use definition_log::parts::Span;
+use itoa::Buffer;
 
 // A byte.
 pub fn put_byte(page: &mut [u8], at: usize, b: u8) -> usize
@@ -35,9 +36,8 @@ pub fn put_text(page: &mut [u8], at: usize, text: &[u8]) -> usize
 pub fn put_number(page: &mut [u8], at: usize, n: u32) -> usize
     ensures { Puts (decimal n) page.old at page.new result }
 {
-    let mut digits = [0u8; 20];
-    let k = io::decimal(n as u64, &mut digits);
-    put_text(page, at, &digits[..k])
+    let mut digits = Buffer::new();
+    put_text(page, at, digits.format(n).as_bytes())
 }
 
 // A span behind a space.

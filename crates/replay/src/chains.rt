@@ -5,6 +5,7 @@ use crate::tally::Tally;
 use definition_log::kinds::{CELL_LIST, NODE, PROPERTY};
 use definition_log::layout;
 use definition_log::record::{child_of, kind_of, leads_to, log_count, next_of, out_field};
+use std::alloc::AllocError;
 
 // A chain: how many records it has, and each of them with the chains that it has.
 #[cycle(chain_chains_of)]
@@ -14,20 +15,20 @@ pub fn chain(
     bytes: &[u8],
     has: u32,
     first: u32,
-    what: &[u8],
-    t: Tally,
-) -> Tally {
+    what: &str,
+    t: &mut Tally,
+) -> Result<(), AllocError> {
     let mut left = t.recorded(sample);
-    let mut next = counted(sample, out, first, t, what);
+    counted(sample, out, first, t, what)?;
     let mut r = first;
     while 0 < left {
-        let kind = next.recorded(sample);
-        let itself = record_itself(sample, out, bytes, has, r, next);
-        next = chains_of(sample, out, bytes, has, r, kind, itself);
+        let kind = t.recorded(sample);
+        record_itself(sample, out, bytes, has, r, t)?;
+        chains_of(sample, out, bytes, has, r, kind, t)?;
         r = next_of(out, r);
         left -= 1;
     }
-    next
+    Ok(())
 }
 
 // The chains of a record: an extension's body, the labels and values of a definition, and the cells of a
@@ -40,8 +41,8 @@ fn chains_of(
     has: u32,
     r: u32,
     kind: u32,
-    t: Tally,
-) -> Tally {
+    t: &mut Tally,
+) -> Result<(), AllocError> {
     if has == EXTENSIONS {
         let body = out_field(out, r, layout::M);
         return chain(
@@ -50,29 +51,21 @@ fn chains_of(
             bytes,
             DEFINITIONS,
             body,
-            b"number of definitions",
+            "number of definitions",
             t,
         );
     }
     if has == DEFINITIONS {
         let labels = child_if(out, r, NODE);
         let values = child_if(out, r, PROPERTY);
-        let labelled = chain(sample, out, bytes, LABELS, labels, b"number of labels", t);
-        return chain(
-            sample,
-            out,
-            bytes,
-            VALUES,
-            values,
-            b"number of values",
-            labelled,
-        );
+        chain(sample, out, bytes, LABELS, labels, "number of labels", t)?;
+        return chain(sample, out, bytes, VALUES, values, "number of values", t);
     }
     if has != VALUES {
-        return t;
+        return Ok(());
     }
     if kind != CELL_LIST {
-        return t;
+        return Ok(());
     }
     chain(
         sample,
@@ -80,7 +73,7 @@ fn chains_of(
         bytes,
         CELLS,
         child_of(out, r),
-        b"number of cells",
+        "number of cells",
         t,
     )
 }
@@ -94,10 +87,16 @@ fn child_if(out: &[u32], r: u32, kind: u32) -> u32 {
 }
 
 // Compares a chain's length with the number that is recorded; it has no first record if that is 0.
-fn counted(sample: &[u8], out: &[u32], first: u32, t: Tally, what: &[u8]) -> Tally {
+fn counted(
+    sample: &[u8],
+    out: &[u32],
+    first: u32,
+    t: &mut Tally,
+    what: &str,
+) -> Result<(), AllocError> {
     let none = t.recorded(sample) == 0;
-    let led = t.noted((first == 0) == none, what);
-    led.number(sample, chain_len(out, first), what)
+    t.noted((first == 0) == none, what)?;
+    t.number(sample, chain_len(out, first), what)
 }
 
 // How many records a chain has.

@@ -4,53 +4,51 @@ use crate::records::{BINDINGS, DEFINITIONS, DIAGNOSTICS, EXTENSIONS};
 use crate::tally::Tally;
 use definition_log::layout;
 use definition_log::record::out_field;
+use std::alloc::AllocError;
 
 // The whole log: record 0's counts and what its chains have.
-pub fn whole_log(sample: &[u8], out: &[u32], bytes: &[u8], t: Tally) -> Tally {
+pub fn whole_log(
+    sample: &[u8],
+    out: &[u32],
+    bytes: &[u8],
+    t: &mut Tally,
+) -> Result<(), AllocError> {
     let records = out_field(out, 0, layout::RECORDS_USED);
-    let counted = t.number(sample, records, b"records used");
+    t.number(sample, records, "records used")?;
     let size = out_field(out, 0, layout::BYTES_USED);
-    let sized = counted.number(sample, size, b"bytes used");
+    t.number(sample, size, "bytes used")?;
     let defs = out_field(out, 0, layout::FIRST_DEFINITION);
-    let defined = chain(
+    chain(
         sample,
         out,
         bytes,
         DEFINITIONS,
         defs,
-        b"number of definitions",
-        sized,
-    );
+        "number of definitions",
+        t,
+    )?;
     let exts = out_field(out, 0, layout::FIRST_EXTENSION);
-    let extended = chain(
+    chain(
         sample,
         out,
         bytes,
         EXTENSIONS,
         exts,
-        b"number of extensions",
-        defined,
-    );
+        "number of extensions",
+        t,
+    )?;
     let binds = out_field(out, 0, layout::FIRST_BINDING);
-    let bound = chain(
-        sample,
-        out,
-        bytes,
-        BINDINGS,
-        binds,
-        b"number of bindings",
-        extended,
-    );
+    chain(sample, out, bytes, BINDINGS, binds, "number of bindings", t)?;
     let diags = out_field(out, 0, layout::FIRST_DIAGNOSTIC);
-    let reported = chain(
+    chain(
         sample,
         out,
         bytes,
         DIAGNOSTICS,
         diags,
-        b"number of diagnostics",
-        bound,
-    );
+        "number of diagnostics",
+        t,
+    )?;
     let post = out_field(out, 0, layout::FIRST_POST);
     chain(
         sample,
@@ -58,7 +56,7 @@ pub fn whole_log(sample: &[u8], out: &[u32], bytes: &[u8], t: Tally) -> Tally {
         bytes,
         DIAGNOSTICS,
         post,
-        b"number of diagnostics",
-        reported,
+        "number of diagnostics",
+        t,
     )
 }

@@ -13,47 +13,50 @@ mod tally;
 
 ghost use Rattle.std.specs.Prelude.{◌≡◌, length};
 
+use full_reads::read_full;
 use recorded::{after_number, number_at};
 use replayed::replay_case;
+use std::alloc::{AllocError, Global};
+use std::{fs, io};
 use tally::{Tally, new_tally};
 
-fn main() {
+fn main(rt: HostRuntime) -> io::Result<()> {
     let mut sample = sample_buffer();
-    let file = os::open_read(b"answers.bin");
-    if file < 0 {
-        os::fail(b"answers.bin");
-        return;
-    }
-    let n = io::read_full(file, &mut sample);
-    replay(&sample[..n]);
+    let mut file = fs::open(&rt, "answers.bin")?;
+    let n = read_full(&mut file, &mut sample)?;
+    replay(&rt, &sample[..n])
 }
 
 // Replays a sample.
-fn replay(sample: &[u8]) {
+fn replay<R: Print + AllocGlobal>(rt: &R, sample: &[u8]) -> io::Result<()> {
     let mut input = words_buffer();
     let mut out = words_buffer();
-    let mut bytes = io::large_buffer();
+    let mut bytes = bytes_buffer();
     let mut list = list_buffer();
-    let t = replay_cases(sample, &mut input, &mut out, &mut bytes, &mut list);
-    t.print_total(number_at(sample, 0));
+    let alloc = rt.alloc();
+    let t = replay_cases(alloc, sample, &mut input, &mut out, &mut bytes, &mut list)?;
+    t.print_total(rt, number_at(sample, 0))
 }
 
 // Replays its cases, of which its first number says how many there are.
 fn replay_cases(
+    alloc: Global,
     sample: &[u8],
     input: &mut [u32],
     out: &mut [u32],
     bytes: &mut [u8],
     list: &mut [u32],
-) -> Tally {
-    let mut t = new_tally(after_number(sample, 0));
+) -> Result<Tally, AllocError> {
+    let mut t = new_tally(alloc, after_number(sample, 0));
     let mut left = number_at(sample, 0);
     while 0 < left {
-        t = replay_case(sample, input, out, bytes, list, t.next_case());
+        t.next_case();
+        replay_case(sample, input, out, bytes, list, &mut t)?;
         left -= 1;
     }
     let ended = t.at == sample.len();
-    t.noted(ended, b"end of the sample")
+    t.noted(ended, "end of the sample")?;
+    Ok(t)
 }
 
 // Room for the sample.
@@ -68,6 +71,13 @@ fn words_buffer() -> [u32; 16384]
     ensures { 16384 ≡ length result }
 {
     [0; 16384]
+}
+
+// Room for the bytes of a log.
+fn bytes_buffer() -> [u8; 65536]
+    ensures { 65536 ≡ length result }
+{
+    [0; 65536]
 }
 
 // Room for the answers of a query.

@@ -6,38 +6,46 @@ use definition_log::answer::Answer;
 use definition_log::layout;
 use definition_log::record::{log_count, next_of, out_field};
 use queries::query::{contains_node, history, iter_live_defs_under};
+use std::alloc::AllocError;
 
 // The queries of a log.
-pub fn asked(sample: &[u8], out: &[u32], bytes: &[u8], list: &mut [u32], t: Tally) -> Tally {
+pub fn asked(
+    sample: &[u8],
+    out: &[u32],
+    bytes: &[u8],
+    list: &mut [u32],
+    t: &mut Tally,
+) -> Result<(), AllocError> {
     let mut left = t.recorded(sample);
-    let mut next = t.skipped(sample);
+    t.skipped(sample);
     while 0 < left {
-        next = query(sample, out, bytes, list, next);
+        query(sample, out, bytes, list, t)?;
         left -= 1;
     }
-    next
+    Ok(())
 }
 
 // The three queries of a path.
-fn query(sample: &[u8], out: &[u32], bytes: &[u8], list: &mut [u32], t: Tally) -> Tally {
+fn query(
+    sample: &[u8],
+    out: &[u32],
+    bytes: &[u8],
+    list: &mut [u32],
+    t: &mut Tally,
+) -> Result<(), AllocError> {
     let path = text_at(sample, t.at);
-    let at = t.moved(after_text(sample, t.at));
-    let found = answered(
-        sample,
-        contains_node(out, bytes, path),
-        at,
-        b"contains_node",
-    );
+    t.moved(after_text(sample, t.at));
+    answered(sample, contains_node(out, bytes, path), t, "contains_node")?;
     let live = iter_live_defs_under(out, bytes, path, list);
-    let lived = places(sample, out, list, live, found, b"live list");
+    places(sample, out, list, live, t, "live list")?;
     let past = history(out, bytes, path, list);
-    places(sample, out, list, past, lived, b"history")
+    places(sample, out, list, past, t, "history")
 }
 
 // What is returned with number 0.
-fn answered(sample: &[u8], answer: Answer, t: Tally, what: &[u8]) -> Tally {
-    let accepted = t.noted(answer.number == 0, what);
-    accepted.number(sample, answer.returned, what)
+fn answered(sample: &[u8], answer: Answer, t: &mut Tally, what: &str) -> Result<(), AllocError> {
+    t.noted(answer.number == 0, what)?;
+    t.number(sample, answer.returned, what)
 }
 
 // A list of places against the definitions that are listed.
@@ -46,18 +54,18 @@ fn places(
     out: &[u32],
     list: &[u32],
     answer: Answer,
-    t: Tally,
-    what: &[u8],
-) -> Tally {
+    t: &mut Tally,
+    what: &str,
+) -> Result<(), AllocError> {
     let mut left = t.recorded(sample);
-    let mut next = answered(sample, answer, t, what);
+    answered(sample, answer, t, what)?;
     let mut i = 0;
     while 0 < left {
-        next = next.number(sample, place_of(out, listed(list, i)), what);
+        t.number(sample, place_of(out, listed(list, i)), what)?;
         i = later(i, list);
         left -= 1;
     }
-    next
+    Ok(())
 }
 
 // What stands at a place of a list, 0 behind its end.

@@ -5,6 +5,7 @@ use definition_log::kinds::{
 };
 use definition_log::layout;
 use definition_log::record::{child_of, first_text, kind_of, out_field, second_text};
+use std::alloc::AllocError;
 
 // What a chain has; a chain inside a record of another has the lower number.
 pub const CELLS: u32 = 0;
@@ -28,8 +29,8 @@ pub fn record_itself(
     bytes: &[u8],
     has: u32,
     r: u32,
-    t: Tally,
-) -> Tally {
+    t: &mut Tally,
+) -> Result<(), AllocError> {
     match has {
         CELLS => cell(sample, out, bytes, r, t),
         LABELS => label(sample, out, bytes, r, t),
@@ -42,106 +43,136 @@ pub fn record_itself(
 }
 
 // A cell.
-fn cell(sample: &[u8], out: &[u32], bytes: &[u8], r: u32, t: Tally) -> Tally {
+fn cell(sample: &[u8], out: &[u32], bytes: &[u8], r: u32, t: &mut Tally) -> Result<(), AllocError> {
     let kind = t.recorded(sample);
-    let kinded = t.number(sample, kind_of(out, r), b"kind of a cell");
+    t.number(sample, kind_of(out, r), "kind of a cell")?;
     if kind == NUMBER {
-        let low = kinded.number(sample, out_field(out, r, layout::N), b"low word of a cell");
-        return low.number(sample, out_field(out, r, layout::M), b"high word of a cell");
+        t.number(sample, out_field(out, r, layout::N), "low word of a cell")?;
+        return t.number(sample, out_field(out, r, layout::M), "high word of a cell");
     }
-    reference(sample, out, bytes, r, kinded)
+    reference(sample, out, bytes, r, t)
 }
 
 // A label.
-fn label(sample: &[u8], out: &[u32], bytes: &[u8], r: u32, t: Tally) -> Tally {
-    let kinded = t.noted(kind_of(out, r) == LABEL, b"kind of a label");
-    kinded.text(sample, first_text(out, bytes, r), b"label")
+fn label(
+    sample: &[u8],
+    out: &[u32],
+    bytes: &[u8],
+    r: u32,
+    t: &mut Tally,
+) -> Result<(), AllocError> {
+    t.noted(kind_of(out, r) == LABEL, "kind of a label")?;
+    t.text(sample, first_text(out, bytes, r), "label")
 }
 
 // A value.
-fn value(sample: &[u8], out: &[u32], bytes: &[u8], r: u32, t: Tally) -> Tally {
+fn value(
+    sample: &[u8],
+    out: &[u32],
+    bytes: &[u8],
+    r: u32,
+    t: &mut Tally,
+) -> Result<(), AllocError> {
     let kind = t.recorded(sample);
-    let kinded = t.number(sample, kind_of(out, r), b"kind of a value");
+    t.number(sample, kind_of(out, r), "kind of a value")?;
     match kind {
-        STRING => kinded.text(sample, first_text(out, bytes, r), b"string"),
-        BYTESTRING => kinded.text(sample, first_text(out, bytes, r), b"bytestring"),
-        CELL_LIST => kinded.number(
-            sample,
-            out_field(out, r, layout::N),
-            b"width of a cell list",
-        ),
-        _ => reference(sample, out, bytes, r, kinded),
+        STRING => t.text(sample, first_text(out, bytes, r), "string"),
+        BYTESTRING => t.text(sample, first_text(out, bytes, r), "bytestring"),
+        CELL_LIST => t.number(sample, out_field(out, r, layout::N), "width of a cell list"),
+        _ => reference(sample, out, bytes, r, t),
     }
 }
 
 // A definition.
-fn definition(sample: &[u8], out: &[u32], bytes: &[u8], r: u32, t: Tally) -> Tally {
-    let kinded = t.number(sample, kind_of(out, r), b"kind of a definition");
-    let placed = kinded.text(sample, first_text(out, bytes, r), b"path of a definition");
-    let spanned = spans(sample, out, r, placed);
-    spanned.number(sample, out_field(out, r, layout::N), b"omit mark")
+fn definition(
+    sample: &[u8],
+    out: &[u32],
+    bytes: &[u8],
+    r: u32,
+    t: &mut Tally,
+) -> Result<(), AllocError> {
+    t.number(sample, kind_of(out, r), "kind of a definition")?;
+    t.text(sample, first_text(out, bytes, r), "path of a definition")?;
+    spans(sample, out, r, t)?;
+    t.number(sample, out_field(out, r, layout::N), "omit mark")
 }
 
 // An extension, with its reference.
-fn extension(sample: &[u8], out: &[u32], bytes: &[u8], r: u32, t: Tally) -> Tally {
-    let kinded = t.noted(kind_of(out, r) == EXTENSION, b"kind of an extension");
-    let spanned = spans(sample, out, r, kinded);
-    reference(sample, out, bytes, child_of(out, r), spanned)
+fn extension(
+    sample: &[u8],
+    out: &[u32],
+    bytes: &[u8],
+    r: u32,
+    t: &mut Tally,
+) -> Result<(), AllocError> {
+    t.noted(kind_of(out, r) == EXTENSION, "kind of an extension")?;
+    spans(sample, out, r, t)?;
+    reference(sample, out, bytes, child_of(out, r), t)
 }
 
 // A binding.
-fn binding(sample: &[u8], out: &[u32], bytes: &[u8], r: u32, t: Tally) -> Tally {
-    let kinded = t.noted(kind_of(out, r) == BINDING, b"kind of a binding");
-    let labelled = kinded.text(sample, first_text(out, bytes, r), b"label of a binding");
-    let placed = labelled.text(sample, second_text(out, bytes, r), b"path of a binding");
-    span(sample, out, r, placed)
+fn binding(
+    sample: &[u8],
+    out: &[u32],
+    bytes: &[u8],
+    r: u32,
+    t: &mut Tally,
+) -> Result<(), AllocError> {
+    t.noted(kind_of(out, r) == BINDING, "kind of a binding")?;
+    t.text(sample, first_text(out, bytes, r), "label of a binding")?;
+    t.text(sample, second_text(out, bytes, r), "path of a binding")?;
+    span(sample, out, r, t)
 }
 
 // A diagnostic.
-fn diagnostic(sample: &[u8], out: &[u32], bytes: &[u8], r: u32, t: Tally) -> Tally {
-    let kinded = t.noted(kind_of(out, r) == DIAGNOSTIC, b"kind of a diagnostic");
-    let coded = kinded.number(
-        sample,
-        out_field(out, r, layout::N),
-        b"code of a diagnostic",
-    );
-    let told = coded.text(sample, first_text(out, bytes, r), b"text of a diagnostic");
-    spans(sample, out, r, told)
+fn diagnostic(
+    sample: &[u8],
+    out: &[u32],
+    bytes: &[u8],
+    r: u32,
+    t: &mut Tally,
+) -> Result<(), AllocError> {
+    t.noted(kind_of(out, r) == DIAGNOSTIC, "kind of a diagnostic")?;
+    t.number(sample, out_field(out, r, layout::N), "code of a diagnostic")?;
+    t.text(sample, first_text(out, bytes, r), "text of a diagnostic")?;
+    spans(sample, out, r, t)
 }
 
 // What a reference names.
-fn reference(sample: &[u8], out: &[u32], bytes: &[u8], r: u32, t: Tally) -> Tally {
-    let kinded = t.noted(kind_of(out, r) == REFERENCE, b"kind of a reference");
-    let formed = kinded.number(sample, out_field(out, r, layout::N), b"form of a reference");
-    let labelled = formed.text(sample, first_text(out, bytes, r), b"label of a reference");
-    labelled.text(sample, second_text(out, bytes, r), b"path of a reference")
+fn reference(
+    sample: &[u8],
+    out: &[u32],
+    bytes: &[u8],
+    r: u32,
+    t: &mut Tally,
+) -> Result<(), AllocError> {
+    t.noted(kind_of(out, r) == REFERENCE, "kind of a reference")?;
+    t.number(sample, out_field(out, r, layout::N), "form of a reference")?;
+    t.text(sample, first_text(out, bytes, r), "label of a reference")?;
+    t.text(sample, second_text(out, bytes, r), "path of a reference")
 }
 
 // The span and the name span of a record.
-fn spans(sample: &[u8], out: &[u32], r: u32, t: Tally) -> Tally {
-    let spanned = span(sample, out, r, t);
-    let started = spanned.number(
+fn spans(sample: &[u8], out: &[u32], r: u32, t: &mut Tally) -> Result<(), AllocError> {
+    span(sample, out, r, t)?;
+    t.number(
         sample,
         out_field(out, r, layout::NAME_START),
-        b"start of a name span",
-    );
-    started.number(
+        "start of a name span",
+    )?;
+    t.number(
         sample,
         out_field(out, r, layout::NAME_END),
-        b"end of a name span",
+        "end of a name span",
     )
 }
 
 // The span of a record.
-fn span(sample: &[u8], out: &[u32], r: u32, t: Tally) -> Tally {
-    let started = t.number(
+fn span(sample: &[u8], out: &[u32], r: u32, t: &mut Tally) -> Result<(), AllocError> {
+    t.number(
         sample,
         out_field(out, r, layout::SPAN_START),
-        b"start of a span",
-    );
-    started.number(
-        sample,
-        out_field(out, r, layout::SPAN_END),
-        b"end of a span",
-    )
+        "start of a span",
+    )?;
+    t.number(sample, out_field(out, r, layout::SPAN_END), "end of a span")
 }

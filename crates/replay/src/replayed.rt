@@ -1,12 +1,13 @@
 // A case of the sample: its input lowered into buffers of several sizes.
 use crate::log_read::whole_log;
 use crate::queried::asked;
-use crate::recorded::{after_numbers, after_text, read_numbers, text_at};
+use crate::recorded::{after_number, after_numbers, after_text, number_at, read_numbers, text_at};
 use crate::tally::Tally;
-use levels::level::SIGNED;
 use definition_log::answer::{Answer, REFUSED_ROOM};
 use definition_log::layout::RECORD_WORDS;
+use levels::level::SIGNED;
 use lowering::lower::lower;
+use std::alloc::AllocError;
 
 // Replays a case: its words, its text, and what comes of them.
 pub fn replay_case(
@@ -15,13 +16,13 @@ pub fn replay_case(
     out: &mut [u32],
     bytes: &mut [u8],
     list: &mut [u32],
-    t: Tally,
-) -> Tally {
+    t: &mut Tally,
+) -> Result<(), AllocError> {
     let n = read_numbers(sample, t.at, input);
     let at = after_numbers(sample, t.at);
     let text = text_at(sample, at);
-    let made = t.moved(after_text(sample, at));
-    replay_input(sample, &input[..n], text, out, bytes, list, made)
+    t.moved(after_text(sample, at));
+    replay_input(sample, &input[..n], text, out, bytes, list, t)
 }
 
 // Replays an input, in larger buffers first; what is recorded starts with how many records and bytes
@@ -33,13 +34,14 @@ fn replay_input(
     out: &mut [u32],
     bytes: &mut [u8],
     list: &mut [u32],
-    t: Tally,
-) -> Tally {
+    t: &mut Tally,
+) -> Result<(), AllocError> {
+    let start = t.at;
     let records = t.recorded(sample) as usize;
-    let size = t.skipped(sample).recorded(sample) as usize;
-    let larger = replay_log(sample, words, text, out, bytes, t);
-    let again = larger.moved(t.at);
-    replay_rooms(sample, words, text, records, size, out, bytes, list, again)
+    let size = number_at(sample, after_number(sample, start)) as usize;
+    replay_log(sample, words, text, out, bytes, t)?;
+    t.moved(start);
+    replay_rooms(sample, words, text, records, size, out, bytes, list, t)
 }
 
 // Replays an input in buffers that are too small, and in such as are just large enough.
@@ -52,11 +54,11 @@ fn replay_rooms(
     out: &mut [u32],
     bytes: &mut [u8],
     list: &mut [u32],
-    t: Tally,
-) -> Tally {
-    let short = too_small(sample, words, text, records, size, out, bytes, list, t);
+    t: &mut Tally,
+) -> Result<(), AllocError> {
+    too_small(sample, words, text, records, size, out, bytes, list, t)?;
     replay_part(
-        sample, words, text, records, size, true, out, bytes, list, short,
+        sample, words, text, records, size, true, out, bytes, list, t,
     )
 }
 
@@ -70,10 +72,10 @@ fn too_small(
     out: &mut [u32],
     bytes: &mut [u8],
     list: &mut [u32],
-    t: Tally,
-) -> Tally {
-    let fewer = record_short(sample, words, text, records, size, out, bytes, list, t);
-    byte_short(sample, words, text, records, size, out, bytes, list, fewer)
+    t: &mut Tally,
+) -> Result<(), AllocError> {
+    record_short(sample, words, text, records, size, out, bytes, list, t)?;
+    byte_short(sample, words, text, records, size, out, bytes, list, t)
 }
 
 // Replays an input in buffers that are one record short.
@@ -86,10 +88,10 @@ fn record_short(
     out: &mut [u32],
     bytes: &mut [u8],
     list: &mut [u32],
-    t: Tally,
-) -> Tally {
+    t: &mut Tally,
+) -> Result<(), AllocError> {
     if records == 0 {
-        return t;
+        return Ok(());
     }
     replay_part(
         sample,
@@ -115,10 +117,10 @@ fn byte_short(
     out: &mut [u32],
     bytes: &mut [u8],
     list: &mut [u32],
-    t: Tally,
-) -> Tally {
+    t: &mut Tally,
+) -> Result<(), AllocError> {
     if size == 0 {
-        return t;
+        return Ok(());
     }
     replay_part(
         sample,
@@ -145,13 +147,13 @@ fn replay_part(
     out: &mut [u32],
     bytes: &mut [u8],
     list: &mut [u32],
-    t: Tally,
-) -> Tally {
+    t: &mut Tally,
+) -> Result<(), AllocError> {
     if out.len() / RECORD_WORDS < records {
-        return t.noted(false, b"room for records");
+        return t.noted(false, "room for records");
     }
     if bytes.len() < size {
-        return t.noted(false, b"room for bytes");
+        return t.noted(false, "room for bytes");
     }
     let n = records * RECORD_WORDS;
     replay_sized(
@@ -175,8 +177,8 @@ fn replay_sized(
     out: &mut [u32],
     bytes: &mut [u8],
     list: &mut [u32],
-    t: Tally,
-) -> Tally {
+    t: &mut Tally,
+) -> Result<(), AllocError> {
     if enough {
         return replay_whole(sample, words, text, out, bytes, list, t);
     }
@@ -189,21 +191,21 @@ fn replay_refused(
     text: &[u8],
     out: &mut [u32],
     bytes: &mut [u8],
-    t: Tally,
-) -> Tally {
+    t: &mut Tally,
+) -> Result<(), AllocError> {
     let answer = lower_case(words, text, out, bytes);
     refused(answer, out, bytes, t)
 }
 
 // What is answered and left where there is no room.
-fn refused(answer: Answer, out: &[u32], bytes: &[u8], t: Tally) -> Tally {
-    let numbered = t.noted(
+fn refused(answer: Answer, out: &[u32], bytes: &[u8], t: &mut Tally) -> Result<(), AllocError> {
+    t.noted(
         answer.number == REFUSED_ROOM,
-        b"number of an input without room",
-    );
-    let returned = numbered.noted(answer.returned == 0, b"returned of an input without room");
-    let cleared = returned.noted(no_word(out), b"words of an input without room");
-    cleared.noted(no_byte(bytes), b"bytes of an input without room")
+        "number of an input without room",
+    )?;
+    t.noted(answer.returned == 0, "returned of an input without room")?;
+    t.noted(no_word(out), "words of an input without room")?;
+    t.noted(no_byte(bytes), "bytes of an input without room")
 }
 
 // Lowers an input and compares the log and the queries.
@@ -214,10 +216,10 @@ fn replay_whole(
     out: &mut [u32],
     bytes: &mut [u8],
     list: &mut [u32],
-    t: Tally,
-) -> Tally {
-    let read = replay_log(sample, words, text, out, bytes, t);
-    asked(sample, out, bytes, list, read)
+    t: &mut Tally,
+) -> Result<(), AllocError> {
+    replay_log(sample, words, text, out, bytes, t)?;
+    asked(sample, out, bytes, list, t)
 }
 
 // Lowers an input and compares the log.
@@ -227,17 +229,23 @@ fn replay_log(
     text: &[u8],
     out: &mut [u32],
     bytes: &mut [u8],
-    t: Tally,
-) -> Tally {
+    t: &mut Tally,
+) -> Result<(), AllocError> {
     let answer = lower_case(words, text, out, bytes);
     lowered(sample, answer, out, bytes, t)
 }
 
 // What is answered and left where there is room.
-fn lowered(sample: &[u8], answer: Answer, out: &[u32], bytes: &[u8], t: Tally) -> Tally {
-    let numbered = t.noted(answer.number == 0, b"number of an input");
-    let returned = numbered.noted(answer.returned == 0, b"returned of an input");
-    whole_log(sample, out, bytes, returned)
+fn lowered(
+    sample: &[u8],
+    answer: Answer,
+    out: &[u32],
+    bytes: &[u8],
+    t: &mut Tally,
+) -> Result<(), AllocError> {
+    t.noted(answer.number == 0, "number of an input")?;
+    t.noted(answer.returned == 0, "returned of an input")?;
+    whole_log(sample, out, bytes, t)
 }
 
 // Lowers an input.

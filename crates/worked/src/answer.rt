@@ -8,198 +8,214 @@ use paths_numbers::dt_property::BitsSize;
 use paths_numbers::text::equals;
 use paths_numbers::{dt_node, dt_property, expr_eval, mir, operators, phandle};
 use slashes::slash::{Found, next_slash};
+use std::io;
+use std::io::Write;
 
 // Prints the answer to a case of this kind.
-pub fn answer(kind: &[u8], a: &[u8], b: &[u8], c: &[u8]) {
+pub fn answer<W: Write>(out: &mut W, kind: &[u8], a: &[u8], b: &[u8], c: &[u8]) -> io::Result<()> {
     if equals(kind, b"strip") {
-        return strip(a, b);
+        return strip(out, a, b);
     }
     if equals(kind, b"join") {
-        return join(a, b);
+        return join(out, a, b);
     }
     if equals(kind, b"path") {
-        return number(mir::good_path(a) as u64);
+        return number(out, mir::good_path(a) as u64);
     }
     if equals(kind, b"slash") {
-        return slash(a, small_of(b));
+        return slash(out, a, small_of(b));
     }
     if equals(kind, b"bytes") {
-        return bytes(a);
+        return bytes(out, a);
     }
     if equals(kind, b"ref") {
-        return reference(a);
+        return reference(out, a);
     }
     if equals(kind, b"box") {
-        return box_number(a);
+        return box_number(out, a);
     }
     if equals(kind, b"packed") {
-        return packed(small_of(a) as usize, unsigned_of(b, BitsSize::Bits64));
+        return packed(out, small_of(a) as usize, unsigned_of(b, BitsSize::Bits64));
     }
-    answer_number(kind, a, b, c)
+    answer_number(out, kind, a, b, c)
 }
 
 // The kinds of cases about numbers.
-fn answer_number(kind: &[u8], a: &[u8], b: &[u8], c: &[u8]) {
+fn answer_number<W: Write>(
+    out: &mut W,
+    kind: &[u8],
+    a: &[u8],
+    b: &[u8],
+    c: &[u8],
+) -> io::Result<()> {
     if equals(kind, b"i64") {
-        return signed(a);
+        return signed(out, a);
     }
     if equals(kind, b"width") {
-        return width(a);
+        return width(out, a);
     }
     if equals(kind, b"cell") {
-        return cell(dt_property::expr_cell(value_of(b), size_of(a)));
+        return cell(out, dt_property::expr_cell(value_of(b), size_of(a)));
     }
     if equals(kind, b"char") {
-        return cell(dt_property::char_cell(small_of(b), size_of(a)));
+        return cell(out, dt_property::char_cell(small_of(b), size_of(a)));
     }
     if equals(kind, b"prefix") {
-        return evaluated(operators::eval_prefix(small_of(a), value_of(b)));
+        return evaluated(out, operators::eval_prefix(small_of(a), value_of(b)));
     }
     if equals(kind, b"infix") {
-        return evaluated(operators::eval_infix(small_of(a), value_of(b), value_of(c)));
+        return evaluated(
+            out,
+            operators::eval_infix(small_of(a), value_of(b), value_of(c)),
+        );
     }
     if 1 <= kind.len() {
-        unsigned(a, size_of(&kind[1..]));
+        return unsigned(out, a, size_of(&kind[1..]));
     }
+    Ok(())
 }
 
 // What stripping a base finds, or -.
-fn strip(path: &[u8], base: &[u8]) {
+fn strip<W: Write>(out: &mut W, path: &[u8], base: &[u8]) -> io::Result<()> {
     if mir::lies_under(path, base) {
-        equal_sign();
-        return print_text(mir::strip_base(path, base));
+        equal_sign(out)?;
+        return print_text(out, mir::strip_base(path, base));
     }
-    print(b"-");
+    print(out, b"-")
 }
 
 // The first "/" from a place on, or -.
-fn slash(path: &[u8], from: u32) {
+fn slash<W: Write>(out: &mut W, path: &[u8], from: u32) -> io::Result<()> {
     let found = next_slash(path, from as usize);
     match found {
-        Found::At(k) => number(k as u64),
-        Found::Nothing => print(b"-"),
+        Found::At(k) => number(out, k as u64),
+        Found::Nothing => print(out, b"-"),
     }
 }
 
 // The path of a parent and a name.
-fn join(parent: &[u8], name: &[u8]) {
-    let mut out = [0u8; 2 * FIELD + 1];
+fn join<W: Write>(out: &mut W, parent: &[u8], name: &[u8]) -> io::Result<()> {
+    let mut room = [0u8; 2 * FIELD + 1];
     let none = &name[name.len()..];
-    let built = dt_node::build_path(parent, name, none, &mut out, 0);
+    let built = dt_node::build_path(parent, name, none, &mut room, 0);
     if let dt_node::Built::Bytes(n) = built {
-        equal_sign();
-        print_text(first(&out, n));
+        equal_sign(out)?;
+        return print_text(out, first(&room, n));
     }
+    Ok(())
 }
 
 // The bytes of a bytestring in hex digits.
-fn bytes(text: &[u8]) {
-    let mut out = [0u8; FIELD];
-    let written = dt_property::lower_bytestring(text, &mut out, 0);
+fn bytes<W: Write>(out: &mut W, text: &[u8]) -> io::Result<()> {
+    let mut room = [0u8; FIELD];
+    let written = dt_property::lower_bytestring(text, &mut room, 0);
     match written {
         dt_property::BytesWritten::Bytes(n) => {
-            equal_sign();
-            print_hex(first(&out, n));
+            equal_sign(out)?;
+            print_hex(out, first(&room, n))
         }
         dt_property::BytesWritten::MissingDigit => {
-            code(dt_property::count_code(dt_property::ByteCount::MissingDigit))
+            code(
+                out,
+                dt_property::count_code(dt_property::ByteCount::MissingDigit),
+            )
         }
-        dt_property::BytesWritten::NoRoom => print(b"?"),
+        dt_property::BytesWritten::NoRoom => print(out, b"?"),
     }
 }
 
 // What a raw reference names.
-fn reference(raw: &[u8]) {
+fn reference<W: Write>(out: &mut W, raw: &[u8]) -> io::Result<()> {
     let target = phandle::lower_phandle(raw);
     match target {
         phandle::MirPhandleTarget::Label => {
-            print(b"label=");
-            print_text(phandle::phandle_label(raw));
+            print(out, b"label=")?;
+            print_text(out, phandle::phandle_label(raw))
         }
         phandle::MirPhandleTarget::LabelPath => {
-            print(b"labelpath=");
-            print_text(phandle::phandle_label(raw));
-            print(b"|");
-            print_text(phandle::phandle_path(raw));
+            print(out, b"labelpath=")?;
+            print_text(out, phandle::phandle_label(raw))?;
+            print(out, b"|")?;
+            print_text(out, phandle::phandle_path(raw))
         }
         phandle::MirPhandleTarget::Path => {
-            print(b"path=");
-            print_text(phandle::phandle_path(raw));
+            print(out, b"path=")?;
+            print_text(out, phandle::phandle_path(raw))
         }
-        phandle::MirPhandleTarget::Unreadable => print(b"!"),
+        phandle::MirPhandleTarget::Unreadable => print(out, b"!"),
     }
 }
 
 // The box number that bytes hold.
-fn box_number(bytes: &[u8]) {
+fn box_number<W: Write>(out: &mut W, bytes: &[u8]) -> io::Result<()> {
     let read = read_box(bytes);
     if read.number == SUCCESS {
-        return number(read.value);
+        return number(out, read.value);
     }
-    code(read.number)
+    code(out, read.number)
 }
 
 // A box number in so many bytes, in hex digits.
-fn packed(n: usize, value: u64) {
+fn packed<W: Write>(out: &mut W, n: usize, value: u64) -> io::Result<()> {
     let mut room = [0u8; FIELD];
     if n <= FIELD {
-        return write_packed(n, value, &mut room);
+        return write_packed(out, n, value, &mut room);
     }
-    print(b"?");
+    print(out, b"?")
 }
 
 // Writes a box number into the first bytes of a buffer and prints them.
-fn write_packed(n: usize, value: u64, room: &mut [u8])
+fn write_packed<W: Write>(out: &mut W, n: usize, value: u64, room: &mut [u8]) -> io::Result<()>
     requires { n ≤ length room.old }
 {
-    let out = &mut room[..n];
-    let done = write_box(value, out);
+    let bytes = &mut room[..n];
+    let done = write_box(value, bytes);
     if done.number == SUCCESS {
-        equal_sign();
-        return print_hex(out);
+        equal_sign(out)?;
+        return print_hex(out, bytes);
     }
-    code(done.number)
+    code(out, done.number)
 }
 
 // A number's reading at an unsigned width.
-fn unsigned(text: &[u8], size: BitsSize) {
+fn unsigned<W: Write>(out: &mut W, text: &[u8], size: BitsSize) -> io::Result<()> {
     let parsed = expr_eval::parse_int_tok(text, size);
     match parsed {
-        expr_eval::ParsedInt::Value(n) => number(n),
-        expr_eval::ParsedInt::Failed(e) => code(expr_eval::int_code(e)),
+        expr_eval::ParsedInt::Value(n) => number(out, n),
+        expr_eval::ParsedInt::Failed(e) => code(out, expr_eval::int_code(e)),
     }
 }
 
 // A number's signed reading.
-fn signed(text: &[u8]) {
+fn signed<W: Write>(out: &mut W, text: &[u8]) -> io::Result<()> {
     let parsed = expr_eval::parse_int_tok_i64(text);
     match parsed {
-        expr_eval::ParsedI64::Value(n) => integer(n),
-        expr_eval::ParsedI64::Failed(e) => code(expr_eval::int_code(e)),
+        expr_eval::ParsedI64::Value(n) => integer(out, n),
+        expr_eval::ParsedI64::Failed(e) => code(out, expr_eval::int_code(e)),
     }
 }
 
 // A cell list's width.
-fn width(text: &[u8]) {
+fn width<W: Write>(out: &mut W, text: &[u8]) -> io::Result<()> {
     let read = BitsSize::from_token(text);
     match read {
-        dt_property::SizeRead::Size(size) => number(size.bits() as u64),
-        _ => code(dt_property::size_code(read)),
+        dt_property::SizeRead::Size(size) => number(out, size.bits() as u64),
+        _ => code(out, dt_property::size_code(read)),
     }
 }
 
-fn cell(c: dt_property::Cell) {
+fn cell<W: Write>(out: &mut W, c: dt_property::Cell) -> io::Result<()> {
     match c {
-        dt_property::Cell::Number(n) => number(n),
-        _ => code(dt_property::cell_code(c)),
+        dt_property::Cell::Number(n) => number(out, n),
+        _ => code(out, dt_property::cell_code(c)),
     }
 }
 
-fn evaluated(e: operators::Evaluated) {
+fn evaluated<W: Write>(out: &mut W, e: operators::Evaluated) -> io::Result<()> {
     match e {
-        operators::Evaluated::Value(n) => integer(n),
-        operators::Evaluated::Missing => print(b"!"),
-        _ => code(operators::eval_code(e)),
+        operators::Evaluated::Value(n) => integer(out, n),
+        operators::Evaluated::Missing => print(out, b"!"),
+        _ => code(out, operators::eval_code(e)),
     }
 }
 
@@ -240,60 +256,52 @@ fn unsigned_of(text: &[u8], size: BitsSize) -> u64 {
     0
 }
 
-fn equal_sign() {
-    print(b"=");
+fn equal_sign<W: Write>(out: &mut W) -> io::Result<()> {
+    print(out, b"=")
 }
 
-fn code(n: u32) {
-    print(b"!");
-    io::print_decimal(1, n as u64);
+fn code<W: Write>(out: &mut W, n: u32) -> io::Result<()> {
+    print(out, b"!")?;
+    write!(out, "{n}")
 }
 
-fn number(n: u64) {
-    equal_sign();
-    io::print_decimal(1, n);
+fn number<W: Write>(out: &mut W, n: u64) -> io::Result<()> {
+    equal_sign(out)?;
+    write!(out, "{n}")
 }
 
-fn integer(n: i64) {
-    equal_sign();
+fn integer<W: Write>(out: &mut W, n: i64) -> io::Result<()> {
+    equal_sign(out)?;
     if n < 0 {
-        print(b"-");
+        print(out, b"-")?;
     }
-    io::print_decimal(1, operators::size(n));
+    let size = operators::size(n);
+    write!(out, "{size}")
 }
 
-fn print(s: &[u8]) {
-    io::write_all(1, s);
+fn print<W: Write>(out: &mut W, s: &[u8]) -> io::Result<()> {
+    out.write_all(s)
 }
 
 // A text, other bytes than the printable ones as \xHH.
-fn print_text(s: &[u8]) {
-    let mut i = 0;
-    while i < s.len() {
-        print_byte(s[i]);
-        i += 1;
+fn print_text<W: Write>(out: &mut W, s: &[u8]) -> io::Result<()> {
+    for b in s {
+        print_byte(out, *b)?;
     }
+    Ok(())
 }
 
 // A byte, as \xHH where it is not printable or a backslash.
-fn print_byte(b: u8) {
+fn print_byte<W: Write>(out: &mut W, b: u8) -> io::Result<()> {
     if b < 32 || 126 < b || b == b'\\' {
-        print(b"\\x");
-        io::print_hex(1, wide(b), 2);
-        return;
+        return write!(out, "\\x{b:02x}");
     }
-    let one = [b];
-    print(&one);
+    print(out, &[b])
 }
 
-fn print_hex(s: &[u8]) {
-    let mut i = 0;
-    while i < s.len() {
-        io::print_hex(1, wide(s[i]), 2);
-        i += 1;
+fn print_hex<W: Write>(out: &mut W, s: &[u8]) -> io::Result<()> {
+    for b in s {
+        write!(out, "{b:02x}")?;
     }
-}
-
-fn wide(b: u8) -> u64 {
-    b as u64
+    Ok(())
 }

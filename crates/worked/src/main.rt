@@ -6,27 +6,36 @@ mod answer;
 mod field;
 
 use field::{FIELD, first};
+use full_reads::read_full;
+use std::io;
+use std::io::{BufWriter, Write};
 
-fn main() {
-    let mut input = io::large_buffer();
-    let n = io::read_full(0, &mut input);
-    print_lines(&input[..n]);
+// How many bytes of standard input are read.
+const MOST_INPUT: usize = 65536;
+
+fn main(rt: HostRuntime) -> io::Result<()> {
+    let mut input = [0u8; MOST_INPUT];
+    let n = read_full(&mut rt.reader(), &mut input)?;
+    let mut out = BufWriter::new(rt.alloc(), io::writer(&rt))?;
+    print_lines(&mut out, &input[..n])?;
+    out.flush()
 }
 
 // Prints each line with its answer.
-fn print_lines(text: &[u8]) {
+fn print_lines<W: Write>(out: &mut W, text: &[u8]) -> io::Result<()> {
     let mut at = 0;
     while at < text.len() {
         let end = field::end_of(text, at, b'\n');
-        print_case(&text[at..end]);
+        print_case(out, &text[at..end])?;
         at = end + 1;
     }
+    Ok(())
 }
 
 // Prints a line with its answer.
-fn print_case(line: &[u8]) {
-    io::write_all(1, line);
-    io::write_all(1, b"\t");
+fn print_case<W: Write>(out: &mut W, line: &[u8]) -> io::Result<()> {
+    out.write_all(line)?;
+    out.write_all(b"\t")?;
     let mut a = [0u8; FIELD];
     let mut b = [0u8; FIELD];
     let mut c = [0u8; FIELD];
@@ -34,6 +43,6 @@ fn print_case(line: &[u8]) {
     let m = field::unescape(field::field(line, 2), &mut b);
     let n = field::unescape(field::field(line, 3), &mut c);
     let kind = field::field(line, 0);
-    answer::answer(kind, first(&a, k), first(&b, m), first(&c, n));
-    io::write_all(1, b"\n");
+    answer::answer(out, kind, first(&a, k), first(&b, m), first(&c, n))?;
+    out.write_all(b"\n")
 }
