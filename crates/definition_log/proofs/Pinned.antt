@@ -19,7 +19,7 @@ use Rattle.definition_log.specs.meaning.ReadBack.{chain_of, span_at, name_span_a
 use Rattle.definition_log.specs.meaning.ReadBack.{def_value_at, def_at, read_defs, ext_target, ext_at, read_exts, binding_at, read_bindings, diag_at}
 use Rattle.definition_log.specs.meaning.ReadBack.{read_diags, Log, read_log}
 use Rattle.definition_log.specs.meaning.Sound.{Place, definitions, extensions, bindings, diagnostics, labels, values, cells, references, kinds_in}
-use Rattle.definition_log.specs.meaning.Sound.{below, followed, times_reached, sound, lowest_fault}
+use Rattle.definition_log.specs.meaning.Sound.{followed, times_reached, sound, lowest_fault}
 use Rattle.files.specs.meaning.Files.{file_of}
 use Rattle.definition_log.specs.meaning.Record.{span_start, name_start}
 use Rattle.definition_log.specs.meaning.Written.{has_text, has_second_text, has_n, has_m, named, Kept, Written}

@@ -1,5 +1,5 @@
 -- 02, request 3, in its smallest cases: the checker computes them.
-use Rattle.std.specs.Prelude.{ℕ, ◌-◌, ◌^◌, ◌≡◌, refl, true, false, List, [], ◌∷◌, ◌++◌}
+use Rattle.std.specs.Prelude.{ℕ, ◌≡◌, refl, true, false, List, [], ◌∷◌, ◌++◌}
 use Rattle.files.specs.meaning.Files.{rises, good_files, last_from, file_of}
 
 -- with starts 0 and 5, place 4 is in file 0, 5 and the last place in file 1

@@ -1,5 +1,4 @@
 use Rattle.definition_log.proofs.Search.{walk_starts, walk_all, walk_end, walk_done, walk_next}
-use Prim.Native.Nat.{◌-◌}
 use mathlib.Core.Path.{refl, ◌∙◌}
 use native.Mathlib.Omega.{arith}
 use Rattle.definition_log.proofs.sound.walk.Goals as goal

@@ -1,4 +1,4 @@
-use Rattle.std.proofs.Common.{◌-◌, length, sym, refl, ◌∙◌, arith, rules}
+use Rattle.std.proofs.Common.{length, sym, refl, ◌∙◌, arith, rules}
 use Rattle.paths_numbers.specs.meaning.Path.{joined, largest_usize}
 use Rattle.paths_numbers.proofs.Texts.{begins_short, differs, agrees, agreed}
 use Rattle.paths_numbers.proofs.Lengths.{cut_le, uncut}

@@ -1,4 +1,4 @@
-use Rattle.std.proofs.Common.{◌-◌, refl, add-zero, arith, length-set, rules}
+use Rattle.std.proofs.Common.{refl, add-zero, arith, length-set, rules}
 use Rattle.paths_numbers.specs.meaning.Path.{joined}
 use Rattle.paths_numbers.proofs.Written.{written_byte, written_all}
 use Rattle.paths_numbers.proofs.dt_node.write_path.Goals as goal

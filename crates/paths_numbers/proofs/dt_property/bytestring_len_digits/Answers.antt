@@ -1,4 +1,4 @@
-use Rattle.std.proofs.Common.{◌-◌, length, ap, arith}
+use Rattle.std.proofs.Common.{length, ap, arith}
 use Rattle.paths_numbers.proofs.Bytestring.{nibbles_stop, nibbles_skip, nibbles_digit, nibbles_done}
 use Rattle.paths_numbers.proofs.dt_property.bytestring_len_digits.Goals as goal
 use Rattle.paths_numbers.proofs.dt_property.bytestring_len_digits.Goals.{then-digit-lt16, else-digit-lt16}

@@ -1,4 +1,4 @@
-use Rattle.std.proofs.Common.{◌-◌, length, refl, ap, ◌∙◌, arith, length-set, rules}
+use Rattle.std.proofs.Common.{length, refl, ap, ◌∙◌, arith, length-set, rules}
 use Rattle.paths_numbers.proofs.Bytestring.{nibbles_stop, nibbles_skip, nibbles_digit, nibbles_done, left_start}
 use Rattle.paths_numbers.proofs.Bytestring.{left_end, left_skip, left_wait, left_pair, write_room, write_pair, write_end}
 use Rattle.paths_numbers.proofs.dt_property.write_nibbles.Goals as goal

@@ -1,4 +1,4 @@
-use Rattle.std.proofs.Common.{◌-◌, arith}
+use Rattle.std.proofs.Common.{arith}
 use Rattle.paths_numbers.proofs.Digits.{bad, large, good, done, above, below}
 use Rattle.paths_numbers.proofs.expr_eval.read_digits.Goals as goal
 

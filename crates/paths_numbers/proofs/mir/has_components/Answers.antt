@@ -1,4 +1,4 @@
-use Rattle.std.proofs.Common.{◌-◌, refl, arith}
+use Rattle.std.proofs.Common.{refl, arith}
 use Rattle.paths_numbers.specs.meaning.Path.{components}
 use Rattle.paths_numbers.proofs.Texts.{no_byte}
 use Rattle.paths_numbers.proofs.Good.{first_byte, next_byte, were_doubled, at_end}

@@ -1,4 +1,4 @@
-use Rattle.std.proofs.Common.{◌-◌, sym, refl, arith}
+use Rattle.std.proofs.Common.{sym, refl, arith}
 use Rattle.paths_numbers.specs.meaning.Text.{begins}
 use Rattle.paths_numbers.proofs.Texts.{no_byte, begins_short, begins_differs, compared, compared_all}
 use Rattle.paths_numbers.proofs.text.starts_with.Goals as goal

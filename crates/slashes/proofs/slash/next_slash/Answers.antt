@@ -1,7 +1,5 @@
-use Prim.Native.Nat.{◌-◌}
 use mathlib.Core.Path.{sym, ◌∙◌, refl}
 use native.Mathlib.Omega.{arith}
-use lib.Count.{trailing_le}
 use Rattle.slashes.proofs.Search.{done, marked_hit, marked_missed}
 use Rattle.slashes.proofs.slash.next_slash.Goals as goal
 

@@ -1,6 +1,5 @@
 -- The marks are those of each byte by itself.
-use lib.Dec.{lit<}
-use Rattle.slashes.proofs.Marks.{marks_word, sum_fits}
+use Rattle.slashes.proofs.Marks.{marks_word}
 use Rattle.slashes.proofs.slash.slash_marks.Goals as goal
 
 -- LOST add-result c = record { fits = search (sum_fits, lit<, tt) }
