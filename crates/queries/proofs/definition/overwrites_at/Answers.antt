@@ -1,9 +1,9 @@
 -- By whether the kind is that of a property or a deleted property.
 use mathlib.Core.Path.{◌∙◌}
-use mathlib.Core.Logic.{⊎_elim}
 use borrow.Author.Tests.{eq-eqb, ne_eqb}
 use Rattle.queries.proofs.Records.{overwrites_at}
 use Rattle.queries.proofs.definition.overwrites_at.Goals as goal
+use Rattle.queries.proofs.definition.overwrites_at.Goals.{then-kind-ne-PROPERTY+else-kind-ne-DELETED_PROPERTY, else-kind-ne-PROPERTY}
 
 pub returns-then-kind-ne-DELETED_PROPERTY : goal.returns-then-kind-ne-DELETED_PROPERTY
 returns-then-kind-ne-DELETED_PROPERTY c =
@@ -18,10 +18,10 @@ returns c =
     ∙ rw (
       overwrites_at a.words.now a.bytes.now a.r a.path.now,
       c.first_text.ensures,
-      ←
-          c.kind_of-kind.ensures,
+      ← c.kind_of-kind.ensures,
     )
-    (⊎_elim
-    (λ w. simp (ne_eqb _ _ w.0.taken, eq-eqb _ _ w.1.left))
-    (λ w. simp (eq-eqb _ _ w.left))
-    c.if-kind-ne-PROPERTY.branch)
+    (elim c.if-kind-ne-PROPERTY.branch [
+      | then-kind-ne-PROPERTY+else-kind-ne-DELETED_PROPERTY w ↦
+          simp (ne_eqb _ _ w.if-kind-ne-PROPERTY.true, eq-eqb _ _ w.if-kind-ne-DELETED_PROPERTY.false)
+      | else-kind-ne-PROPERTY w ↦ simp (eq-eqb _ _ w.if-kind-ne-PROPERTY.false)
+    ])

@@ -25,7 +25,7 @@ slice_bounds-fit-end c =
     let m = history_most (def_at a.words.now a.bytes.now) false a.path.now (chain_of a.words.now a.first) in
     let n = chain_most a.words.now a.first in
     let h = c.history_of-count in
-    omega (arith, m, n, h.ensures.0, h.auto.1.1.1.1.0, s.requires)
+    omega (arith, m, n, h.ensures.value, h.auto.found, s.requires)
 
 pub slice_bounds-fit-end-2 : goal.slice_bounds-fit-end-2
 slice_bounds-fit-end-2 c =
@@ -34,14 +34,14 @@ slice_bounds-fit-end-2 c =
     let m = history_most (def_at a.words.now a.bytes.now) false a.path.now (chain_of a.words.now a.first) in
     let n = chain_most a.words.now a.first in
     let h = c.history_of-count in
-    sym (length-take-le _ _ (omega (arith, m, n, h.ensures.0, h.auto.1.1.1.1.0, s.requires)))
+    sym (length-take-le _ _ (omega (arith, m, n, h.ensures.value, h.auto.found, s.requires)))
 
 pub overflow_cast-result : goal.overflow_cast-result
 overflow_cast-result c =
     let a = c.args in
     let m = history_most (def_at a.words.now a.bytes.now) false a.path.now (chain_of a.words.now a.first) in
     let h = c.history_of-count in
-    omega (arith, h.ensures.0, m, chain_most a.words.now a.first, count_most a.words.now)
+    omega (arith, h.ensures.value, m, chain_most a.words.now a.first, count_most a.words.now)
 
 pub returns : goal.returns
 returns c =
@@ -49,5 +49,5 @@ returns c =
     let h = c.history_of-count in
     let f = c.fit in
     let e = collected_part a.found.now (history_numbers (def_at a.words.now a.bytes.now) false a.path.now
-    (chain_of a.words.now a.first)) _ h.result h.ensures.1 h.ensures.0 in
-    (h.ensures.0, f.ensures ∙ ap (fitted a.list.now) e)
+    (chain_of a.words.now a.first)) _ h.result h.ensures.found_after h.ensures.value in
+    (h.ensures.value, f.ensures ∙ ap (fitted a.list.now) e)

@@ -41,4 +41,4 @@ bounds-heads-slot-2 c =
     )
 
 pub returns : goal.returns
-returns c = rw c.slot_of-slot.ensures (refl, refl)
+returns c = rw c.slot_of-slot.ensures (record { heads_after = refl; links_after = refl })

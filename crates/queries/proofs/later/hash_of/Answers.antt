@@ -1,5 +1,6 @@
 use Prim.Native.Nat.{◌-◌}
-use native.Mathlib.Omega.{arith}
+use Rattle.std.proofs.Common.{rules, arith}
+use Rattle.queries.specs.machine.Table.{hash_from}
 use Rattle.queries.proofs.Fronts.{hash_step, hash_end}
 use Rattle.queries.proofs.later.hash_of.Goals as goal
 
@@ -14,3 +15,7 @@ returns c =
     let a = c.args in
     let l = c.loop-i in
     hash_end a.path.now l.i l.h l.invariant.1 (omega arith)
+
+pub loop-i-init : goal.loop-i-init
+unfolding hash_from
+loop-i-init c = search rules

@@ -25,7 +25,7 @@ bounds-heads-slot c =
     )
 
 pub finds-requires : goal.finds-requires
-finds-requires c = rw c.slot_of-slot.ensures (
-  c.requires.holds,
-  c.requires.sized.1,
-)
+finds-requires c = rw c.slot_of-slot.ensures (record {
+  holds = c.requires.holds;
+  later_in_bounds = c.requires.sized.1;
+})

@@ -2,7 +2,6 @@ use Prim.Native.Nat.{ℕ, ◌-◌}
 use mathlib.Core.Path.{◌≡◌, refl, sym, ◌∙◌}
 use mathlib.Core.Bool.{Bool}
 use mathlib.Core.List.{map}
-use mathlib.Core.Logic.{⊎_elim}
 use native.Mathlib.Omega.{arith}
 use lib.Seq.{length-take-le}
 use Rattle.definition_log.specs.meaning.ReadBack.{def_at}
@@ -11,6 +10,7 @@ use Rattle.queries.specs.declared.later.Above.{Above}
 use Rattle.queries.proofs.Fronts.{deleted_in, above_start, above_slash, above_pass, above_end, hash_step, hash_end}
 use borrow.Author.Rules.{rules}
 use Rattle.queries.proofs.later.look_above.Goals as goal
+use Rattle.queries.proofs.later.look_above.Goals.{then-path-i-eq47, else-path-i-eq47}
 
 -- both parts of the answer
 parts : (d e : Bool) (h k : ℕ) → d ≡ e → h ≡ k → ◌≡◌ {A = Above} (record { deleted = d; hash = h }) (record { deleted = e; hash = k })
@@ -34,7 +34,7 @@ slice_bounds-or_deleted-end c = sym (length-take-le _
 pub or_deleted-deleted-requires : goal.or_deleted-deleted-requires
 or_deleted-deleted-requires c =
 
-    (c.requires.deleted, (c.requires.sized, c.loop-i.invariant.1))
+    record { deleted = c.requires.deleted; sized = c.requires.sized; hash_value = c.loop-i.invariant.1 }
 
 pub loop-i-preserved : goal.loop-i-preserved
 loop-i-preserved c =
@@ -42,12 +42,12 @@ loop-i-preserved c =
     let l = c.loop-i in (
       omega arith,
       hash_step a.path.now l.i l.hash l.invariant.1 (omega arith) _ c.mix-hash.ensures,
-      ⊎_elim
-          (λ w. above_slash (deleted_in (map (def_at a.words.now a.bytes.now) a.later.now)) a.path.now l.i l.deleted _
-          l.invariant.2 (omega arith) w.0.taken _ (w.3 ∙ w.2.ensures))
-          (λ w. rw w.1 (above_pass (deleted_in (map (def_at a.words.now a.bytes.now) a.later.now)) a.path.now l.i
-          l.deleted _ l.invariant.2 (omega arith) w.0.left))
-          c.if-path-i-eq47.branch,
+      elim c.if-path-i-eq47.branch [
+          | then-path-i-eq47 w ↦ above_slash (deleted_in (map (def_at a.words.now a.bytes.now) a.later.now)) a.path.now l.i l.deleted _
+          l.invariant.2 (omega arith) w.if-path-i-eq47.true _ (w.deleted-is ∙ w.or_deleted-deleted.ensures)
+          | else-path-i-eq47 w ↦ rw w.deleted-is (above_pass (deleted_in (map (def_at a.words.now a.bytes.now) a.later.now)) a.path.now l.i
+          l.deleted _ l.invariant.2 (omega arith) w.if-path-i-eq47.false)
+          ],
     )
 
 pub or_deleted-requires : goal.or_deleted-requires
@@ -55,7 +55,7 @@ or_deleted-requires c =
     let a = c.args in
     let l = c.loop-i in
 
-    (c.requires.deleted, (c.requires.sized, hash_end a.path.now l.i l.hash l.invariant.1 (omega arith)))
+    record { deleted = c.requires.deleted; sized = c.requires.sized; hash_value = hash_end a.path.now l.i l.hash l.invariant.1 (omega arith) }
 
 pub returns : goal.returns
 returns c =

@@ -6,7 +6,7 @@ use Rattle.queries.proofs.later.or_deleted.Goals as goal
 pub holds-requires : goal.holds-requires
 holds-requires c =
     let a = c.args in record {holds = deleted_by (def_at a.words.now a.bytes.now) a.heads.now a.links.now a.later.now a.path.now a.hash c.requires.deleted
-          c.requires.sized.1; sized = c.requires.sized.0; }
+          c.requires.hash_value; sized = c.requires.sized; }
 
 pub returns : goal.returns
 returns c = rw c.if-found.false c.holds.ensures

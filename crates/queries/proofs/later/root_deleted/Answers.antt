@@ -22,7 +22,7 @@ or_deleted-requires c =
     let a = c.args in
 
     let f = first_slash a.path.now c.if-path-eq0.false c.if-path-ne47.false in
-    (c.requires.deleted, (c.requires.sized, rw f.1 (sym root_hash)))
+    record { deleted = c.requires.deleted; sized = c.requires.sized; hash_value = rw f.1 (sym root_hash) }
 
 pub returns : goal.returns
 returns c =

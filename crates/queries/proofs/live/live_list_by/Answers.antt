@@ -19,7 +19,7 @@ slice_bounds-live_of-end c =
     let p = c.requires in
     let o = c.chain_order-n in
     let n = chain_most a.words.now a.first in
-    omega (arith, n, o.ensures.0, o.auto.1.1.0, p.for_order)
+    omega (arith, n, o.ensures.value, o.auto.order, p.for_order)
 
 pub slice_bounds-live_of-end-2 : goal.slice_bounds-live_of-end-2
 slice_bounds-live_of-end-2 c =
@@ -27,7 +27,7 @@ slice_bounds-live_of-end-2 c =
     let p = c.requires in
     let o = c.chain_order-n in
     let n = chain_most a.words.now a.first in
-    sym (length-take-le o.result _ (omega (arith, n, o.ensures.0, o.auto.1.1.0, p.for_order)))
+    sym (length-take-le o.result _ (omega (arith, n, o.ensures.value, o.auto.order, p.for_order)))
 
 pub live_of-count-requires : goal.live_of-count-requires
 live_of-count-requires c =
@@ -35,8 +35,8 @@ live_of-count-requires c =
     let p = c.requires in
     let o = c.chain_order-n in
     let n = chain_most a.words.now a.first in
-    let e = ap (take o.result) o.ensures.1 ∙ written_start a.order.now (chain_of a.words.now a.first) o.result
-    o.ensures.0 in
+    let e = ap (take o.result) o.ensures.order_after ∙ written_start a.order.now (chain_of a.words.now a.first) o.result
+    o.ensures.value in
     room_part (log_count a.words.now) a.order.now a.heads.now a.links.now a.live.now _ p (omega (arith, n, ap length e))
 
 pub slice_bounds-fit-end : goal.slice_bounds-fit-end
@@ -46,11 +46,11 @@ slice_bounds-fit-end c =
     let o = c.chain_order-n
     in
     let v = c.live_of-count in
-    let q = rw (collected_part a.order.now (chain_of a.words.now a.first) _ o.result o.ensures.1 o.ensures.0) at
+    let q = rw (collected_part a.order.now (chain_of a.words.now a.first) _ o.result o.ensures.order_after o.ensures.value) at
     v.ensures in
     let m = live_most (def_at a.words.now a.bytes.now) a.base.now (chain_of a.words.now a.first) in
     let n = chain_most a.words.now a.first in
-    omega (arith, q.0, m, n, o.ensures.0, v.auto.1.1.1.1.1.1.0, s.requires.for_live)
+    omega (arith, q.value, m, n, o.ensures.value, v.auto.live, s.requires.for_live)
 
 pub slice_bounds-fit-end-2 : goal.slice_bounds-fit-end-2
 slice_bounds-fit-end-2 c =
@@ -58,30 +58,30 @@ slice_bounds-fit-end-2 c =
     let a = s.args in
     let o = c.chain_order-n in
     let v = c.live_of-count in
-    let q = rw (collected_part a.order.now (chain_of a.words.now a.first) _ o.result o.ensures.1 o.ensures.0) at
+    let q = rw (collected_part a.order.now (chain_of a.words.now a.first) _ o.result o.ensures.order_after o.ensures.value) at
     v.ensures in
     let m = live_most (def_at a.words.now a.bytes.now) a.base.now (chain_of a.words.now a.first) in
     let n = chain_most a.words.now a.first in
-    sym (length-take-le _ _ (omega (arith, q.0, m, n, o.ensures.0, v.auto.1.1.1.1.1.1.0, s.requires.for_live)))
+    sym (length-take-le _ _ (omega (arith, q.value, m, n, o.ensures.value, v.auto.live, s.requires.for_live)))
 
 pub overflow_cast-result : goal.overflow_cast-result
 overflow_cast-result c =
     let a = c.args in
     let o = c.chain_order-n in
     let v = c.live_of-count in
-    let q = rw (collected_part a.order.now (chain_of a.words.now a.first) _ o.result o.ensures.1 o.ensures.0) at
+    let q = rw (collected_part a.order.now (chain_of a.words.now a.first) _ o.result o.ensures.order_after o.ensures.value) at
     v.ensures in
     let m = live_most (def_at a.words.now a.bytes.now) a.base.now (chain_of a.words.now a.first) in
-    omega (arith, q.0, m, chain_most a.words.now a.first, count_most a.words.now)
+    omega (arith, q.value, m, chain_most a.words.now a.first, count_most a.words.now)
 
 pub returns : goal.returns
 returns c =
     let a = c.args in
     let o = c.chain_order-n in
     let v = c.live_of-count in
-    let q = rw (collected_part a.order.now (chain_of a.words.now a.first) _ o.result o.ensures.1 o.ensures.0) at
+    let q = rw (collected_part a.order.now (chain_of a.words.now a.first) _ o.result o.ensures.order_after o.ensures.value) at
     v.ensures in
     let e = collected_part a.live.now (live_numbers (def_at a.words.now a.bytes.now) a.base.now
-    (chain_of a.words.now a.first)) _ v.result q.1 q.0 in
+    (chain_of a.words.now a.first)) _ v.result q.live_after q.value in
     let f = c.fit in
-    (q.0, f.ensures ∙ ap (fitted a.list.now) e)
+    (q.value, f.ensures ∙ ap (fitted a.list.now) e)

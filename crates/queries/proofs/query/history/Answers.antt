@@ -20,4 +20,4 @@ returns c =
     let e = c.refused-refusal.ensures in
     let n = c.if-refusal-ne-SUCCESS.false in
     let l = c.history_list-count in record {result_value = listed_answer a.words.now a.bytes.now a.path.now a.list.now _ _ e _ _ _ n (l.ensures.0 ∙ ap length of)
-          l.auto.1.1.1.1.0 c.list_answer.ensures; list_after = fitted_out a.words.now a.bytes.now a.path.now a.list.now _ _ e _ n (l.ensures.1 ∙ ap (fitted a.list.now) of); }
+          l.auto.list c.list_answer.ensures; list_after = fitted_out a.words.now a.bytes.now a.path.now a.list.now _ _ e _ n (l.ensures.1 ∙ ap (fitted a.list.now) of); }
