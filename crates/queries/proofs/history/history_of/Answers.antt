@@ -65,31 +65,31 @@ loop-passed-preserved c =
     let a = c.args in
     let l = c.loop-passed in
     elim c.if-passed.branch [
-    | then-passed w ↦
-    let e = (history_listed (def_at a.words.now a.bytes.now) l.defined a.path.now a.words.now l.r l.left
-    (sym c.goes_on.ensures ∙ c.loop-passed-test.true) _
-    (ap (λ (p : Passed). p.defined) c.history_at-passed.ensures) _ c.next_of-r.ensures
-    (sym (ap (λ (p : Passed). p.listed) c.history_at-passed.ensures) ∙ w.if-passed.true)) in
-    let n = ap length e in
-    let k = ap length w.found-is ∙ simp length-set in (
-      k ∙ l.invariant.0,
-      omega (arith, k, n, w.count-is, l.invariant.1),
-      rw (w.found-is, w.count-is)
-          ((rw e at l.invariant.2) ∙ written_cons _ _ _ _ (omega (arith, n, l.invariant.1))),
-      omega (arith, n, w.count-is, l.invariant.3),
-    )
-    | else-passed w ↦
-    let e = (history_passed (def_at a.words.now a.bytes.now) l.defined a.path.now a.words.now l.r l.left
-    (sym c.goes_on.ensures ∙ c.loop-passed-test.true) _
-    (ap (λ (p : Passed). p.defined) c.history_at-passed.ensures) _ c.next_of-r.ensures
-    (sym (ap (λ (p : Passed). p.listed) c.history_at-passed.ensures) ∙ w.if-passed.false)) in
-    let k = ap length w.found-is in (
-      k ∙ l.invariant.0,
-      omega (arith, k, ap length e, w.count-is, l.invariant.1),
-      rw (w.found-is, w.count-is) (l.invariant.2 ∙ rw e refl),
-      omega
-          (arith, ap length e, w.count-is, l.invariant.3),
-    )
+      | then-passed w ↦
+          let e = (history_listed (def_at a.words.now a.bytes.now) l.defined a.path.now a.words.now l.r l.left
+          (sym c.goes_on.ensures ∙ c.loop-passed-test.true) _
+          (ap (λ (p : Passed). p.defined) c.history_at-passed.ensures) _ c.next_of-r.ensures
+          (sym (ap (λ (p : Passed). p.listed) c.history_at-passed.ensures) ∙ w.if-passed.true)) in
+          let n = ap length e in
+          let k = ap length w.found-is ∙ simp length-set in (
+            k ∙ l.invariant.0,
+            omega (arith, k, n, w.count-is, l.invariant.1),
+            rw (w.found-is, w.count-is)
+                ((rw e at l.invariant.2) ∙ written_cons _ _ _ _ (omega (arith, n, l.invariant.1))),
+            omega (arith, n, w.count-is, l.invariant.3),
+          )
+      | else-passed w ↦
+          let e = (history_passed (def_at a.words.now a.bytes.now) l.defined a.path.now a.words.now l.r l.left
+          (sym c.goes_on.ensures ∙ c.loop-passed-test.true) _
+          (ap (λ (p : Passed). p.defined) c.history_at-passed.ensures) _ c.next_of-r.ensures
+          (sym (ap (λ (p : Passed). p.listed) c.history_at-passed.ensures) ∙ w.if-passed.false)) in
+          let k = ap length w.found-is in (
+            k ∙ l.invariant.0,
+            omega (arith, k, ap length e, w.count-is, l.invariant.1),
+            rw (w.found-is, w.count-is) (l.invariant.2 ∙ rw e refl),
+            omega
+                (arith, ap length e, w.count-is, l.invariant.3),
+          )
     ]
 
 pub returns : goal.returns
@@ -97,4 +97,4 @@ returns c =
     let a = c.args in
     let l = c.loop-passed in
     let e = history_end (def_at a.words.now a.bytes.now) l.defined a.path.now a.words.now l.r l.left
-    (sym c.goes_on.ensures ∙ c.loop-passed-test.false) in record {value = omega (arith, ap length e, l.invariant.3); found_after = sym (l.invariant.2 ∙ rw e (written_nil _ _)); }
+    (sym c.goes_on.ensures ∙ c.loop-passed-test.false) in record { value = omega (arith, ap length e, l.invariant.3); found_after = sym (l.invariant.2 ∙ rw e (written_nil _ _)) }

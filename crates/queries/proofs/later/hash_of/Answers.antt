@@ -1,4 +1,3 @@
-use Prim.Native.Nat.{◌-◌}
 use Rattle.std.proofs.Common.{rules, arith}
 use Rattle.queries.specs.machine.Table.{hash_from}
 use Rattle.queries.proofs.Fronts.{hash_step, hash_end}

@@ -1,4 +1,4 @@
-use Prim.Native.Nat.{ℕ, ◌-◌}
+use Prim.Native.Nat.{ℕ}
 use mathlib.Core.Path.{◌≡◌, refl, sym, ◌∙◌}
 use mathlib.Core.Bool.{Bool}
 use mathlib.Core.List.{map}
@@ -16,7 +16,6 @@ use Rattle.queries.proofs.later.look_above.Goals.{then-path-i-eq47, else-path-i-
 parts : (d e : Bool) (h k : ℕ) → d ≡ e → h ≡ k → ◌≡◌ {A = Above} (record { deleted = d; hash = h }) (record { deleted = e; hash = k })
 parts d e h k p q = rw (p, q) refl
 
-
 pub loop-i-init : goal.loop-i-init
 unfolding hash_from
 loop-i-init c =
@@ -33,7 +32,6 @@ slice_bounds-or_deleted-end c = sym (length-take-le _
 
 pub or_deleted-deleted-requires : goal.or_deleted-deleted-requires
 or_deleted-deleted-requires c =
-
     record { deleted = c.requires.deleted; sized = c.requires.sized; hash_value = c.loop-i.invariant.1 }
 
 pub loop-i-preserved : goal.loop-i-preserved
@@ -43,18 +41,17 @@ loop-i-preserved c =
       omega arith,
       hash_step a.path.now l.i l.hash l.invariant.1 (omega arith) _ c.mix-hash.ensures,
       elim c.if-path-i-eq47.branch [
-          | then-path-i-eq47 w ↦ above_slash (deleted_in (map (def_at a.words.now a.bytes.now) a.later.now)) a.path.now l.i l.deleted _
-          l.invariant.2 (omega arith) w.if-path-i-eq47.true _ (w.deleted-is ∙ w.or_deleted-deleted.ensures)
-          | else-path-i-eq47 w ↦ rw w.deleted-is (above_pass (deleted_in (map (def_at a.words.now a.bytes.now) a.later.now)) a.path.now l.i
-          l.deleted _ l.invariant.2 (omega arith) w.if-path-i-eq47.false)
-          ],
+        | then-path-i-eq47 w ↦ above_slash (deleted_in (map (def_at a.words.now a.bytes.now) a.later.now)) a.path.now l.i l.deleted _
+            l.invariant.2 (omega arith) w.if-path-i-eq47.true _ (w.deleted-is ∙ w.or_deleted-deleted.ensures)
+        | else-path-i-eq47 w ↦ rw w.deleted-is (above_pass (deleted_in (map (def_at a.words.now a.bytes.now) a.later.now)) a.path.now l.i
+            l.deleted _ l.invariant.2 (omega arith) w.if-path-i-eq47.false)
+      ],
     )
 
 pub or_deleted-requires : goal.or_deleted-requires
 or_deleted-requires c =
     let a = c.args in
     let l = c.loop-i in
-
     record { deleted = c.requires.deleted; sized = c.requires.sized; hash_value = hash_end a.path.now l.i l.hash l.invariant.1 (omega arith) }
 
 pub returns : goal.returns

@@ -5,8 +5,11 @@ use Rattle.queries.proofs.later.or_deleted.Goals as goal
 
 pub holds-requires : goal.holds-requires
 holds-requires c =
-    let a = c.args in record {holds = deleted_by (def_at a.words.now a.bytes.now) a.heads.now a.links.now a.later.now a.path.now a.hash c.requires.deleted
-          c.requires.hash_value; sized = c.requires.sized; }
+    let a = c.args in record {
+      holds = deleted_by (def_at a.words.now a.bytes.now) a.heads.now a.links.now a.later.now a.path.now a.hash c.requires.deleted
+          c.requires.hash_value;
+      sized = c.requires.sized;
+    }
 
 pub returns : goal.returns
 returns c = rw c.if-found.false c.holds.ensures

@@ -20,7 +20,6 @@ slice_bounds-or_deleted-end c = sym (length-take-le _
 pub or_deleted-requires : goal.or_deleted-requires
 or_deleted-requires c =
     let a = c.args in
-
     let f = first_slash a.path.now c.if-path-eq0.false c.if-path-ne47.false in
     record { deleted = c.requires.deleted; sized = c.requires.sized; hash_value = rw f.1 (sym root_hash) }
 

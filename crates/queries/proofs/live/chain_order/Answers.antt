@@ -49,4 +49,4 @@ pub returns : goal.returns
 returns c =
     let a = c.args in
     let l = c.loop-order in
-    let e = stops a.words.now l.r l.left (sym c.goes_on.ensures ∙ c.loop-order-test.false) in record {value = omega (arith, l.invariant.2, ap length e); order_after = sym (l.invariant.3 ∙ rw e (written_nil l.order l.n)); }
+    let e = stops a.words.now l.r l.left (sym c.goes_on.ensures ∙ c.loop-order-test.false) in record { value = omega (arith, l.invariant.2, ap length e); order_after = sym (l.invariant.3 ∙ rw e (written_nil l.order l.n)) }

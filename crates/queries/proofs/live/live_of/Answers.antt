@@ -48,34 +48,34 @@ loop-i-preserved c =
     let t = rw (sym (one_before (def_at a.words.now a.bytes.now) a.base.now a.order.now l.i (omega arith) (omega arith)))
     at q.table_2 in
     elim c.if-pass.branch [
-    | then-pass w ↦
-    let e = live_taken (def_at a.words.now a.bytes.now) a.base.now a.order.now l.i (omega arith) (omega arith)
-    (sym q.value ∙ w.if-pass.true) in
-    let d = collected a.live.now _ _ l.live l.count _ l.invariant.6 l.invariant.5 e (omega arith) in (
-      omega (arith, w.count-is),
-      f.heads ∙ l.invariant.1,
-      f.links ∙ l.invariant.2,
-      ap length w.live-is ∙ simp length-set l.invariant.3,
-      t,
-      w.count-is ∙ d.1,
-      w.live-is
-          ∙ d.0,
-    )
-    | else-pass w ↦
-    let e = live_passed (def_at a.words.now a.bytes.now) a.base.now a.order.now l.i (omega arith) (omega arith)
-    (sym q.value ∙ w.if-pass.false) in (
-      omega (arith, w.count-is),
-      f.heads ∙ l.invariant.1,
-      f.links ∙ l.invariant.2,
-      ap length w.live-is ∙ l.invariant.3,
-      t,
-      w.count-is ∙ rw e l.invariant.5,
-      w.live-is
-          ∙ rw e l.invariant.6,
-    )
+      | then-pass w ↦
+          let e = live_taken (def_at a.words.now a.bytes.now) a.base.now a.order.now l.i (omega arith) (omega arith)
+          (sym q.value ∙ w.if-pass.true) in
+          let d = collected a.live.now _ _ l.live l.count _ l.invariant.6 l.invariant.5 e (omega arith) in (
+            omega (arith, w.count-is),
+            f.heads ∙ l.invariant.1,
+            f.links ∙ l.invariant.2,
+            ap length w.live-is ∙ simp length-set l.invariant.3,
+            t,
+            w.count-is ∙ d.1,
+            w.live-is
+                ∙ d.0,
+          )
+      | else-pass w ↦
+          let e = live_passed (def_at a.words.now a.bytes.now) a.base.now a.order.now l.i (omega arith) (omega arith)
+          (sym q.value ∙ w.if-pass.false) in (
+            omega (arith, w.count-is),
+            f.heads ∙ l.invariant.1,
+            f.links ∙ l.invariant.2,
+            ap length w.live-is ∙ l.invariant.3,
+            t,
+            w.count-is ∙ rw e l.invariant.5,
+            w.live-is
+                ∙ rw e l.invariant.6,
+          )
     ]
 
 pub returns : goal.returns
 returns c =
     let l = c.loop-i in
-    let z : l.i ≡ 0 = omega arith in record {value = rw z at l.invariant.5; live_after = rw z at l.invariant.6; }
+    let z : l.i ≡ 0 = omega arith in record { value = rw z at l.invariant.5; live_after = rw z at l.invariant.6 }

@@ -2,8 +2,6 @@
 use mathlib.Core.Path.{ap}
 use mathlib.Core.Bool.{not}
 use borrow.Author.Tests.{eq-eqb, ne_eqb}
-use Rattle.definition_log.proofs.record.first_text.Reads as first-text-reads
-use Rattle.paths_numbers.proofs.text.equals.Reads as equals-reads
 use Rattle.queries.proofs.lookup.is_elsewhere.Goals as goal
 
 pub returns-then-found-eq0 : goal.returns-then-found-eq0

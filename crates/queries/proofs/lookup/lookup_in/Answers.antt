@@ -8,7 +8,6 @@ use Rattle.paths_numbers.specs.meaning.Byte.{slash}
 use Rattle.definition_log.specs.meaning.ReadBack.{read_defs}
 use Rattle.short_paths.proofs.Form.{root_front, root_form, no_slash}
 use Rattle.queries.proofs.LookedUp.{exact, no_form, short}
-use Rattle.short_paths.proofs.short.has_components.Reads as has-components-reads
 use Rattle.queries.proofs.lookup.lookup_in.Goals as goal
 
 pub returns-then-contains_node_in : goal.returns-then-contains_node_in

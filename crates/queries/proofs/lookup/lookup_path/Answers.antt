@@ -6,7 +6,6 @@ use Rattle.paths_numbers.specs.meaning.Path.{joined}
 use Rattle.definition_log.specs.meaning.ReadBack.{read_defs}
 use Rattle.short_paths.proofs.Form.{front_joined}
 use Rattle.queries.proofs.LookedUp.{exact, no_form, short}
-use Rattle.short_paths.proofs.short.has_components.Reads as has-components-reads
 use Rattle.queries.proofs.lookup.lookup_path.Goals as goal
 
 pub returns-then-contains_node_path : goal.returns-then-contains_node_path

@@ -3,8 +3,6 @@ use native.Mathlib.Omega.{arith}
 use borrow.Author.Tests.{eq-eqb, ne_eqb}
 use Rattle.queries.proofs.Chain.{goes_left}
 use Rattle.queries.proofs.Picked.{passing_start, passing_next, passing_both, passing_none, passing_one}
-use Rattle.definition_log.proofs.record.log_count.Reads as log-count-reads
-use Rattle.definition_log.proofs.record.next_of.Reads as next-of-reads
 use Rattle.queries.proofs.lookup.short_node.Goals as goal
 
 pub loop-more-init : goal.loop-more-init

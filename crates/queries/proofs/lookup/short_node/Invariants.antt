@@ -3,8 +3,6 @@ use mathlib.Core.List.{◌∷◌, ◌++◌}
 use Rattle.paths_numbers.specs.meaning.Byte.{slash}
 use Rattle.short_paths.specs.machine.Front.{front_of}
 use Rattle.queries.proofs.Picked.{Passing}
-use Rattle.definition_log.proofs.record.log_count.Reads as log-count-reads
-use Rattle.definition_log.proofs.record.next_of.Reads as next-of-reads
 use Rattle.queries.proofs.lookup.short_node.Given as goal
 
 abbrev pub invariant-loop-more : goal.invariant-loop-more
