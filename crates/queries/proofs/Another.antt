@@ -1,19 +1,17 @@
 -- Whether a definition is another node that is taken, test by test.
 use Prim.Native.Nat.{ℕ}
-use mathlib.Core.Path.{◌≡◌, refl, sym, ap, ◌∙◌}
+use mathlib.Core.Path.{◌≡◌, refl}
 use mathlib.Core.Bool.{Bool, true, false, not, cond}
 use mathlib.Core.List.{List, []}
 use lib.Dec.{eqb}
 use Rattle.paths_numbers.specs.meaning.Text.{same}
 use Rattle.paths_numbers.specs.meaning.Path.{at_or_under}
-use Rattle.paths_numbers.proofs.Texts.{by_test}
 use Rattle.short_paths.specs.meaning.Short.{may_mean}
 use Rattle.definition_log.specs.meaning.Contents.{Def}
 use Rattle.definition_log.specs.meaning.Record.{kind_of, first_text, node_kind}
 use Rattle.definition_log.specs.meaning.ReadBack.{def_at}
-use Rattle.queries.specs.meaning.Kind.{is_node}
 use Rattle.queries.specs.meaning.Live.{contains_node}
-use Rattle.queries.specs.machine.Looked.{candidate, another}
+use Rattle.queries.specs.machine.Looked.{another}
 use Rattle.queries.proofs.Records.{node_kind_lem}
 
 swapped : (a e : Bool) → cond a e false ≡ cond e a false

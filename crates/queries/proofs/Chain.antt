@@ -11,7 +11,7 @@ use Rattle.paths_numbers.proofs.Texts.{by_test, not_both}
 use Rattle.definition_log.specs.meaning.Record.{next_of, leads, log_count, most_records}
 use Rattle.definition_log.specs.meaning.ReadBack.{chain_from, chain_of}
 use Rattle.paths_numbers.specs.meaning.Lists.{any}
-use Rattle.definition_log.proofs.Reached.{count_most as most_records}
+use Rattle.definition_log.proofs.Reached.{count_most as counted_most}
 use Rattle.queries.specs.machine.Pass.{goes_on}
 
 -- a chain goes on where a record is left and the link leads to one
@@ -46,7 +46,7 @@ stops words r (suc left) t =
 
 -- a log has at most 65,536 records
 pub count_most : (words : List ℕ) → log_count words ≤ most_records
-count_most words = most_records words
+count_most words = counted_most words
 
 -- a chain has no more records than may be left
 chain_length : (words : List ℕ) (left r : ℕ) → length (chain_from left words r) ≤ left

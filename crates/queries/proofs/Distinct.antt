@@ -1,12 +1,12 @@
 -- Which paths a list has, and that "one distinct" goes by that alone.
 use Prim.Native.Nat.{ℕ}
-use mathlib.Core.Path.{◌≡◌, refl, sym, ap, ◌∙◌}
-use mathlib.Core.Bool.{Bool, true, false, not, cond}
+use mathlib.Core.Path.{◌≡◌, refl, sym, ◌∙◌}
+use mathlib.Core.Bool.{Bool, true, false, not}
 use mathlib.Core.List.{List, [], ◌∷◌}
 use Rattle.paths_numbers.specs.meaning.Text.{same}
 use Rattle.paths_numbers.specs.meaning.Lists.{any}
-use Rattle.paths_numbers.proofs.Texts.{by_test, not_both, is_false, same_true, same_refl, same_false}
-use Rattle.queries.specs.meaning.Lookup.{LookedUp, found, no_node, several, distinct}
+use Rattle.paths_numbers.proofs.Texts.{by_test, not_both, is_false, same_true, same_refl}
+use Rattle.queries.specs.meaning.Lookup.{distinct}
 
 -- whether a list has a path
 abbrev pub has : List ℕ → List (List ℕ) → Bool

@@ -13,4 +13,4 @@ pub mod Table
 pub mod Fronts
 pub mod Turn
 pub mod Numbers
-pub mod Answers
+pub mod QueryAnswers

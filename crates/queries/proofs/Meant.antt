@@ -12,10 +12,10 @@ use Rattle.short_paths.specs.meaning.Short.{may_mean}
 use Rattle.definition_log.specs.meaning.Contents.{Def}
 use Rattle.queries.specs.meaning.Kind.{is_node}
 use Rattle.queries.specs.meaning.Live.{is_live, live, node_at, contains_node}
-use Rattle.queries.specs.meaning.Lookup.{node_paths, distinct}
+use Rattle.queries.specs.meaning.Lookup.{node_paths}
 use Rattle.queries.specs.machine.Looked.{candidate}
 use Rattle.queries.proofs.Fold.{nodes_at, live_base}
-use Rattle.queries.proofs.Distinct.{has, SameMembers, distinct_same}
+use Rattle.queries.proofs.Distinct.{has, SameMembers}
 
 -- two texts compared either way
 pub same_turned : (s t : List ℕ) → same s t ≡ same t s

@@ -1,6 +1,6 @@
 -- One pass over a chain, which keeps the first path found, gives the one distinct path of those that are taken.
 use Prim.Native.Nat.{ℕ, ◌-◌}
-use mathlib.Core.Path.{◌≡◌, refl, sym, ap, ◌∙◌}
+use mathlib.Core.Path.{◌≡◌, refl, sym, ◌∙◌}
 use mathlib.Core.Bool.{Bool, true, false, not, cond, ◌&&◌}
 use mathlib.Core.List.{List, [], ◌∷◌, ◌++◌, map}
 use borrow.Author.Tests.{eq-eqb, eqb-true}
@@ -10,7 +10,7 @@ use Rattle.paths_numbers.specs.meaning.Lists.{any}
 use Rattle.paths_numbers.proofs.Texts.{by_test, not_both}
 use Rattle.short_paths.specs.meaning.Short.{may_mean}
 use Rattle.definition_log.specs.meaning.Contents.{Def}
-use Rattle.definition_log.specs.meaning.Record.{next_of, first_text, log_count, leads}
+use Rattle.definition_log.specs.meaning.Record.{next_of, first_text, log_count}
 use Rattle.definition_log.specs.meaning.ReadBack.{chain_from, chain_of, def_at, read_defs}
 use Rattle.queries.specs.meaning.Kind.{is_node}
 use Rattle.queries.specs.meaning.Live.{live}

@@ -1,5 +1,5 @@
 -- 02, request 5, in its smallest cases: the checker computes which node a path finds.
-use Rattle.std.specs.Prelude.{ℕ, ◌≡◌, refl, Bool, false, List, [], ◌∷◌, ◌++◌}
+use Rattle.std.specs.Prelude.{ℕ, ◌≡◌, refl, false, List, [], ◌∷◌, ◌++◌}
 use Rattle.paths_numbers.specs.meaning.Text.{same, is_empty, begins, starts_with}
 use Rattle.paths_numbers.specs.meaning.Lists.{any}
 use Rattle.paths_numbers.specs.meaning.Path.{at_or_under, strip, good_path, components}

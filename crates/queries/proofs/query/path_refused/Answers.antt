@@ -1,0 +1,9 @@
+-- Row 9.
+use mathlib.Core.Path.{refl, sym, ◌∙◌}
+use Rattle.queries.proofs.query.path_refused.Goals as goal
+
+pub returns-then-good_path : goal.returns-then-good_path
+returns-then-good_path c = let e = sym c.good_path.ensures ∙ c.if-good_path.true in rw e refl
+
+pub returns : goal.returns
+returns c = let e = sym c.good_path.ensures ∙ c.if-good_path.false in rw e refl
