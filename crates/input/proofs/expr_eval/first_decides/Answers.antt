@@ -1,4 +1,5 @@
 -- The number of the operator picks its case of the definition.
+use Rattle.std.proofs.Common.{arith}
 use mathlib.Core.Path.{refl}
 use borrow.Author.Tests.{ne_eqb}
 use Rattle.paths_numbers.proofs.Integers.{read}
@@ -17,5 +18,4 @@ returns-in-12 c = rw (c.in-12.is, c.is_true-in-12.ensures, read c.ranges.a) refl
 pub returns-in_default : goal.returns-in_default
 unfolding decides
 returns-in_default c =
-    let r = c.in_default.in_default-own.rest in
-    simp (ne_eqb _ and_op r.0.1, ne_eqb _ or_op r.1)
+    simp (ne_eqb c.args.op and_op (λ e. omega arith), ne_eqb c.args.op or_op (λ e. omega arith))

@@ -8,7 +8,7 @@ returns-then-not-fits_alone c =
     unfit_alone a.words.now a.r a.stand _ _ _ _ c.word_at-kind.ensures
     c.number_at.ensures c.word_at.ensures
     c.word_at-2.ensures _ c.fits_alone.ensures
-    c.if-not-fits_alone.true-raw
+    c.if-not-fits_alone.true
 
 pub returns-then-has_children : goal.returns-then-has_children
 returns-then-has_children c =
@@ -17,7 +17,7 @@ returns-then-has_children c =
     c.number_at.ensures
     c.word_at.ensures c.word_at-2.ensures _
     c.fits_alone.ensures
-    c.if-not-fits_alone.false-raw _ c.has_children.ensures c.if-has_children.true
+    c.if-not-fits_alone.false _ c.has_children.ensures c.if-has_children.true
 
 pub returns : goal.returns
 returns c =
@@ -27,4 +27,4 @@ returns c =
     c.number_at.ensures
     c.word_at.ensures
     c.word_at-2.ensures _ c.fits_alone.ensures
-    c.if-not-fits_alone.false-raw _ c.has_children.ensures _ c.if-has_children.false c.word_at-3.ensures
+    c.if-not-fits_alone.false _ c.has_children.ensures _ c.if-has_children.false c.word_at-3.ensures

@@ -1,4 +1,5 @@
 -- By the kind of the record (ValueRead).
+use Rattle.std.proofs.Common.{arith}
 use Rattle.input.proofs.ValueRead.{cell_kind_lem, cell_reference, cell_other}
 use Rattle.input.specs.meaning.Property.{lower_cell, reference_cell}
 use Rattle.input.specs.meaning.Input.{span_at}
@@ -53,9 +54,7 @@ returns-in-4 c = let a = c.args in cell_kind_lem a.words.now a.text.now a.r a.le
 
 pub returns-in_default : goal.returns-in_default
 returns-in_default c = let a = c.args in
-    let k = c.kind_at.ensures in
-    let r = c.in_default.in_default-own.rest in
-    cell_other a.words.now a.text.now a.r a.level a.size (λ e. r.0.0.0.0.0.0.1 (k ∙ e))
-    (λ e. r.0.0.0.0.0.1 (k ∙ e))
-    (λ e. r.0.0.0.0.1 (k ∙ e))
-    (λ e. r.0.0.0.1 (k ∙ e)) (λ e. r.0.0.1 (k ∙ e)) (λ e. r.0.1 (k ∙ e)) (λ e. r.1 (k ∙ e))
+    cell_other a.words.now a.text.now a.r a.level a.size (λ e. omega arith)
+    (λ e. omega arith)
+    (λ e. omega arith)
+    (λ e. omega arith) (λ e. omega arith) (λ e. omega arith) (λ e. omega arith)

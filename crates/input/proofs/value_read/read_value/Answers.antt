@@ -1,4 +1,5 @@
 -- By the kind of the record (ValueRead).
+use Rattle.std.proofs.Common.{arith}
 use Rattle.input.proofs.ValueRead.{value_kind_lem, value_reference, value_other}
 use Rattle.input.specs.meaning.Property.{lower_value, reference_value}
 use Rattle.input.specs.machine.At.{record_at}
@@ -50,8 +51,6 @@ returns-in-4 c = let a = c.args in λ level. value_kind_lem a.words.now a.text.n
 
 pub returns-in_default : goal.returns-in_default
 returns-in_default c = let a = c.args in λ level.
-    let k = c.kind_at.ensures in
-    let r = c.in_default.in_default-own.rest in
-    value_other a.words.now a.text.now a.r level (λ e. r.0.0.0.0.0.0.1 (k ∙ e)) (λ e. r.0.0.0.0.0.1 (k ∙ e))
-    (λ e. r.0.0.0.0.1 (k ∙ e))
-    (λ e. r.0.0.0.1 (k ∙ e)) (λ e. r.0.0.1 (k ∙ e)) (λ e. r.0.1 (k ∙ e)) (λ e. r.1 (k ∙ e))
+    value_other a.words.now a.text.now a.r level (λ e. omega arith) (λ e. omega arith)
+    (λ e. omega arith)
+    (λ e. omega arith) (λ e. omega arith) (λ e. omega arith) (λ e. omega arith)
