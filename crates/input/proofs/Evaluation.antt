@@ -4,13 +4,10 @@ use Prim.Native.Nat.{ℕ, zero, suc, ◌<◌}
 use mathlib.Core.Path.{◌≡◌, refl, sym, ap, ◌∙◌}
 use mathlib.Core.Bool.{true, false, cond}
 use mathlib.Core.List.{List, [], ◌∷◌}
-use mathlib.Core.Logic.{⊎_elim}
 use native.Mathlib.Omega.{arith}
 use borrow.Author.Tests.{ne_eqb, not-true, not-false}
 use lib.Dec.{eqb}
 use lib.IntN.{ℤ}
-use types.Run.{OneOf}
-use denote.Enum.Declared.{tag_of}
 use Rattle.paths_numbers.specs.meaning.Expression.{and_op, or_op, conditional_op, eval_code, eval_told, is_true, of_truth}
 use Rattle.paths_numbers.specs.meaning.Reading as R
 use Rattle.paths_numbers.specs.meaning.Number.{int_code}
@@ -18,7 +15,6 @@ use Rattle.paths_numbers.specs.declared.expr_eval.IntErrorKind.{IntErrorKind}
 use Rattle.paths_numbers.specs.declared.expr_eval.IntErrorKind.TheVariants as Kind
 use Rattle.paths_numbers.specs.declared.operators.Evaluated.{Evaluated}
 use Rattle.paths_numbers.specs.declared.operators.Evaluated.TheVariants as Eval
-use Rattle.paths_numbers.specs.contracts.operators.Evaluated as Result
 use Rattle.paths_numbers.proofs.Texts.{by_test, not_both}
 use Rattle.levels.specs.machine.Held.{rules_at}
 use Rattle.definition_log.specs.meaning.Contents.{Span}
@@ -32,29 +28,25 @@ use Rattle.input.specs.machine.Read.{after_at}
 use Rattle.input.specs.machine.Evaluation.{outcome_of, is_logical, decides}
 use Rattle.input.specs.declared.expr_eval.Evaluation.{Evaluation}
 use Rattle.input.specs.declared.expr_eval.Evaluation.TheVariants as E
-use Rattle.input.specs.contracts.expr_eval.Evaluation.{the_type}
 use Rattle.input.proofs.Input.{chain_none, chain_more}
 use Rattle.input.proofs.Read.{after_some, before_some, chain_after}
 
 -- a failure of an operand is the whole's
-pub failure_passes : (words text : List ℕ) (e : Evaluation) (f : ℤ → Outcome ℤ) → OneOf (1 ∷ 2 ∷ 3 ∷ []) (tag_of the_type e)
+pub failure_passes : (words text : List ℕ) (e : Evaluation) (f : ℤ → Outcome ℤ) → ((z : ℤ) → e ≡ E.Value z → ⊥)
     → outcome_of words text e ≡ with_value (outcome_of words text e) f
-failure_passes words text (E.Value z) f h = ⊎_elim (λ e. absurd (omega arith))
-    (λ k. ⊎_elim (λ e. absurd (omega arith)) (λ e. absurd (omega arith)) k) h
+failure_passes words text (E.Value z) f h = absurd (h z refl)
 failure_passes words text E.Missing f h = refl
 failure_passes words text (E.Macro r) f h = refl
 failure_passes words text (E.Failed code r) f h = refl
 
 -- a result that there is not has a code, where the operator is not missing
-pub result_coded : (span : Span) (v : Evaluated) → OneOf (1 ∷ 2 ∷ 3 ∷ []) (tag_of Result.the_type v)
+pub result_coded : (span : Span) (v : Evaluated) → ((z : ℤ) → v ≡ Eval.Value z → ⊥) → (v ≡ Eval.Missing → ⊥)
     → fails_with (eval_code v) span ≡ evaluated span (eval_told v)
-result_coded span (Eval.Value z) h = ⊎_elim (λ e. absurd (omega arith))
-    (λ k. ⊎_elim (λ e. absurd (omega arith)) (λ e. absurd (omega arith)) k) h
-result_coded span Eval.Outside h = refl
-result_coded span Eval.ZeroDivisor h = refl
-result_coded span Eval.ShiftAmount h = refl
-result_coded span Eval.Missing h = ⊎_elim (λ e. absurd (omega arith))
-    (λ k. ⊎_elim (λ e. absurd (omega arith)) (λ e. absurd (omega arith)) k) h
+result_coded span (Eval.Value z) h k = absurd (h z refl)
+result_coded span Eval.Outside h k = refl
+result_coded span Eval.ZeroDivisor h k = refl
+result_coded span Eval.ShiftAmount h k = refl
+result_coded span Eval.Missing h k = absurd (k refl)
 
 -- a text that is no number has a code
 pub literal_coded : (span : Span) (e : IntErrorKind) → fails_with {N = ℤ} (int_code e) span ≡ evaluated span (R.fails (int_code e))
@@ -224,7 +216,7 @@ module _ (level : ℕ) (words text : List ℕ) (l : Linked words) where
             (evals (rules_at level) (chain_at words text x))
         two = infix_two op n m span x y e h.at second_at_lem k
 
-        pub binary_fails : OneOf (1 ∷ 2 ∷ 3 ∷ []) (tag_of the_type v)
+        pub binary_fails : ((z : ℤ) → v ≡ E.Value z → ⊥)
             → outcome_of words text v ≡ infix_of (rules_at level) op span (evals (rules_at level) (chain_at words text x))
         binary_fails o = failure_passes words text v
             (λ a. applied (rules_at level) op span a (eval (rules_at level) (record_at words text y))) o ∙ rw q two
@@ -242,7 +234,7 @@ module _ (level : ℕ) (words text : List ℕ) (l : Linked words) where
             conditional_three span x y z e f h.at second_at_lem
             (chain_after words text y z f l nesting (chain_after words text x y e l nesting h)).at k
 
-        pub conditional_fails : OneOf (1 ∷ 2 ∷ 3 ∷ []) (tag_of the_type v)
+        pub conditional_fails : ((z : ℤ) → v ≡ E.Value z → ⊥)
             → outcome_of words text v ≡ infix_of (rules_at level) conditional_op span (evals (rules_at level) (chain_at words text x))
         conditional_fails o =
             failure_passes words text v (λ a. cond ((rules_at level).holds a) (eval (rules_at level) (record_at words text y))

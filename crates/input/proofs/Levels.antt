@@ -100,9 +100,9 @@ module _ (op : ℕ) (span : Span) where
       = rw (holds_held n h) (tested (U.holds n) (truth_held true) (truth_in_held k)) in
       tested (eqb op and_op) both
       (tested (eqb op or_op) either
-      (with_held k (λ m. evaluated span (U.unsignedInfix op n m))
-      (λ z. evaluated span (held (U.unsignedInfix op (of_z w64 (to_z w64 n)) (of_z w64 z))))
-      (λ m l. rw (bits_held n h, bits_held m l) (reading_held span (U.unsignedInfix op n m) (infix_below op n m h l)))))
+      (with_held k (λ m. evaluated span (U.unsigned_infix op n m))
+      (λ z. evaluated span (held (U.unsigned_infix op (of_z w64 (to_z w64 n)) (of_z w64 z))))
+      (λ m l. rw (bits_held n h, bits_held m l) (reading_held span (U.unsigned_infix op n m) (infix_below op n m h l)))))
 
   two_held : {x y : Outcome ℕ} {u v : Outcome ℤ} → Held x u → Held y v
       → Held (with_value x (λ n. applied unsigned_rules op span n y)) (with_value u (λ z. applied held_rules op span z v))
@@ -129,8 +129,8 @@ module _ (op : ℕ) (span : Span) where
   prefix_held none = held_missing
   prefix_held (next x l) =
       tested (eqb op 0) held_missing
-      (with_held x (λ n. evaluated span (U.unsignedPrefix op n)) (λ z. evaluated span (held (U.unsignedPrefix op (of_z w64 z))))
-      (λ n h. rw (bits_held n h) (reading_held span (U.unsignedPrefix op n) (prefix_below op n h))))
+      (with_held x (λ n. evaluated span (U.unsigned_prefix op n)) (λ z. evaluated span (held (U.unsigned_prefix op (of_z w64 z))))
+      (λ n h. rw (bits_held n h) (reading_held span (U.unsigned_prefix op n) (prefix_below op n h))))
 
 first_held : {l : List (Outcome ℕ)} {m : List (Outcome ℤ)} → AllHeld l m → Held (first_operand l) (first_operand m)
 first_held none = held_missing

@@ -140,7 +140,13 @@ module _ (words : List ℕ) (e : row_two words ≡ none) where
       (λ x. by_test (any (only test k) (visits f words (second_place (kind_at words (suc r))) (suc depth) (second_at words (suc r))))
       (λ y. visits_known test k f _ _ _ l.second.within (known_second r _ b q) y)
       (λ y. visits_known test k f place depth (next_at words (suc r)) l.next.within (known_next r _ b q)
-      (rw (o, any_append, x, any_append, y) at t))))
+      (rw (
+        o,
+        any_append (only test k) (visits f words (child_place (kind_at words (suc r))) (suc depth) (child_at words (suc r))) _,
+        x,
+        any_append (only test k) (visits f words (second_place (kind_at words (suc r))) (suc depth) (second_at words (suc r))) _,
+        y,
+      ) at t))))
     where
       here : known words (suc r) (suc r) ≡ some (visit (suc r) place depth) → only test k (visit (suc r) place depth) ≡ true
           → finds test (known words k k) ≡ true
@@ -243,11 +249,12 @@ module _ (words : List ℕ) (e : row_two words ≡ none) where
   visits_within (suc f) place depth (suc r) a =
       let b = a (λ z. omega arith) in
       let l = up.all (suc r) b in
+      let past = λ (v : Visit). leb (record_count words) v.number in
       rw (
         lt-leb (record_count words) (suc r) b,
-        any_append,
+        any_append past (visits f words (child_place (kind_at words (suc r))) (suc depth) (child_at words (suc r))) _,
         visits_within f (child_place (kind_at words (suc r))) (suc depth) (child_at words (suc r)) l.child.within,
-        any_append,
+        any_append past (visits f words (second_place (kind_at words (suc r))) (suc depth) (second_at words (suc r))) _,
         visits_within f (second_place (kind_at words (suc r))) (suc depth) (second_at words (suc r)) l.second.within,
         visits_within f place depth (next_at words (suc r)) l.next.within,
       )

@@ -82,18 +82,18 @@ four_of k a b d e x y =
 module _ (words : List ℕ) (r stand kind w start end : ℕ) (k : kind ≡ kind_at words r) (kw : w ≡ number_at words r)
     (ks : start ≡ span_start_at words r) (ke : end ≡ span_end_at words r)
     (alone : Bool) (e : alone ≡ fits_alone (place_of (stand % 16)) kind w (record { from = start; to = end })) where
-  pub unfit_alone : not alone ≡ true → true ≡ unfit words (visit_at r stand)
+  pub unfit_alone : alone ≡ false → true ≡ unfit words (visit_at r stand)
   unfolding unfit
-  unfit_alone n = rw (← k, ← kw, ← ks, ← ke, sym e ∙ not-true alone n) refl
+  unfit_alone n = rw (← k, ← kw, ← ks, ← ke, sym e ∙ n) refl
 
-  module _ (n : not alone ≡ false) (has : Bool) (h : has ≡ has_children kind) where
+  module _ (n : alone ≡ true) (has : Bool) (h : has ≡ has_children kind) where
     pub fit_children : has ≡ true → false ≡ unfit words (visit_at r stand)
     unfolding unfit
-    fit_children q = rw (← k, ← kw, ← ks, ← ke, sym e ∙ not-false alone n, sym h ∙ q) refl
+    fit_children q = rw (← k, ← kw, ← ks, ← ke, sym e ∙ n, sym h ∙ q) refl
 
     pub unfit_child : (l : ℕ) → has ≡ false → l ≡ child_at words r → not (eqb l 0) ≡ unfit words (visit_at r stand)
     unfolding unfit
-    unfit_child l q p = rw (← k, ← kw, ← ks, ← ke, ← p, sym e ∙ not-false alone n, sym h ∙ q) refl
+    unfit_child l q p = rw (← k, ← kw, ← ks, ← ke, ← p, sym e ∙ n, sym h ∙ q) refl
 
 -- row 5: a name that is empty, and one that is not
 pub no_name : (s : List ℕ) → length s ≡ 0 → false ≡ good_name s

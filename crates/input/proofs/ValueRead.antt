@@ -4,11 +4,8 @@ use native.Mathlib.Nat.{div-add-mod'}
 use mathlib.Core.Path.{◌≡◌, refl, sym, ap, ◌∙◌}
 use mathlib.Core.Bool.{cond}
 use mathlib.Core.List.{List, [], ◌∷◌}
-use mathlib.Core.Logic.{⊎_elim}
 use native.Mathlib.Omega.{arith}
 use borrow.Author.Tests.{ne_eqb}
-use denote.Enum.Declared.{tag_of}
-use types.Run.{OneOf}
 use Rattle.paths_numbers.specs.meaning.Code.{odd_digits}
 use Rattle.paths_numbers.specs.meaning.Reading as R
 use Rattle.paths_numbers.specs.meaning.Bytestring.{is_odd, bytes_of, count_of, count_told}
@@ -20,8 +17,6 @@ use Rattle.paths_numbers.specs.declared.dt_property.Cell.{Cell}
 use Rattle.paths_numbers.specs.declared.dt_property.Cell.TheVariants as C
 use Rattle.paths_numbers.specs.declared.dt_property.ByteCount.{ByteCount}
 use Rattle.paths_numbers.specs.declared.dt_property.ByteCount.TheVariants as B
-use Rattle.paths_numbers.specs.contracts.dt_property.SizeRead as Size
-use Rattle.paths_numbers.specs.contracts.dt_property.Cell as Fitted
 use Rattle.paths_numbers.proofs.Texts.{by_test}
 use Rattle.definition_log.specs.meaning.Contents.{Span, bytestring}
 use Rattle.definition_log.specs.machine.Parts.{target_made}
@@ -104,15 +99,15 @@ module _ (words text : List ℕ) (r : ℕ) where
       )
 
 -- a cell without a number has a code, and so has a width that is none
-pub cell_coded : (span : Span) (cell : Cell) → OneOf (1 ∷ 2 ∷ []) (tag_of Fitted.the_type cell)
+pub cell_coded : (span : Span) (cell : Cell) → ((n : ℕ) → cell ≡ C.Number n → ⊥)
     → nothing (report (cell_code cell) [] span ∷ []) ≡ number_cell span (cell_told cell)
-cell_coded span (C.Number n) h = absurd (⊎_elim (λ e. omega arith) (λ e. omega arith) h)
+cell_coded span (C.Number n) h = absurd (h n refl)
 cell_coded span C.CharTooLarge h = refl
 cell_coded span C.ExprOutside h = refl
 
-pub size_coded : (level : ℕ) (span : Span) (cells : Trees) (size : SizeRead) → OneOf (1 ∷ 2 ∷ []) (tag_of Size.the_type size)
+pub size_coded : (level : ℕ) (span : Span) (cells : Trees) (size : SizeRead) → ((s : BitsSize) → size ≡ S.Size s → ⊥)
     → nothing (report (size_code size) [] span ∷ []) ≡ sized_list level span cells (size_told size)
-size_coded level span cells (S.Size s) h = absurd (⊎_elim (λ e. omega arith) (λ e. omega arith) h)
+size_coded level span cells (S.Size s) h = absurd (h s refl)
 size_coded level span cells S.Unsupported h = refl
 size_coded level span cells (S.Failed e) h = refl
 

@@ -30,7 +30,7 @@ pub enum Evaluation {
 }
 
 // The value of an expression.
-#[cycle(eval_eval_binary_eval_conditional_at_eval_first_eval_infix_at_eval_prefix_at_eval_second)]
+#[cycle(eval)]
 pub fn eval(words: &[u32], text: &[u8], r: u32, nesting: u32, level: u32) -> Evaluation
     requires linked { Linked words.now }
     requires record_in { RecordIn words.now text.now r nesting }
@@ -52,7 +52,7 @@ pub fn eval(words: &[u32], text: &[u8], r: u32, nesting: u32, level: u32) -> Eva
 }
 
 // The value of the first of a chain of operands.
-#[cycle(eval_eval_binary_eval_conditional_at_eval_first_eval_infix_at_eval_prefix_at_eval_second)]
+#[cycle(eval)]
 pub fn eval_first(words: &[u32], text: &[u8], first: u32, nesting: u32, level: u32) -> Evaluation
     requires linked { Linked words.now }
     requires chain_in { ChainIn words.now text.now first nesting }
@@ -66,7 +66,7 @@ pub fn eval_first(words: &[u32], text: &[u8], first: u32, nesting: u32, level: u
 }
 
 // The value of a prefix record.
-#[cycle(eval_eval_binary_eval_conditional_at_eval_first_eval_infix_at_eval_prefix_at_eval_second)]
+#[cycle(eval)]
 fn eval_prefix_at(words: &[u32], text: &[u8], r: u32, nesting: u32, level: u32) -> Evaluation
     requires linked { Linked words.now }
     requires chain_in { ChainIn words.now text.now (child_at words.now r) nesting }
@@ -86,7 +86,7 @@ fn eval_prefix_at(words: &[u32], text: &[u8], r: u32, nesting: u32, level: u32) 
 }
 
 // The value of an infix record.
-#[cycle(eval_eval_binary_eval_conditional_at_eval_first_eval_infix_at_eval_prefix_at_eval_second)]
+#[cycle(eval)]
 fn eval_infix_at(words: &[u32], text: &[u8], r: u32, nesting: u32, level: u32) -> Evaluation
     requires linked { Linked words.now }
     requires chain_in { ChainIn words.now text.now (child_at words.now r) nesting }
@@ -105,7 +105,7 @@ fn eval_infix_at(words: &[u32], text: &[u8], r: u32, nesting: u32, level: u32) -
 }
 
 // The value of an infix record whose operator takes three operands, from the first on.
-#[cycle(eval_eval_binary_eval_conditional_at_eval_first_eval_infix_at_eval_prefix_at_eval_second)]
+#[cycle(eval)]
 fn eval_conditional_at(words: &[u32], text: &[u8], x: u32, nesting: u32, level: u32) -> Evaluation
     requires linked { Linked words.now }
     requires chain_in { ChainIn words.now text.now x nesting }
@@ -128,7 +128,7 @@ fn eval_conditional_at(words: &[u32], text: &[u8], x: u32, nesting: u32, level: 
 }
 
 // The value of an infix record whose operator takes two operands, from the first on.
-#[cycle(eval_eval_binary_eval_conditional_at_eval_first_eval_infix_at_eval_prefix_at_eval_second)]
+#[cycle(eval)]
 fn eval_binary(
     words: &[u32],
     text: &[u8],
@@ -156,7 +156,7 @@ fn eval_binary(
 }
 
 // The value of an infix record from its first operand's value and its second operand.
-#[cycle(eval_eval_binary_eval_conditional_at_eval_first_eval_infix_at_eval_prefix_at_eval_second)]
+#[cycle(eval)]
 fn eval_second(
     words: &[u32],
     text: &[u8],

@@ -1,0 +1,58 @@
+-- By the tests in turn, the last by the marks.
+use Prim.Native.Nat.{ℕ}
+use mathlib.Core.Path.{refl, sym, ap, ◌∙◌}
+use native.Mathlib.Omega.{arith}
+use mathlib.Core.Bool.{not}
+use borrow.Author.Tests.{eq-eqb, ne_eqb, le-leb, lt-leb}
+use lib.Dec.{eqb, leb}
+use Rattle.input.specs.meaning.Rows.{bad_link}
+use Rattle.input.proofs.refusal.bad_link.Goals as goal
+
+pub returns-then-l-eq0 : goal.returns-then-l-eq0
+unfolding bad_link
+returns-then-l-eq0 c = rw (eq-eqb _ _ c.if-l-eq0.true) refl
+
+pub returns-then-l-r : goal.returns-then-l-r
+unfolding bad_link
+returns-then-l-r c = rw (ne_eqb _ _ c.if-l-eq0.false, le-leb _ _ c.if-l-r.true) refl
+
+pub returns-then-record_count-l : goal.returns-then-record_count-l
+unfolding bad_link
+returns-then-record_count-l c =
+    rw (
+      ne_eqb _ _ c.if-l-eq0.false,
+      lt-leb _ _ c.if-l-r.false,
+      ap
+          (λ (n : ℕ). leb n c.args.l) (sym c.record_count.ensures)
+          ∙ le-leb _ _ c.if-record_count-l.true,
+    ) refl
+
+pub returns-then-one_of : goal.returns-then-one_of
+unfolding bad_link
+returns-then-one_of c =
+    rw (
+      ne_eqb _ _ c.if-l-eq0.false,
+      lt-leb _ _ c.if-l-r.false,
+      ap
+          (λ (n : ℕ). leb n c.args.l)
+          (sym c.record_count.ensures)
+          ∙ lt-leb _ _ c.if-record_count-l.false,
+      sym c.one_of.ensures ∙ c.if-one_of.true,
+    ) refl
+
+pub returns : goal.returns
+unfolding bad_link
+returns c =
+    let m = c.requires.marks in
+    ap (λ (v : ℕ). not (eqb v 0)) c.number_in.ensures ∙ m.tell
+    c.args.l (omega (arith, m.room))
+    ∙ rw (
+      ne_eqb _ _ c.if-l-eq0.false,
+      lt-leb _ _
+          c.if-l-r.false,
+      ap
+          (λ (n : ℕ). leb n c.args.l)
+          (sym c.record_count.ensures)
+          ∙ lt-leb _ _ c.if-record_count-l.false,
+      sym c.one_of.ensures ∙ c.if-one_of.false,
+    ) refl

@@ -1,0 +1,15 @@
+-- By the kind.
+use mathlib.Core.Path.{refl, sym, ap, ◌∙◌}
+use Rattle.input.specs.meaning.Input.{links_by_w, number_at}
+use Rattle.input.proofs.refusal.number_at.Goals as goal
+
+pub returns-then-links_by_w : goal.returns-then-links_by_w
+unfolding number_at
+returns-then-links_by_w c =
+    rw (ap links_by_w (sym c.word_at.ensures) ∙ sym c.links_by_w.ensures ∙ c.if-links_by_w.true) refl
+
+pub returns : goal.returns
+unfolding number_at
+returns c =
+    c.word_at-2.ensures ∙ rw (ap links_by_w (sym c.word_at.ensures)
+    ∙ sym c.links_by_w.ensures ∙ c.if-links_by_w.false) refl

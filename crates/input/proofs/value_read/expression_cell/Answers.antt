@@ -1,0 +1,28 @@
+-- The nesting suffices for the operands (Read: some_nesting, children_in).
+use Rattle.input.proofs.Read.{some_nesting, children_in}
+use Rattle.levels.specs.meaning.Rules.{signed_rules}
+use Rattle.input.proofs.Levels.{expression_at}
+use Rattle.input.specs.meaning.Input.{span_at, parts_at}
+use Rattle.input.specs.meaning.Property.{outcome_cell}
+use native.Mathlib.Omega.{arith}
+use mathlib.Core.Path.{◌∙◌, ap}
+use Rattle.input.proofs.value_read.expression_cell.Goals as goal
+
+pub returns-then-nesting-eq0 : goal.returns-then-nesting-eq0
+returns-then-nesting-eq0 c = let s = c in absurd (omega (
+  arith,
+  some_nesting s.args.words.now s.args.text.now s.requires.linked
+      s.args.r s.args.nesting s.requires.record_in,
+  c.if-nesting-eq0.true,
+))
+
+pub eval_first-requires : goal.eval_first-requires
+eval_first-requires c = let s = c in record {linked = s.requires.linked; chain_in = rw c.child_at.ensures (children_in s.args.words.now s.args.text.now s.requires.linked s.args.r s.args.nesting
+      s.requires.record_in); }
+
+pub returns : goal.returns
+returns c = let a = c.args in
+    c.outcome_cell.ensures a.words.now a.text.now
+    ∙ ap (outcome_cell signed_rules a.size (span_at a.words.now a.r)) c.eval_first.ensures
+    ∙ rw c.child_at.ensures
+    (expression_at a.level a.size (span_at a.words.now a.r) (parts_at a.words.now a.text.now a.r))
