@@ -4,11 +4,11 @@ ghost use Rattle.definition_log.specs.machine.Parts.{meant};
 ghost use Rattle.resolving.specs.machine.Leading.{AnswersPhandle, AnswersTarget, AnswersLabel, AnswersBelow, AnswersPath};
 ghost use Rattle.resolving.specs.machine.Leading.{FirstWith, ReportsMissing};
 
-use input::phandle::{PhandleRead, phandle_label_at, phandle_path_at};
-use input::record::no_text;
 use definition_log::layout;
 use definition_log::parts::Span;
 use definition_log::record::{first_text, log_count, next_of, out_field, second_text};
+use input::phandle::{PhandleRead, phandle_label_at, phandle_path_at};
+use input::record::no_text;
 use making::ctx::LowerCtx;
 use making::place::second_place;
 use paths_numbers::codes::{LABEL_NOT_FOUND, NODE_AMBIGUOUS, NODE_NOT_FOUND};
