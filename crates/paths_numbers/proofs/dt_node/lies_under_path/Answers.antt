@@ -1,6 +1,5 @@
 -- As mir::lies_under (Strip: under_tests); what a slice begins with is not longer, so its length is not cut (Lengths: kept).
 use Rattle.std.proofs.Common.{length, sym, ◌∙◌, arith, eq-eqb, ne_eqb}
-use borrow.Author.Tests.{not-true, not-false}
 use Rattle.paths_numbers.specs.meaning.Path.{joined, largest_usize}
 use Rattle.paths_numbers.proofs.Texts.{begins_length}
 use Rattle.paths_numbers.proofs.Lengths.{kept}
@@ -11,14 +10,14 @@ pub returns-then-not-begins_with_path : goal.returns-then-not-begins_with_path
 returns-then-not-begins_with_path c =
     let a = c.args in
     let p = joined a.parent.now a.name.now a.unit.now in
-    let e = sym c.begins_with_path.ensures ∙ not-true _ c.if-not-begins_with_path.true-raw in
+    let e = sym c.begins_with_path.ensures ∙ c.if-not-begins_with_path.true in
     sym (under_tests a.this.now p ∙ simp e)
 
 pub returns-then-this-n : goal.returns-then-this-n
 returns-then-this-n c =
     let a = c.args in
     let p = joined a.parent.now a.name.now a.unit.now in
-    let e = sym c.begins_with_path.ensures ∙ not-false _ c.if-not-begins_with_path.false-raw in
+    let e = sym c.begins_with_path.ensures ∙ c.if-not-begins_with_path.false in
     let n = c.path_len-n.ensures ∙ kept largest_usize (length p) (omega (arith, begins_length _ _ e)) in
     sym (under_tests a.this.now p ∙ simp (e, eq-eqb _ _ (c.if-this-n.true ∙ n)))
 
@@ -27,7 +26,7 @@ returns-then-path_is_root c =
     let a = c.args in
     let p = joined a.parent.now a.name.now a.unit.now in
     let e = sym c.begins_with_path.ensures
-    ∙ not-false _ c.if-not-begins_with_path.false-raw in
+    ∙ c.if-not-begins_with_path.false in
     let n = c.path_len-n.ensures ∙ kept largest_usize (length p) (omega (arith, begins_length _ _ e)) in
     let r = sym c.path_is_root.ensures ∙ c.if-path_is_root.true in
     sym (under_tests a.this.now p ∙ simp (e, ne_eqb _ _ (λ q. c.if-this-n.false (q ∙ sym n)), r))
@@ -37,7 +36,7 @@ bounds-this-n c =
     let a = c.args in
     let p = joined a.parent.now a.name.now a.unit.now in
     let e = sym c.begins_with_path.ensures
-    ∙ not-false _ c.if-not-begins_with_path.false-raw in
+    ∙ c.if-not-begins_with_path.false in
     let h = begins_length a.this.now p e in
     omega (
       arith,
@@ -51,7 +50,7 @@ returns c =
     let a = c.args in
     let p = joined a.parent.now a.name.now a.unit.now in
     let e = sym c.begins_with_path.ensures
-    ∙ not-false _ c.if-not-begins_with_path.false-raw in
+    ∙ c.if-not-begins_with_path.false in
     let n = c.path_len-n.ensures ∙ kept largest_usize (length p) (omega (arith, begins_length _ _ e)) in
     let r = sym c.path_is_root.ensures ∙ c.if-path_is_root.false in
     rw n (sym (under_tests a.this.now p ∙ simp (e, ne_eqb _ _ (λ q. c.if-this-n.false (q ∙ sym n)), r)))

@@ -1,5 +1,4 @@
 use Rattle.std.proofs.Common.{sym, ap, ◌∙◌, arith, length-take-le}
-use borrow.Author.Tests.{not-true, not-false}
 use lib.Seq.{take-length}
 use Rattle.paths_numbers.specs.meaning.Number.{trimmed}
 use Rattle.paths_numbers.proofs.Suffixes.{shorter, stays, nothing_left}
@@ -15,14 +14,14 @@ pub returns-then-not-is_suffix : goal.returns-then-not-is_suffix
 returns-then-not-is_suffix c =
     let l = c.loop-n in
     stays c.args.text.now l.n _ l.invariant.1 (omega arith) l.invariant.0
-    (sym c.is_suffix.ensures ∙ not-true _ c.if-not-is_suffix.true-raw)
+    (sym c.is_suffix.ensures ∙ c.if-not-is_suffix.true)
 
 pub loop-n-preserved : goal.loop-n-preserved
 loop-n-preserved c =
     let l = c.loop-n in (
       omega arith,
       shorter c.args.text.now l.n _ l.invariant.1 (omega arith)
-          l.invariant.0 (sym c.is_suffix.ensures ∙ not-false _ c.if-not-is_suffix.false-raw),
+          l.invariant.0 (sym c.is_suffix.ensures ∙ c.if-not-is_suffix.false),
     )
 
 pub slice_bounds-result-end-2 : goal.slice_bounds-result-end-2

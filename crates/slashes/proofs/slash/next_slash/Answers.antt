@@ -9,12 +9,6 @@ returns-then-path-from c = let a = c.args in sym (done a.path.now a.from (omega 
 pub loop-i-init : goal.loop-i-init
 loop-i-init c = (omega arith, refl)
 
--- LOST cast-k c = omega (arith, trailing_le 64 c.slash-marks.result)
--- LOST
-
--- LOST add-t14 c = omega (arith, trailing_le 64 c.before.slash-marks.result)
--- LOST
-
 pub returns-then-k-lt-WORD : goal.returns-then-k-lt-WORD
 returns-then-k-lt-WORD c =
     let s = c.args.path.now in

@@ -2,8 +2,5 @@
 use Rattle.slashes.proofs.Marks.{marks_word}
 use Rattle.slashes.proofs.slash.slash_marks.Goals as goal
 
--- LOST add-result c = record { fits = search (sum_fits, lit<, tt) }
--- LOST
-
 pub returns : goal.returns
 returns c = marks_word c.args.w
