@@ -20,11 +20,11 @@ ghost use Rattle.items.specs.machine.PropertyMade.{is_top, property_at};
 ghost use Rattle.items.specs.machine.AtRecord.{named_at};
 
 use crate::report::{emit_code, emit_name, emit_report};
+use definition_log::parts::TargetKind;
 use input::name::{FullName, full_name, is_named, name_text, property_name_span};
 use input::phandle::{phandle_label_at, phandle_path_at};
 use input::record::{child_at, next_at, second_at, span_at, text_at};
 use input::value_read::{CellRead, PlainValue, ValueRead, read_cell, read_value};
-use definition_log::parts::TargetKind;
 use making::ctx::LowerCtx;
 use making::place::PathAt;
 use making::recs::DefKind;

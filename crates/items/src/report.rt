@@ -9,10 +9,10 @@ ghost use Rattle.resolving.specs.machine.Lowers.{Lowers};
 ghost use Rattle.input.specs.machine.NameRead.{name_read, full_read};
 ghost use Rattle.input.specs.machine.Reported.{reports_of};
 
+use definition_log::parts::Span;
 use input::name::{FullName, NameOrMacro};
 use input::record::{span_at, text_at};
 use input::report::Report;
-use definition_log::parts::Span;
 use making::ctx::LowerCtx;
 use paths_numbers::codes::MACRO_UNDEFINED;
 

@@ -1,0 +1,22 @@
+-- Loop invariant: what the cells that are left do completes what the whole chain does (Filled, ValueRead).
+use Rattle.input.proofs.Read.{rank}
+use Rattle.items.specs.machine.Filled.{FillsCells}
+use Rattle.input.specs.machine.Linked.{ChainIn}
+use Rattle.input.specs.meaning.Input.{chain_at}
+use Rattle.input.specs.meaning.Property.{lower_cells}
+use Rattle.making.specs.declared.ctx.LowerCtx.{LowerCtx}
+use lib.ListN.{length}
+use mathlib.Core.List.{List}
+use Prim.Native.Nat.{ℕ}
+use mathlib.Core.Path.{◌≡◌}
+use Rattle.items.proofs.dt_property.lower_cells.Given as goal
+
+abbrev pub invariant-loop-r : goal.invariant-loop-r
+invariant-loop-r l = ChainIn l.words l.text l.r l.nesting
+    × (length l.out ≡ length l.initial.out)
+    × (length l.bytes ≡ length l.initial.bytes) × ((d : LowerCtx) (w b : List ℕ)
+    → FillsCells l.keep l.next d l.out l.bytes w b (lower_cells l.level l.size (chain_at l.words l.text l.r))
+    → FillsCells l.keep l.initial.next d l.initial.out l.initial.bytes w b (lower_cells l.level l.size (chain_at l.words l.text l.initial.r)))
+
+abbrev pub decreases-loop-r : goal.decreases-loop-r
+decreases-loop-r l = rank l.words l.r

@@ -1,0 +1,22 @@
+-- A value more, where it is kept (Filled).
+use borrow.Author.Tests.{not-true, not-false}
+use Rattle.items.proofs.Filled.{adding_values, value_one, fills_dropped, fills_one, same_fills}
+use Rattle.resolving.proofs.Lowers.{part_grows}
+use Rattle.input.specs.meaning.Report.{one}
+use Rattle.definition_log.specs.meaning.Contents.{cell_list}
+use Rattle.paths_numbers.specs.meaning.Cell.{bits_of}
+use mathlib.Core.List.{[]}
+use Prim.Native.Nat.{ℕ}
+use mathlib.Core.Path.{refl, ap}
+use Rattle.items.proofs.dt_property.push_cell_list.Goals as goal
+
+pub returns-then-not-keep : goal.returns-then-not-keep
+returns-then-not-keep c = let a = c.args in fills_dropped adding_values a.keep (one (cell_list (bits_of a.size) []))
+    (not-true _ c.if-not-keep.true-raw) refl
+
+pub returns : goal.returns
+returns c = let a = c.args in
+    same_fills (ap (λ (n : ℕ). one (cell_list n [])) c.bits.ensures)
+    (fills_one adding_values a.keep _ _ (not-false _ c.if-not-keep.false-raw)
+    (part_grows _ _) (value_one (cell_list c.bits.result []) refl)
+    c.add_cell_list.ensures)

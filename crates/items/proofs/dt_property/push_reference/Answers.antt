@@ -1,0 +1,23 @@
+-- A cell more, where it is kept (Filled).
+use Rattle.paths_numbers.specs.meaning.Reference.{Target}
+use Rattle.input.proofs.ValueRead.{same_target}
+use borrow.Author.Tests.{not-true, not-false}
+use Rattle.items.proofs.Filled.{adding_cells, cell_added, fills_dropped, fills_one, same_fills}
+use Rattle.resolving.proofs.Lowers.{part_grows}
+use Rattle.input.specs.meaning.Report.{one}
+use Rattle.definition_log.specs.meaning.Contents.{reference}
+use mathlib.Core.Path.{refl, ap}
+use Rattle.items.proofs.dt_property.push_reference.Goals as goal
+
+pub returns-then-not-keep : goal.returns-then-not-keep
+returns-then-not-keep c = let a = c.args in fills_dropped adding_cells a.keep _ (not-true _ c.if-not-keep.true-raw)
+    refl
+
+pub returns : goal.returns
+returns c = let a = c.args in
+    same_fills (ap (λ (t : Target). one (reference t)) (same_target a.kind
+    c.phandle_label_at.ensures
+    c.phandle_path_at.ensures))
+    (fills_one adding_cells a.keep _ _ (not-false _
+    c.if-not-keep.false-raw) (part_grows _ _) (cell_added _)
+    c.add_reference.ensures)

@@ -1,0 +1,39 @@
+-- The label's first binding last (DeletingBound).
+use mathlib.Core.Path.{sym, ◌∙◌}
+use Rattle.items.proofs.DeletingBound.{deletes_left, deletes_first}
+use Rattle.items.proofs.item.delete_bound.Goals as goal
+
+pub shape_of-out-then-goes : goal.shape_of-out-then-goes
+shape_of-out-then-goes c = c.unlink_first.auto.out
+    ∙ c.define_bound-made.auto.out
+    ∙ c.unbind_others-without.auto.out
+
+pub returns-then-goes : goal.returns-then-goes
+returns-then-goes c =
+    let a = c.args in
+    deletes_first a.span a.below
+    c.first_with-found.ensures
+    (rw c.no_text-unit.ensures
+    at c.unbind_others-without.ensures)
+    c.define_bound-made.ensures
+    c.unlink_first.ensures
+    (rw (
+      c.bound_base-base.ensures,
+      c.no_text-unit.ensures,
+    ) at
+    (sym c.goes_with-goes.ensures
+    ∙ c.if-goes.true))
+
+pub returns : goal.returns
+returns c =
+    let a = c.args in
+    deletes_left a.span a.below
+    c.first_with-found.ensures (rw
+    c.no_text-unit.ensures at
+    c.unbind_others-without.ensures)
+    c.define_bound-made.ensures
+    (rw (
+      c.bound_base-base.ensures,
+      c.no_text-unit.ensures,
+    ) at
+    (sym c.goes_with-goes.ensures ∙ c.if-goes.false))

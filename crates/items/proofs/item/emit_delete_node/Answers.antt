@@ -1,0 +1,40 @@
+-- By the name, else by the reference (Directives).
+use mathlib.Core.Path.{sym, ap, ◌∙◌}
+use mathlib.Core.Option.{Option}
+use Rattle.definition_log.specs.machine.Parts.{meant}
+use Rattle.making.specs.meaning.State.{emit}
+use Rattle.input.specs.meaning.Tree.{Tree}
+use Rattle.items.specs.meaning.Lower.{delete_referenced}
+use Rattle.input.specs.machine.NameRead.{full_read}
+use Rattle.resolving.proofs.Lowers.{lowers_then}
+use Rattle.resolving.proofs.Under.{lowers_under, under_then}
+use Rattle.items.proofs.Directives.{under_as, by_name_lem, by_reference}
+use Rattle.items.proofs.item.emit_delete_node.Goals as goal
+
+pub returns-then-is_named : goal.returns-then-is_named
+returns-then-is_named c =
+    let a = c.args in
+    let f = c.full_name-full in
+    under_as (by_name_lem a.words.now a.text.now a.parts f.result f.ensures (meant a.span)
+    c.requires.parts_value
+    (sym (c.is_named.ensures a.words.now
+    a.text.now) ∙ c.if-is_named.true))
+    (under_then (lowers_under
+    c.emit_name-told.ensures) (rw (
+      c.name_text.ensures,
+      c.name_text-then-is_named.ensures,
+    ) at c.delete_named.ensures))
+
+pub returns : goal.returns
+returns c =
+    let a = c.args in
+    let f = c.full_name-full in
+    under_as
+    (λ p s. by_reference a.words.now a.text.now a.parts f.result f.ensures (meant a.span)
+    (sym (c.is_named.ensures a.words.now a.text.now)
+    ∙ c.if-is_named.false) s p
+    ∙ ap (λ (o : Option Tree). delete_referenced (meant a.span) o
+    (emit (full_read a.words.now a.text.now f.result).reports s))
+    (c.first_of-r.ensures.tree a.text.now))
+    (lowers_under (lowers_then
+    c.emit_name-told.ensures c.delete_referenced.ensures))

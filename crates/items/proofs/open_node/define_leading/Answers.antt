@@ -1,0 +1,123 @@
+-- By where the reference leads (NodeReferenced).
+use mathlib.Core.Path.{refl, ap, ◌∙◌}
+use Rattle.making.specs.machine.PathPlaces.{path_in}
+use Rattle.input.specs.meaning.Input.{span_at}
+use Rattle.input.specs.machine.PhandleRead.{label_at, path_at}
+use Rattle.items.specs.machine.NodePlaced.{leads_on}
+use Rattle.input.proofs.Read.{child_there}
+use Rattle.items.proofs.NodeReferenced.{defines_bound, defines_below, defines_path, defines_named, defines_none}
+use Rattle.items.proofs.open_node.define_leading.Goals as goal
+
+pub node_kind-kind-requires : goal.node_kind-kind-requires
+node_kind-kind-requires c = let s = c in record {
+  linked = s.requires.linked;
+  at = child_there _ s.requires.linked s.args.r
+      s.requires.r_bound _ c.child_at-parts.ensures;
+}
+
+pub node_name_span-name_span-requires : goal.node_name_span-name_span-requires
+node_name_span-name_span-requires c = let s = c in record {
+  linked = s.requires.linked;
+  at = child_there _ s.requires.linked
+      s.args.r s.requires.r_bound _ c.child_at-parts.ensures;
+}
+
+pub returns-in-Bound : goal.returns-in-Bound
+returns-in-Bound c =
+    let a = c.args in
+    let words = a.words.now in
+    let text = a.text.now in
+    let part = c.child_at-parts.ensures in
+    defines_bound a.leads (label_at words text a.reference) (path_at words text a.reference)
+    c.node_kind-kind.result
+    c.span_at-span.result
+    c.node_name_span-name_span.result
+    (span_at words a.r) _ c.define_at.ensures
+    (rw part at
+    (c.node_kind-kind.ensures text))
+    c.span_at-span.ensures
+    (c.node_name_span-name_span.ensures
+    text ∙ rw (
+      part,
+      c.span_at-span.ensures,
+    )
+    refl)
+    _ c.in-Bound.is
+    (ap (path_in a.ctx.bytes a.bytes.now) c.second_place-place.ensures)
+
+pub returns-in-BoundPath : goal.returns-in-BoundPath
+returns-in-BoundPath c =
+    let a = c.args in
+    let words = a.words.now in
+    let text = a.text.now in
+    let part = c.child_at-parts.ensures in
+    defines_below a.leads (label_at words text a.reference) (path_at words text a.reference)
+    c.node_kind-kind.result
+    c.span_at-span.result c.node_name_span-name_span.result (span_at words a.r) _ c.define.ensures
+    (rw part at
+    (c.node_kind-kind.ensures text))
+    c.span_at-span.ensures
+    (c.node_name_span-name_span.ensures text ∙ rw (
+      part,
+      c.span_at-span.ensures,
+    ) refl)
+    _ c.in-BoundPath.is
+    (rw (
+      c.second_place-place-in-BoundPath.ensures,
+      c.phandle_path_at-path.ensures,
+      c.no_text-unit.ensures,
+    ) refl)
+
+pub returns-in-AtPath : goal.returns-in-AtPath
+returns-in-AtPath c =
+    let a = c.args in
+    let words = a.words.now in
+    let text = a.text.now in
+    let part = c.child_at-parts.ensures
+    in
+    defines_path a.leads (label_at words text a.reference) (path_at words text a.reference)
+    c.node_kind-kind.result
+    c.span_at-span.result
+    c.node_name_span-name_span.result (span_at words a.r) _
+    c.define_text.ensures
+    (rw part at (c.node_kind-kind.ensures
+    text)) c.span_at-span.ensures
+    (c.node_name_span-name_span.ensures text
+    ∙ rw (part, c.span_at-span.ensures) refl)
+    c.in-AtPath.is
+    c.phandle_path_at-path.ensures
+
+pub returns-in-Node : goal.returns-in-Node
+returns-in-Node c =
+    let a = c.args in
+    let words = a.words.now in
+    let text = a.text.now in
+    let part = c.child_at-parts.ensures in
+    defines_named a.leads (label_at words text a.reference) (path_at words text a.reference)
+    c.node_kind-kind.result
+    c.span_at-span.result
+    c.node_name_span-name_span.result
+    (span_at words a.r) _ c.define_at-in-Node.ensures
+    (rw part at
+    (c.node_kind-kind.ensures text))
+    c.span_at-span.ensures
+    (c.node_name_span-name_span.ensures
+    text ∙ rw (
+      part,
+      c.span_at-span.ensures,
+    )
+    refl)
+    _ c.in-Node.is
+    (ap (path_in a.ctx.bytes a.bytes.now) c.first_place-place.ensures)
+
+pub returns-in-NoLabel : goal.returns-in-NoLabel
+returns-in-NoLabel c = let a = c.args in defines_none
+    a.leads _ _ (ap leads_on c.in-NoLabel.is)
+
+pub returns-in-NoNode : goal.returns-in-NoNode
+returns-in-NoNode c = let a = c.args in defines_none
+    a.leads _ _ (ap leads_on c.in-NoNode.is)
+
+pub returns-in-NoNodeBelow : goal.returns-in-NoNodeBelow
+returns-in-NoNodeBelow c = let a = c.args in defines_none
+    a.leads _ _ (ap leads_on c.in-NoNodeBelow.is)

@@ -1,0 +1,48 @@
+-- The definition, then the labels (Opened).
+use mathlib.Core.Path.{refl, ◌∙◌}
+use Rattle.input.specs.meaning.Input.{span_at}
+use Rattle.input.proofs.Read.{child_there}
+use Rattle.items.proofs.Opened.{defined_opens}
+use Rattle.items.proofs.open_node.define_there.Goals as goal
+
+pub node_kind-kind-requires : goal.node_kind-kind-requires
+node_kind-kind-requires c = let s = c in record {
+  linked = s.requires.linked;
+  at = child_there _ s.requires.linked s.args.r
+      s.requires.r_bound _ c.child_at-parts.ensures;
+}
+
+pub node_name_span-name_span-requires : goal.node_name_span-name_span-requires
+node_name_span-name_span-requires c = let s = c in record {
+  linked = s.requires.linked;
+  at = child_there _
+      s.requires.linked s.args.r s.requires.r_bound _ c.child_at-parts.ensures;
+}
+
+pub open_node-requires : goal.open_node-requires
+open_node-requires c = let s = c in record {
+  linked = s.requires.linked;
+  at = child_there _ s.requires.linked s.args.r s.requires.r_bound _
+      c.child_at-parts.ensures;
+}
+
+pub returns : goal.returns
+returns c =
+    let a = c.args in
+    let words = a.words.now in
+    let text = a.text.now in
+    let part = c.child_at-parts.ensures in
+    λ parent.
+    defined_opens {parent = parent}
+    c.node_kind-kind.result
+    c.span_at-span.result c.node_name_span-name_span.result (span_at words a.r) a.path.now (λ p. a.path.now)
+    c.define_text-made.ensures
+    (rw part at c.open_node.ensures)
+    (rw part at
+    (c.node_kind-kind.ensures text))
+    c.span_at-span.ensures
+    (c.node_name_span-name_span.ensures text ∙ rw (
+      part,
+      c.span_at-span.ensures,
+    ) refl)
+    (λ k p s r z. refl)

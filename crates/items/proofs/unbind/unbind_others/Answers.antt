@@ -1,0 +1,20 @@
+-- Up to the label's first binding, and behind it (DeletingBound).
+use Rattle.items.proofs.DeletingBound.{others_none, others_all}
+use Rattle.items.proofs.unbind.unbind_others.Goals as goal
+
+pub returns-then-left-eq0 : goal.returns-then-left-eq0
+returns-then-left-eq0 c = others_none
+    c.args.below
+    c.first_with-found.ensures
+    c.log_count-most.ensures
+    c.bound_base-base.ensures
+    c.unbind-up.ensures c.if-left-eq0.true
+
+pub returns : goal.returns
+returns c = others_all
+    c.args.below
+    c.first_with-found.ensures
+    c.log_count-most.ensures
+    c.bound_base-base.ensures
+    c.unbind-up.ensures c.next_of-next.ensures
+    c.bound_base.ensures c.unbind-behind.ensures
