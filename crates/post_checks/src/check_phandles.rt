@@ -10,12 +10,14 @@ ghost use Rattle.post_checks.specs.meaning.Post.{check_references};
 ghost use Rattle.resolving.specs.machine.Lowers.{Lowers};
 ghost use Rattle.post_checks.specs.machine.Checks.{Reports, ReportsLive, ReportsParts, said, target_place};
 
-use input::record::no_text;
 use definition_log::kinds::{CELL_LIST, PROPERTY, REFERENCE};
 use definition_log::layout;
 use definition_log::limits::{FEW_RECORDS, LEAST_RECORDS, MOST_RECORDS};
 use definition_log::parts::{Span, name_span_of};
-use definition_log::record::{child_of, first_text, kind_of, log_count, next_of, out_field, second_text};
+use definition_log::record::{
+    child_of, first_text, kind_of, log_count, next_of, out_field, second_text,
+};
+use input::record::no_text;
 use making::ctx::LowerCtx;
 use making::place::{PathAt, first_place, second_place};
 use paths_numbers::codes::LABEL_NOT_FOUND;
