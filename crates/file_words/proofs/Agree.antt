@@ -1,15 +1,14 @@
 -- Words that agree but for words 13 to 15 of their records say the same, keep the same rules of row 8, and have the same texts.
 use Prim.Native.Nat.{ℕ, zero, suc, ◌+◌, ◌-◌, ◌<◌}
 use mathlib.Core.Path.{◌≡◌, refl, ap, ◌∙◌}
-use mathlib.Core.List.{List, [], ◌∷◌, ◌++◌, map}
+use mathlib.Core.List.{List, [], ◌∷◌, map}
 use native.Mathlib.Omega.{arith}
 use lib.ListN.{length}
-use Rattle.definition_log.specs.meaning.Contents.{Cell, Value, Def, Ext, Binding, Diag}
 use Rattle.definition_log.specs.meaning.Record.{out_field, kind_of, next_of, child_of, m_of, first_text, second_text, log_count}
 use Rattle.definition_log.specs.meaning.ReadBack.{chain_from, chain_of, target_at, read_labels, cell_at, read_cells, value_at, read_values, def_value_at}
 use Rattle.definition_log.specs.meaning.ReadBack.{def_at, read_defs, ext_at, read_exts, binding_at, read_bindings, diag_at, read_diags, read_log}
-use Rattle.definition_log.specs.meaning.Sound.{Link, Place, link_to, head_links, links_of, walk, followed, is_reached, heads_out, links_out, unfit}
-use Rattle.definition_log.specs.meaning.Sound.{texts_out, spans_reversed, path_wrong, record_fault, at_fault, first_fault, lowest_fault, any_of}
+use Rattle.definition_log.specs.meaning.Sound.{Link, link_to, head_links, links_of, walk, followed, is_reached, heads_out, links_out, unfit}
+use Rattle.definition_log.specs.meaning.Sound.{texts_out, spans_reversed, path_wrong, record_fault, at_fault, first_fault, lowest_fault}
 use Rattle.definition_log.specs.meaning.Written.{holders_in, holders}
 
 pub record Agrees (w v : List ℕ) : Type 0 where

@@ -1,6 +1,6 @@
 -- 01's worked listing of three files, which start at 0, 11 and 17, computed by the checker: /b starts in file 1 and its name in file 2, the
 -- binding of its label starts in file 1, and all else in file 0. The predicate is not empty for more than one file, nor for every log.
-use Prim.Native.Nat.{ℕ, ◌+◌, ◌*◌}
+use Prim.Native.Nat.{ℕ}
 use mathlib.Core.Path.{◌≡◌, refl}
 use mathlib.Core.Bool.{true}
 use mathlib.Core.List.{List, [], ◌∷◌}

@@ -1,21 +1,21 @@
 -- A log that is written of one file is written of any good list of files, once their numbers are put into it.
 use Prim.Native.Nat.{ℕ, ◌+◌, ◌*◌, ◌/◌, ◌%◌, ◌≤◌, ◌<◌}
-use mathlib.Core.Path.{◌≡◌, refl, sym, ap, ◌∙◌}
+use mathlib.Core.Path.{◌≡◌, sym, ap, ◌∙◌}
 use mathlib.Core.Bool.{true, false}
 use mathlib.Core.List.{List, [], ◌∷◌}
 use native.Mathlib.Omega.{arith}
 use borrow.Author.Tests.{eqb-true, eqb-false, ltb-true, ltb-false}
 use lib.Dec.{eqb, ltb}
-use lib.ListN.{length, get_or}
+use lib.ListN.{get_or}
 use Rattle.paths_numbers.proofs.Texts.{by_test}
 use Rattle.files.specs.meaning.Files.{good_files, file_of}
 use Rattle.files.proofs.Starts.{file_zero}
-use Rattle.definition_log.specs.meaning.Record.{record_words, head_words, out_field, kind_of, n_of, span_start, name_start, has_span, has_name_span}
+use Rattle.definition_log.specs.meaning.Record.{record_words, out_field, kind_of, n_of, span_start, name_start}
 use Rattle.definition_log.specs.meaning.Record.{span_file, name_file}
-use Rattle.definition_log.specs.meaning.Record.{next_of, child_of, extension_kind}
+use Rattle.definition_log.specs.meaning.Record.{child_of}
 use Rattle.definition_log.specs.meaning.ReadBack.{Log}
 use Rattle.definition_log.specs.meaning.Sound.{is_reached}
-use Rattle.definition_log.specs.meaning.Written.{named, largest_n, Kept, Written}
+use Rattle.definition_log.specs.meaning.Written.{named, Kept, Written}
 use Rattle.file_words.specs.machine.Put.{FilesPut}
 use Rattle.file_words.proofs.Agree.{Agrees, at_same, log_same, lowest_same, reached_same, holders_same}
 

@@ -1,17 +1,15 @@
 -- Of one file every number is 0.
 use Prim.Native.Nat.{ℕ, zero, suc, ◌+◌, ◌*◌, ◌/◌, ◌≤◌, ◌<◌}
 use mathlib.Core.Path.{◌≡◌, ◌∙◌}
-use mathlib.Core.Bool.{true, false}
 use mathlib.Core.List.{List, [], ◌∷◌}
 use native.Mathlib.Omega.{arith}
 use borrow.Author.Tests.{eqb-true, eqb-false}
 use lib.Dec.{eqb}
 use Rattle.paths_numbers.proofs.Texts.{by_test}
 use Rattle.files.proofs.Starts.{one_file_lem}
-use Rattle.definition_log.specs.meaning.Record.{record_words, out_field, kind_of, n_of, span_start, name_start, has_span, has_name_span}
-use Rattle.definition_log.specs.meaning.ReadBack.{Log}
+use Rattle.definition_log.specs.meaning.Record.{record_words, out_field, kind_of, n_of, span_start, name_start}
 use Rattle.definition_log.specs.meaning.Sound.{is_reached}
-use Rattle.definition_log.specs.meaning.Written.{named, Kept, Written}
+use Rattle.definition_log.specs.meaning.Written.{named, Kept}
 use Rattle.definition_log.proofs.Pinned.{named_last}
 use Rattle.file_words.specs.meaning.OneFile.{ThreeZeros}
 

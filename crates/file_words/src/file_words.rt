@@ -4,8 +4,8 @@ ghost use Rattle.files.specs.meaning.Files.{most_files, file_of};
 ghost use Rattle.definition_log.specs.meaning.Record.{record_words};
 ghost use Rattle.file_words.specs.machine.Put.{FilesPut, record_put};
 
-use files::files::file_of;
 use definition_log::layout;
+use files::files::file_of;
 
 // The words of a record that are read and written here, as places in its words.
 const SPAN_START: usize = layout::SPAN_START as usize;

@@ -5,7 +5,7 @@ use mathlib.Core.Bool.{Bool, true, false, cond}
 use mathlib.Core.List.{List, [], ◌∷◌, ◌++◌, append-nil, append_assoc}
 use native.Mathlib.Numerals.{add-one}
 use native.Mathlib.Omega.{arith}
-use borrow.Author.Tests.{eq-eqb, ne_eqb, eqb-true}
+use borrow.Author.Tests.{eq-eqb, ne_eqb, eqb-true, eqb-false}
 use lib.Dec.{eqb}
 use lib.ListN.{length, get_or, take, drop, drop_of_length-le}
 use lib.Seq.{take-suc, take_all, drop-cons}
@@ -153,6 +153,13 @@ module _ (look : List ℕ → Bool) (s : List ℕ) (i : ℕ) (found w : Bool) (i
     pub above_pass : i < length s → (get_or s i 0 ≡ slash → ⊥) → w ≡ cond found true (above_from look (take (i + 1) s) (drop (i + 1) s))
     unfolding above_from
     above_pass n e = inv ∙ rw (drop-cons s i 0 n, add-one, take-suc s i 0 n, ne_eqb _ _ e) refl
+
+    -- at either
+    pub above_next : i < length s → (after : Bool) → (get_or s i 0 ≡ slash → after ≡ cond found true (look (take i s)))
+        → ((get_or s i 0 ≡ slash → ⊥) → after ≡ found) → w ≡ cond after true (above_from look (take (i + 1) s) (drop (i + 1) s))
+    above_next n after at other =
+        by_test (eqb (get_or s i 0) slash) (λ t. let e = eqb-true _ _ t in above_slash n e after (at e))
+        (λ t. let e = eqb-false _ _ t in rw (other e) (above_pass n e))
 
     -- behind the last
     pub above_end : length s ≤ i → cond found true (look s) ≡ w

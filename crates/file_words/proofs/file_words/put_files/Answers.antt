@@ -1,5 +1,4 @@
 use borrow.Author.Rules.{rules}
-use Prim.Native.Nat.{◌-◌}
 use mathlib.Core.Path.{◌≡◌}
 use native.Mathlib.Omega.{arith}
 use Rattle.file_words.proofs.PutOne.{put_none, put_next}
@@ -9,7 +8,7 @@ pub loop-r-init : goal.loop-r-init
 loop-r-init c = (search rules, put_none _ _)
 
 pub put_record-requires : goal.put_record-requires
-put_record-requires c = record {record_words_in_bounds = omega (arith, c.loop-r.invariant.1.same_length); starts_len_bound = search rules; }
+put_record-requires c = record { record_words_in_bounds = omega (arith, c.loop-r.invariant.1.same_length); starts_len_bound = search rules }
 
 pub loop-r-preserved : goal.loop-r-preserved
 loop-r-preserved c =

@@ -1,6 +1,5 @@
 -- Only a node has labels (Records: label_at).
 use mathlib.Core.Path.{refl, sym, ◌∙◌}
-use borrow.Author.Tests.{not-true, not-false}
 use Rattle.queries.proofs.Records.{label_at}
 use Rattle.queries.proofs.definition.has_label_at.Goals as goal
 
@@ -8,7 +7,7 @@ pub returns-then-not-is_node_at : goal.returns-then-not-is_node_at
 returns-then-not-is_node_at c =
     let a = c.args in
     sym (label_at a.words.now a.bytes.now a.r a.label.now a.path.now
-    ∙ rw (sym c.is_node_at.ensures ∙ not-true _ c.if-not-is_node_at.true-raw) refl)
+    ∙ rw (sym c.is_node_at.ensures ∙ c.if-not-is_node_at.true) refl)
 
 pub returns : goal.returns
 returns c =
@@ -16,6 +15,6 @@ returns c =
     c.has_label.ensures ∙ sym (label_at a.words.now a.bytes.now a.r a.label.now a.path.now
     ∙ rw (
       sym c.is_node_at.ensures
-          ∙ not-false _ c.if-not-is_node_at.false-raw,
+          ∙ c.if-not-is_node_at.false,
       c.child_of.ensures,
     ) refl)

@@ -3,7 +3,6 @@ use Prim.Native.Nat.{ℕ}
 use mathlib.Core.Bool.{true, false}
 use mathlib.Core.Path.{◌≡◌, refl, sym, ap, ◌∙◌}
 use mathlib.Core.List.{List}
-use borrow.Author.Tests.{not-true, not-false}
 use Rattle.paths_numbers.specs.meaning.Text.{same}
 use Rattle.paths_numbers.proofs.Texts.{by_test}
 use Rattle.definition_log.specs.meaning.ReadBack.{def_at}
@@ -28,7 +27,7 @@ returns-then-not-defined c =
     let s : same (def_at a.words.now a.bytes.now a.r).path a.path.now ≡ false = ap (λ (p : List ℕ). same p a.path.now)
     (path_at_lem a.words.now a.bytes.now a.r ∙ sym c.first_text.ensures)
     ∙ sym c.equals.ensures ∙ c.if-equals.false in
-    rw (s, not-true a.defined c.if-not-defined.true-raw) refl
+    rw (s, c.if-not-defined.true) refl
 
 pub returns : goal.returns
 unfolding is_listed defined_after
@@ -37,5 +36,5 @@ returns c =
     let s : same (def_at a.words.now a.bytes.now a.r).path a.path.now ≡ false = ap (λ (p : List ℕ). same p a.path.now)
     (path_at_lem a.words.now a.bytes.now a.r ∙ sym c.first_text.ensures)
     ∙ sym c.equals.ensures ∙ c.if-equals.false in
-    rw (s, not-false a.defined c.if-not-defined.false-raw, c.deletes_above-deleted.ensures)
+    rw (s, c.if-not-defined.false, c.deletes_above-deleted.ensures)
     (by_test (deletes a.path.now (def_at a.words.now a.bytes.now a.r)) (λ t. rw t refl) (λ t. rw t refl))

@@ -1,4 +1,4 @@
-use mathlib.Core.Path.{refl, sym, ap, ◌∙◌}
+use mathlib.Core.Path.{◌≡◌, refl, sym, ap, ◌∙◌}
 use native.Mathlib.Omega.{arith}
 use lib.ListN.{length, length-set}
 use Rattle.definition_log.specs.meaning.ReadBack.{chain_of, def_at}
@@ -71,7 +71,7 @@ loop-passed-preserved c =
           (ap (λ (p : Passed). p.defined) c.history_at-passed.ensures) _ c.next_of-r.ensures
           (sym (ap (λ (p : Passed). p.listed) c.history_at-passed.ensures) ∙ w.if-passed.true)) in
           let n = ap length e in
-          let k = ap length w.found-is ∙ simp length-set in (
+          let k : length c.if-passed.found ≡ length l.found = ap length w.found-is ∙ simp length-set in (
             k ∙ l.invariant.0,
             omega (arith, k, n, w.count-is, l.invariant.1),
             rw (w.found-is, w.count-is)

@@ -20,7 +20,7 @@ returns-then-takes_at c =
     a.later.now l.e (omega arith) (omega arith) l.invariant.2 (sym c.takes_at.ensures ∙ c.if-takes_at.true))
 
 pub overflow_cast-e-in-loop-e : goal.overflow_cast-e-in-loop-e
-overflow_cast-e-in-loop-e c = omega (arith, c.shared_slice_known-in-loop-e-2-1.given (c.loop-e.e - 1))
+overflow_cast-e-in-loop-e c = omega (arith, c.type_inv.links (c.loop-e.e - 1))
 
 pub loop-e-smaller : goal.loop-e-smaller
 loop-e-smaller c =

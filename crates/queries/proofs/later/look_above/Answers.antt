@@ -7,10 +7,9 @@ use lib.Seq.{length-take-le}
 use Rattle.definition_log.specs.meaning.ReadBack.{def_at}
 use Rattle.queries.specs.machine.Table.{hash_from}
 use Rattle.queries.specs.declared.later.Above.{Above}
-use Rattle.queries.proofs.Fronts.{deleted_in, above_start, above_slash, above_pass, above_end, hash_step, hash_end}
+use Rattle.queries.proofs.Fronts.{deleted_in, above_start, above_next, above_end, hash_step, hash_end}
 use borrow.Author.Rules.{rules}
 use Rattle.queries.proofs.later.look_above.Goals as goal
-use Rattle.queries.proofs.later.look_above.Goals.{then-path-i-eq47, else-path-i-eq47}
 
 -- both parts of the answer
 parts : (d e : Bool) (h k : ℕ) → d ≡ e → h ≡ k → ◌≡◌ {A = Above} (record { deleted = d; hash = h }) (record { deleted = e; hash = k })
@@ -40,12 +39,8 @@ loop-i-preserved c =
     let l = c.loop-i in (
       omega arith,
       hash_step a.path.now l.i l.hash l.invariant.1 (omega arith) _ c.mix-hash.ensures,
-      elim c.if-path-i-eq47.branch [
-        | then-path-i-eq47 w ↦ above_slash (deleted_in (map (def_at a.words.now a.bytes.now) a.later.now)) a.path.now l.i l.deleted _
-            l.invariant.2 (omega arith) w.if-path-i-eq47.true _ (w.deleted-is ∙ w.or_deleted-deleted.ensures)
-        | else-path-i-eq47 w ↦ rw w.deleted-is (above_pass (deleted_in (map (def_at a.words.now a.bytes.now) a.later.now)) a.path.now l.i
-            l.deleted _ l.invariant.2 (omega arith) w.if-path-i-eq47.false)
-      ],
+      above_next (deleted_in (map (def_at a.words.now a.bytes.now) a.later.now)) a.path.now l.i l.deleted _ l.invariant.2 (omega arith)
+          _ (λ e. grind arith) (λ e. grind arith),
     )
 
 pub or_deleted-requires : goal.or_deleted-requires

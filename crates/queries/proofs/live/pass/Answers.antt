@@ -2,7 +2,6 @@
 use mathlib.Core.Path.{sym, ap, ◌∙◌}
 use mathlib.Core.Bool.{Bool, true, not, cond}
 use native.Mathlib.Omega.{arith}
-use borrow.Author.Tests.{not-true, not-false}
 use Rattle.definition_log.specs.meaning.ReadBack.{def_at}
 use Rattle.queries.specs.declared.later.Above.{Above}
 use Rattle.queries.proofs.Table.{deleted_held, overwrites_held}
@@ -23,7 +22,7 @@ returns-then-not-lies_under c =
     let a = c.args in
     let told = turn_outside a.words.now a.bytes.now a.r a.base.now a.heads.now a.links.now a.later.now _
     c.kind_of-kind.ensures _ c.first_text-path.ensures c.requires.room_for_one.0 c.requires.room_for_one.1 c.requires.table
-    c.if-kind-eq-DELETED_NODE.false (sym c.lies_under.ensures ∙ not-true _ c.if-not-lies_under.true-raw) in record { value = told.0; table_2 = told.1 }
+    c.if-kind-eq-DELETED_NODE.false (sym c.lies_under.ensures ∙ c.if-not-lies_under.true) in record { value = told.0; table_2 = told.1 }
 
 pub returns-then-kind-eq-DELETED_PROPERTY : goal.returns-then-kind-eq-DELETED_PROPERTY
 returns-then-kind-eq-DELETED_PROPERTY c =
@@ -33,7 +32,7 @@ returns-then-kind-eq-DELETED_PROPERTY c =
     c.first_text-path.ensures c.requires.room_for_one.0 c.requires.room_for_one.1
     c.requires.table c.if-kind-eq-DELETED_NODE.false
     (sym c.lies_under.ensures
-    ∙ not-false _ c.if-not-lies_under.false-raw)
+    ∙ c.if-not-lies_under.false)
     c.if-kind-eq-DELETED_PROPERTY.true _ _
     c.enter_at-then-kind-eq-DELETED_PROPERTY.ensures.heads_after c.enter_at-then-kind-eq-DELETED_PROPERTY.ensures.links_after in record { value = told.0; table_2 = told.1 }
 
@@ -49,7 +48,7 @@ returns-then-kind-ne-PROPERTY c =
     c.first_text-path.ensures c.requires.room_for_one.0 c.requires.room_for_one.1 c.requires.table
     c.if-kind-eq-DELETED_NODE.false
     (sym c.lies_under.ensures
-    ∙ not-false _ c.if-not-lies_under.false-raw) c.if-kind-eq-DELETED_PROPERTY.false
+    ∙ c.if-not-lies_under.false) c.if-kind-eq-DELETED_PROPERTY.false
     _ (ap (λ (b : Above). b.deleted) c.look_above-above.ensures) c.if-kind-ne-PROPERTY.true in record { value = told.0; table_2 = told.1 }
 
 pub holds-overwritten-requires : goal.holds-overwritten-requires
@@ -58,7 +57,7 @@ holds-overwritten-requires c =
       holds = overwrites_held (def_at a.words.now a.bytes.now) a.base.now a.heads.now a.links.now a.later.now c.requires.room_for_one.0
           c.requires.table
           _ (sym c.lies_under.ensures
-          ∙ not-false _ c.if-not-lies_under.false-raw) _
+          ∙ c.if-not-lies_under.false) _
           (ap (λ (b : Above). b.hash) c.look_above-above.ensures);
       sized = (c.requires.room_for_one.0, omega arith);
     }
@@ -74,8 +73,7 @@ returns-then-above c =
     c.kind_of-kind.ensures _
     c.first_text-path.ensures c.requires.room_for_one.0 c.requires.room_for_one.1 c.requires.table
     c.if-kind-eq-DELETED_NODE.false (sym
-    c.lies_under.ensures ∙ not-false _
-    c.if-not-lies_under.false-raw)
+    c.lies_under.ensures ∙ c.if-not-lies_under.false)
     c.if-kind-eq-DELETED_PROPERTY.false _ (ap (λ (b : Above). b.deleted)
     c.look_above-above.ensures)
     c.if-kind-ne-PROPERTY.false _
@@ -95,8 +93,7 @@ returns c =
     c.kind_of-kind.ensures _
     c.first_text-path.ensures c.requires.room_for_one.0 c.requires.room_for_one.1 c.requires.table
     c.if-kind-eq-DELETED_NODE.false (sym
-    c.lies_under.ensures ∙ not-false _
-    c.if-not-lies_under.false-raw)
+    c.lies_under.ensures ∙ c.if-not-lies_under.false)
     c.if-kind-eq-DELETED_PROPERTY.false _ (ap (λ (b : Above). b.deleted)
     c.look_above-above.ensures)
     c.if-kind-ne-PROPERTY.false _

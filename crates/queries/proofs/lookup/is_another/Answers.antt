@@ -2,7 +2,7 @@
 use mathlib.Core.Path.{refl, sym, ap, ◌∙◌}
 use mathlib.Core.List.{◌∷◌, ◌++◌}
 use Prim.Native.Nat.{ℕ}
-use borrow.Author.Tests.{eq-eqb, ne_eqb, not-true, not-false}
+use borrow.Author.Tests.{eq-eqb, ne_eqb}
 use lib.Dec.{eqb}
 use Rattle.paths_numbers.specs.meaning.Byte.{slash}
 use Rattle.short_paths.specs.machine.Front.{front_of}
@@ -26,7 +26,7 @@ returns-then-not-is_elsewhere c =
     let k = ap (λ (x : ℕ). eqb x 1) (sym c.kind_of.ensures)
     ∙ eq-eqb _ 1 c.if-kind_of-ne-NODE.false in
     let w = c.first_text-path.ensures in
-    let e = sym (rw w at c.is_elsewhere.ensures) ∙ not-true _ c.if-not-is_elsewhere.true-raw in
+    let e = sym (rw w at c.is_elsewhere.ensures) ∙ c.if-not-is_elsewhere.true in
     sym (t ∙ rw (k, e) refl)
 
 pub returns-then-not-may_mean : goal.returns-then-not-may_mean
@@ -37,8 +37,8 @@ returns-then-not-may_mean c =
     let k = ap (λ (x : ℕ). eqb x 1) (sym c.kind_of.ensures)
     ∙ eq-eqb _ 1 c.if-kind_of-ne-NODE.false in
     let w = c.first_text-path.ensures in
-    let e = sym (rw w at c.is_elsewhere.ensures) ∙ not-false _ c.if-not-is_elsewhere.false-raw in
-    let m = sym (rw w at c.may_mean.ensures) ∙ not-true _ c.if-not-may_mean.true-raw in
+    let e = sym (rw w at c.is_elsewhere.ensures) ∙ c.if-not-is_elsewhere.false in
+    let m = sym (rw w at c.may_mean.ensures) ∙ c.if-not-may_mean.true in
     sym (t ∙ rw (k, e, m) refl)
 
 pub returns-then-not-lies_under : goal.returns-then-not-lies_under
@@ -50,9 +50,9 @@ returns-then-not-lies_under c =
     ∙ eq-eqb _ 1 c.if-kind_of-ne-NODE.false in
     let w = c.first_text-path.ensures in
     let e = sym (rw w at c.is_elsewhere.ensures)
-    ∙ not-false _ c.if-not-is_elsewhere.false-raw in
-    let m = sym (rw w at c.may_mean.ensures) ∙ not-false _ c.if-not-may_mean.false-raw in
-    let u = sym (rw w at c.lies_under.ensures) ∙ not-true _ c.if-not-lies_under.true-raw in
+    ∙ c.if-not-is_elsewhere.false in
+    let m = sym (rw w at c.may_mean.ensures) ∙ c.if-not-may_mean.false in
+    let u = sym (rw w at c.lies_under.ensures) ∙ c.if-not-lies_under.true in
     sym (t ∙ rw (k, e, m, u) refl)
 
 pub returns : goal.returns
@@ -63,8 +63,8 @@ returns c =
     let k = ap (λ (x : ℕ). eqb x 1) (sym c.kind_of.ensures) ∙ eq-eqb _ 1 c.if-kind_of-ne-NODE.false in
     let w = c.first_text-path.ensures in
     let e = sym (rw w at c.is_elsewhere.ensures)
-    ∙ not-false _ c.if-not-is_elsewhere.false-raw in
+    ∙ c.if-not-is_elsewhere.false in
     let m = sym (rw w at c.may_mean.ensures)
-    ∙ not-false _ c.if-not-may_mean.false-raw in
-    let u = sym (rw w at c.lies_under.ensures) ∙ not-false _ c.if-not-lies_under.false-raw in
+    ∙ c.if-not-may_mean.false in
+    let u = sym (rw w at c.lies_under.ensures) ∙ c.if-not-lies_under.false in
     rw w at c.contains_node_in.ensures ∙ sym (t ∙ rw (k, e, m, u) refl)

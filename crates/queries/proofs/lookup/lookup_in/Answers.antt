@@ -1,7 +1,7 @@
 -- The exact node first, then the second rule, for the root and what is behind its "/".
 use mathlib.Core.Path.{refl, sym, ◌∙◌}
 use native.Mathlib.Omega.{arith}
-use borrow.Author.Tests.{eq-eqb, not-true, not-false}
+use borrow.Author.Tests.{eq-eqb}
 use lib.Seq.{length-take-le}
 use Rattle.paths_numbers.proofs.Texts.{starts_at}
 use Rattle.paths_numbers.specs.meaning.Byte.{slash}
@@ -44,7 +44,7 @@ returns-then-not-has_components c =
     ∙ c.if-contains_node_in.false in
     let s = starts_at slash a.path.now 0 (omega arith) ∙ eq-eqb _ _ c.if-path-ne47.false in (
       no_form a.path.now d n
-          (sym (root_form a.path.now s) ∙ sym c.has_components.ensures ∙ not-true _ c.if-not-has_components.true-raw),
+          (sym (root_form a.path.now s) ∙ sym c.has_components.ensures ∙ c.if-not-has_components.true),
       refl,
     )
 
@@ -60,6 +60,6 @@ returns c =
     let s = starts_at slash a.path.now 0 (omega arith)
     ∙ eq-eqb _ _ c.if-path-ne47.false in
     let f = sym (root_form a.path.now s) ∙ sym c.has_components.ensures
-    ∙ not-false _ c.if-not-has_components.false-raw in
+    ∙ c.if-not-has_components.false in
     short a.words.now a.bytes.now a.first a.path.now _ c.short_node.result (sym (root_front a.path.now s)) n f
     c.short_node.ensures

@@ -1,7 +1,6 @@
 -- The exact node first, then the second rule.
 use mathlib.Core.Path.{refl, sym, ◌∙◌}
 use mathlib.Core.List.{[]}
-use borrow.Author.Tests.{not-true, not-false}
 use Rattle.paths_numbers.specs.meaning.Path.{joined}
 use Rattle.definition_log.specs.meaning.ReadBack.{read_defs}
 use Rattle.short_paths.proofs.Form.{front_joined}
@@ -21,7 +20,7 @@ returns-then-not-has_components c =
     let p = joined a.parent.now a.name.now [] in
     let d = read_defs a.words.now a.bytes.now a.first in
     let n = sym c.contains_node_path.ensures ∙ c.if-contains_node_path.false in
-    (no_form p d n (sym c.has_components.ensures ∙ not-true _ c.if-not-has_components.true-raw), refl)
+    (no_form p d n (sym c.has_components.ensures ∙ c.if-not-has_components.true), refl)
 
 pub returns : goal.returns
 returns c =
@@ -29,6 +28,6 @@ returns c =
     let p = joined a.parent.now a.name.now [] in
     let d = read_defs a.words.now a.bytes.now a.first in
     let n = sym c.contains_node_path.ensures ∙ c.if-contains_node_path.false in
-    let f = sym c.has_components.ensures ∙ not-false _ c.if-not-has_components.false-raw in
+    let f = sym c.has_components.ensures ∙ c.if-not-has_components.false in
     short a.words.now a.bytes.now a.first p _ c.short_node.result (front_joined a.parent.now a.name.now f) n f
     c.short_node.ensures

@@ -1,6 +1,5 @@
 -- A base above the path makes no difference (Fold: live_base).
 use mathlib.Core.Path.{refl, sym, ◌∙◌}
-use borrow.Author.Tests.{not-true, not-false}
 use Rattle.definition_log.specs.meaning.ReadBack.{read_defs}
 use Rattle.queries.proofs.Fold.{labels_at, live_base}
 use Rattle.queries.proofs.mir.unbinds.Goals as goal
@@ -9,11 +8,11 @@ pub returns-then-not-lies_under : goal.returns-then-not-lies_under
 returns-then-not-lies_under c =
     let a = c.args in
     sym (live_base (labels_at a.label.now a.path.now) a.base.now (read_defs a.words.now a.bytes.now a.first)
-    ∙ rw (sym c.lies_under.ensures ∙ not-true _ c.if-not-lies_under.true-raw) refl)
+    ∙ rw (sym c.lies_under.ensures ∙ c.if-not-lies_under.true) refl)
 
 pub returns : goal.returns
 returns c =
     let a = c.args in
     c.unbinds_in.ensures ∙ sym (live_base (labels_at a.label.now a.path.now) a.base.now
     (read_defs a.words.now a.bytes.now a.first) ∙ rw
-    (sym c.lies_under.ensures ∙ not-false _ c.if-not-lies_under.false-raw) refl)
+    (sym c.lies_under.ensures ∙ c.if-not-lies_under.false) refl)
