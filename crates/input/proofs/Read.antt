@@ -8,7 +8,7 @@ use native.Mathlib.Omega.{arith}
 use borrow.Author.Tests.{eq-eqb, ne_eqb, eqb-true, eqb-false}
 use lib.Dec.{eqb}
 use Rattle.paths_numbers.proofs.Texts.{by_test}
-use Rattle.input.specs.meaning.Tree.{Tree, Trees, tree, empty, more, kind_of, first_of, has}
+use Rattle.input.specs.meaning.Tree.{Tree, Trees, empty, more, kind_of, first_of, has}
 use Rattle.input.specs.meaning.Input.{record_count, kind_at, next_at, child_at, second_at, chain_at}
 use Rattle.input.specs.machine.At.{record_at}
 use Rattle.input.specs.machine.Fits.{depth_of, depths_of}

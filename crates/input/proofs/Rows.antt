@@ -15,7 +15,7 @@ use Rattle.paths_numbers.specs.meaning.Lists.{any}
 use Rattle.input.specs.meaning.Tree.{name_kind}
 use Rattle.input.specs.meaning.Input.{record_words, record_count, kind_at, next_at, child_at, text_start_at, text_length_at, span_at, text_at}
 use Rattle.input.specs.meaning.Input.{second_at, number_at, trees_at, chain_at, description}
-use Rattle.input.specs.meaning.Place.{InputPlace, items, fits_alone}
+use Rattle.input.specs.meaning.Place.{InputPlace, items, child_place, second_place, fits_alone}
 use Rattle.input.specs.machine.Fits.{fits_places, depths_of}
 use Rattle.input.specs.machine.Linked.{Link, Links, Linked, ChainIn}
 use Rattle.input.specs.meaning.Rows.{Verdict, accepted, refused, most_records, most_text, most_links, wrong_size, links_of, linked_below}
@@ -219,7 +219,10 @@ module _ (words text : List ℕ) where
   shallow_trees zero place depth r d e = omega arith
   shallow_trees (suc f) place depth zero d e = omega arith
   shallow_trees (suc f) place depth (suc r) d e =
-      let h = none_of too_deep (record { number = suc r; place = place; depth = depth }) _ _ _ e in
+      let h = none_of too_deep (record { number = suc r; place = place; depth = depth })
+      (visits f words (child_place (kind_at words (suc r))) (suc depth) (child_at words (suc r)))
+      (visits f words (second_place (kind_at words (suc r))) (suc depth) (second_at words (suc r)))
+      (visits f words place depth (next_at words (suc r))) e in
       let own : depth ≤ most_links = ltb-false _ _ h.0 in
       let a = shallow_trees f _ (suc depth) _ (omega arith) h.1.0 in
       let b = shallow_trees f _ (suc depth) _ (omega arith) h.1.1.0 in

@@ -1,14 +1,14 @@
 -- An expression and what it is made of: each answers what its definition makes of its operands (Evaluation).
-use Rattle.std.proofs.Common.{ℕ, ◌<◌, sym, ap, ◌∙◌, refl, arith, rules}
+use Rattle.std.proofs.Common.{sym, ap, ◌∙◌, arith, rules}
 use Rattle.paths_numbers.proofs.Integers.{read}
 use Rattle.paths_numbers.proofs.Casts.{signed_is}
 use Rattle.paths_numbers.proofs.Relations.{read_truth}
 use Rattle.levels.specs.machine.Held.{rules_at}
-use Rattle.input.specs.meaning.Expr.{value, eval, evals}
-use Rattle.input.specs.meaning.Input.{child_at, number_at, span_at, chain_at}
+use Rattle.input.specs.meaning.Expr.{value, eval}
+use Rattle.input.specs.meaning.Input.{span_at}
 use Rattle.input.specs.machine.At.{record_at}
 use Rattle.input.proofs.Read.{before_some, chain_first, chain_after, some_nesting, children_in}
-use Rattle.input.proofs.Evaluation.{prefix_missing, prefix_first, infix_missing, infix_short, conditional_short, decided}
+use Rattle.input.proofs.Evaluation.{infix_short, conditional_short, decided}
 use Rattle.input.proofs.Evaluation.{second_decides, plain_infix}
 use Rattle.input.proofs.Evaluation.{no_first, first_is_lem, eval_kind, eval_macro, eval_other, binary_fails, binary_value}
 use Rattle.input.proofs.Evaluation.{conditional_fails, conditional_value}
@@ -17,39 +17,38 @@ use Rattle.input.proofs.expr_eval.+eval.Goals as goal
 
 pub eval-returns-then-nesting-eq0 : goal.eval-returns-then-nesting-eq0
 eval-returns-then-nesting-eq0 t c =
-    absurd (omega (arith,
-      some_nesting c.args.words.now c.args.text.now c.requires.linked c.args.r c.args.nesting c.requires.record_in))
+    absurd (omega (
+      arith,
+      some_nesting c.args.words.now c.args.text.now c.requires.linked c.args.r c.args.nesting c.requires.record_in,
+    ))
 
 pub eval-eval_prefix_at-requires : goal.eval-eval_prefix_at-requires
-eval-eval_prefix_at-requires t c =
-    (
-      omega arith,
-      (
-        c.requires.linked,
-        children_in c.args.words.now c.args.text.now c.requires.linked c.args.r c.args.nesting c.requires.record_in,
-      ),
-    )
+eval-eval_prefix_at-requires t c = (
+  omega arith,
+  (
+    c.requires.linked,
+    children_in c.args.words.now c.args.text.now c.requires.linked c.args.r c.args.nesting c.requires.record_in,
+  ),
+)
 
 pub eval-eval_first-requires : goal.eval-eval_first-requires
-eval-eval_first-requires t c =
-    (
-      omega arith,
-      (
-        c.requires.linked,
-        rw c.child_at.ensures
-            (children_in c.args.words.now c.args.text.now c.requires.linked c.args.r c.args.nesting c.requires.record_in),
-      ),
-    )
+eval-eval_first-requires t c = (
+  omega arith,
+  (
+    c.requires.linked,
+    rw c.child_at.ensures
+        (children_in c.args.words.now c.args.text.now c.requires.linked c.args.r c.args.nesting c.requires.record_in),
+  ),
+)
 
 pub eval-eval_infix_at-requires : goal.eval-eval_infix_at-requires
-eval-eval_infix_at-requires t c =
-    (
-      omega arith,
-      (
-        c.requires.linked,
-        children_in c.args.words.now c.args.text.now c.requires.linked c.args.r c.args.nesting c.requires.record_in,
-      ),
-    )
+eval-eval_infix_at-requires t c = (
+  omega arith,
+  (
+    c.requires.linked,
+    children_in c.args.words.now c.args.text.now c.requires.linked c.args.r c.args.nesting c.requires.record_in,
+  ),
+)
 
 pub eval-returns-in-9 : goal.eval-returns-in-9
 eval-returns-in-9 t c =
@@ -92,15 +91,14 @@ pub eval_first-returns-then-first-eq0 : goal.eval_first-returns-then-first-eq0
 eval_first-returns-then-first-eq0 t c = rw c.if-first-eq0.true (no_first c.args.level c.args.words.now c.args.text.now)
 
 pub eval_first-eval-requires : goal.eval_first-eval-requires
-eval_first-eval-requires t c =
-    (
-      omega arith,
-      (
-        c.requires.linked,
-        chain_first c.args.words.now c.args.text.now c.requires.linked c.args.first c.args.nesting c.requires.chain_in
-            c.if-first-eq0.false,
-      ),
-    )
+eval_first-eval-requires t c = (
+  omega arith,
+  (
+    c.requires.linked,
+    chain_first c.args.words.now c.args.text.now c.requires.linked c.args.first c.args.nesting c.requires.chain_in
+        c.if-first-eq0.false,
+  ),
+)
 
 pub eval_first-returns : goal.eval_first-returns
 eval_first-returns t c =
@@ -114,15 +112,14 @@ eval_binary-returns-then-y-eq0 t c =
     c.args.x _ c.after-y.ensures c.requires.chain_in.at c.if-y-eq0.true
 
 pub eval_binary-eval-e-requires : goal.eval_binary-eval-e-requires
-eval_binary-eval-e-requires t c =
-    (
-      omega arith,
-      (
-        c.requires.linked,
-        chain_first c.args.words.now c.args.text.now c.requires.linked c.args.x c.args.nesting c.requires.chain_in
-            (before_some c.args.words.now c.args.text.now c.args.x _ c.after-y.ensures c.if-y-eq0.false),
-      ),
-    )
+eval_binary-eval-e-requires t c = (
+  omega arith,
+  (
+    c.requires.linked,
+    chain_first c.args.words.now c.args.text.now c.requires.linked c.args.x c.args.nesting c.requires.chain_in
+        (before_some c.args.words.now c.args.text.now c.args.x _ c.after-y.ensures c.if-y-eq0.false),
+  ),
+)
 
 pub eval_binary-returns-in_default : goal.eval_binary-returns-in_default
 eval_binary-returns-in_default t c =
@@ -131,17 +128,16 @@ eval_binary-returns-in_default t c =
     c.requires.fact.0 c.requires.fact.1 c.if-y-eq0.false c.in_default.not-Value
 
 pub eval_binary-eval_second-requires : goal.eval_binary-eval_second-requires
-eval_binary-eval_second-requires t c =
-    (
-      omega arith,
-      (
-        c.requires.linked,
-        chain_first c.args.words.now c.args.text.now c.requires.linked c.after-y.result c.args.nesting
-            (chain_after c.args.words.now c.args.text.now c.args.x c.after-y.result c.after-y.ensures c.requires.linked
-            c.args.nesting c.requires.chain_in)
-            c.if-y-eq0.false,
-      ),
-    )
+eval_binary-eval_second-requires t c = (
+  omega arith,
+  (
+    c.requires.linked,
+    chain_first c.args.words.now c.args.text.now c.requires.linked c.after-y.result c.args.nesting
+        (chain_after c.args.words.now c.args.text.now c.args.x c.after-y.result c.after-y.ensures c.requires.linked
+        c.args.nesting c.requires.chain_in)
+        c.if-y-eq0.false,
+  ),
+)
 
 pub eval_binary-returns : goal.eval_binary-returns
 eval_binary-returns t c =
@@ -162,8 +158,7 @@ eval_conditional_at-returns-then-z-eq0 t c =
 pub eval_conditional_at-eval-e-requires : goal.eval_conditional_at-eval-e-requires
 eval_conditional_at-eval-e-requires t c =
     let words = c.args.words.now in
-    let text = c.args.text.now in
-    (
+    let text = c.args.text.now in (
       omega arith,
       (
         c.requires.linked,
@@ -182,8 +177,7 @@ eval_conditional_at-returns-in_default t c =
 pub eval_conditional_at-eval-requires : goal.eval_conditional_at-eval-requires
 eval_conditional_at-eval-requires t c =
     let words = c.args.words.now in
-    let text = c.args.text.now in
-    (
+    let text = c.args.text.now in (
       omega arith,
       (
         c.requires.linked,
@@ -205,8 +199,7 @@ eval_conditional_at-returns-then-is_true t c =
 pub eval_conditional_at-eval-requires-2 : goal.eval_conditional_at-eval-requires-2
 eval_conditional_at-eval-requires-2 t c =
     let words = c.args.words.now in
-    let text = c.args.text.now in
-    (
+    let text = c.args.text.now in (
       omega arith,
       (
         c.requires.linked,

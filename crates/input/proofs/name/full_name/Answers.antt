@@ -13,7 +13,7 @@ returns-then-u-eq0 c = full_alone _ _ c.name_or_macro-name.result c.name_or_macr
 pub name_or_macro-unit-requires : goal.name_or_macro-unit-requires
 name_or_macro-unit-requires c =
     let s = c in
-    let u = c.first_of-u in record {linked = s.requires.linked; at = rw c.child_at.ensures (s.requires.linked.all u.result (u.ensures.at c.if-u-eq0.false)).child.within; }
+    let u = c.first_of-u in record { linked = s.requires.linked; at = rw c.child_at.ensures (s.requires.linked.all u.result (u.ensures.at c.if-u-eq0.false)).child.within }
 
 pub returns : goal.returns
 returns c =

@@ -1,6 +1,5 @@
 -- By whether there is a name, and a unit address (NameRead).
 use mathlib.Core.Path.{sym, ◌∙◌}
-use borrow.Author.Tests.{not-true, not-false}
 use Rattle.input.proofs.NameRead.{not_named, named_alone, named_addressed}
 use Rattle.input.proofs.name.is_named.Goals as goal
 

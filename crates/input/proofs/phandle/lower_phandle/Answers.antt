@@ -5,7 +5,7 @@ use Rattle.input.proofs.phandle.lower_phandle.Goals as goal
 
 pub first_of-m-requires : goal.first_of-m-requires
 first_of-m-requires c =
-    let s = c in record {linked = s.requires.linked; at = rw c.child_at.ensures (s.requires.linked.all s.args.r s.requires.r_bound).child.within; }
+    let s = c in record { linked = s.requires.linked; at = rw c.child_at.ensures (s.requires.linked.all s.args.r s.requires.r_bound).child.within }
 
 pub returns-then-m-ne0 : goal.returns-then-m-ne0
 returns-then-m-ne0 c =

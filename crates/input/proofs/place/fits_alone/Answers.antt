@@ -1,6 +1,5 @@
 -- By the tests in turn.
 use mathlib.Core.Path.{refl, sym, ◌∙◌}
-use borrow.Author.Tests.{not-true, not-false}
 use Rattle.input.specs.meaning.Place.{fits_alone}
 use Rattle.input.proofs.place.fits_alone.Goals as goal
 

@@ -14,12 +14,15 @@ returns-then-wrong_size c =
 pub first_bad_links-found-requires : goal.first_bad_links-found-requires
 first_bad_links-found-requires c =
     let a = c.args in
-    let z = sizes a.words.now a.text.now (sym c.wrong_size.ensures ∙ c.if-wrong_size.false) in record {words_bound = z.most; marks = marks_start a.words.now _ 2048 refl z.most; }
+    let z = sizes a.words.now a.text.now (sym c.wrong_size.ensures ∙ c.if-wrong_size.false) in record { words_bound = z.most; marks = marks_start a.words.now _ 2048 refl z.most }
 
 pub check_linked-requires : goal.check_linked-requires
-check_linked-requires c = record {text_value = sym c.wrong_size.ensures
-      ∙ c.if-wrong_size.false; words_value = sym c.first_bad_links-found.ensures
-      ∙ ap found_in c.in-Nothing.is; }
+check_linked-requires c = record {
+  text_value = sym c.wrong_size.ensures
+      ∙ c.if-wrong_size.false;
+  words_value = sym c.first_bad_links-found.ensures
+      ∙ ap found_in c.in-Nothing.is;
+}
 
 pub returns-in-Record : goal.returns-in-Record
 returns-in-Record c =

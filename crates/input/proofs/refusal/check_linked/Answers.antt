@@ -9,7 +9,7 @@ pub find_stands-requires : goal.find_stands-requires
 find_stands-requires c =
     let s = c in
     let w = s.args.words.now in
-    let z = sizes w s.args.text.now s.requires.text_value in record {words_nonzero = (z.least, z.most); stands = stands_start w _ 2048 refl z.most; }
+    let z = sizes w s.args.text.now s.requires.text_value in record { words_nonzero = (z.least, z.most); stands = stands_start w _ 2048 refl z.most }
 
 pub returns : goal.returns
 returns c =

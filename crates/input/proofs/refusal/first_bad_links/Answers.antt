@@ -1,4 +1,4 @@
-use Prim.Native.Nat.{ℕ, ◌-◌}
+use Prim.Native.Nat.{ℕ}
 use mathlib.Core.Path.{refl, ap, ◌∙◌}
 use native.Mathlib.Omega.{arith}
 use Rattle.input.specs.meaning.Rows.{bad_links, lowest, row_two}
@@ -12,7 +12,7 @@ loop-r-init c =
     (omega arith, refl, s.requires.marks, lowest_starts (bad_links s.args.words.now) c.record_count-n.result)
 
 pub bad_links-requires : goal.bad_links-requires
-bad_links-requires c = record {words_bound = c.requires.words_bound; marks = c.loop-r.invariant.2; }
+bad_links-requires c = record { words_bound = c.requires.words_bound; marks = c.loop-r.invariant.2 }
 
 pub returns-then-bad_links : goal.returns-then-bad_links
 unfolding row_two

@@ -19,13 +19,11 @@ unfolding has_slash any
 same_test [] = refl
 same_test (b ∷ s) = ap (cond (eqb b slash) true) (same_test s)
 
-
 held : (s : List ℕ) → ltb (length (before_slash s)) (length s) ≡ holds_slash s
 held s =
     by_test (ltb (length (before_slash s)) (length s))
     (λ e. e ∙ sym (slash_found s (ltb-true _ _ e)) ∙ same_test s)
     (λ e. e ∙ sym (slash_missing s (ltb-false _ _ e)) ∙ same_test s)
-
 
 pub returns : goal.returns
 returns c =

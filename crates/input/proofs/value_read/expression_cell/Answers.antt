@@ -17,8 +17,11 @@ returns-then-nesting-eq0 c = let s = c in absurd (omega (
 ))
 
 pub eval_first-requires : goal.eval_first-requires
-eval_first-requires c = let s = c in record {linked = s.requires.linked; chain_in = rw c.child_at.ensures (children_in s.args.words.now s.args.text.now s.requires.linked s.args.r s.args.nesting
-      s.requires.record_in); }
+eval_first-requires c = let s = c in record {
+  linked = s.requires.linked;
+  chain_in = rw c.child_at.ensures (children_in s.args.words.now s.args.text.now s.requires.linked s.args.r s.args.nesting
+      s.requires.record_in);
+}
 
 pub returns : goal.returns
 returns c = let a = c.args in
