@@ -10,13 +10,13 @@ ghost use Rattle.input.specs.meaning.Rows.{accepted, verdict};
 ghost use Rattle.lowering.specs.meaning.Lowered.{meaning, Lowered};
 
 use crate::lower_item::lower_items;
+use definition_log::answer::{Answer, REFUSED_FILES, REFUSED_LEVEL, REFUSED_ROOM, SUCCESS};
 use file_words::file_words::put_files;
 use files::files::good_files;
 use input::limits::MOST_LINKS;
 use input::record::child_at;
 use input::refusal::{Checked, check_input};
 use levels::level::is_level;
-use definition_log::answer::{Answer, REFUSED_FILES, REFUSED_LEVEL, REFUSED_ROOM, SUCCESS};
 use making::ctx::LowerCtx;
 use making::place::PathAt;
 use making::start::{clear, start};

@@ -21,7 +21,7 @@ use making::place::PathAt;
 use paths_numbers::codes;
 
 // Lowers a chain of items under a path.
-#[cycle(lower_apart_lower_dt_node_lower_item_lower_items)]
+#[cycle(nesting)]
 pub fn lower_items(
     words: &[u32],
     text: &[u8],
@@ -49,7 +49,7 @@ pub fn lower_items(
 }
 
 // Lowers an item under a path.
-#[cycle(lower_apart_lower_dt_node_lower_item_lower_items)]
+#[cycle(nesting)]
 fn lower_item(
     words: &[u32],
     text: &[u8],
@@ -84,7 +84,7 @@ fn lower_item(
 }
 
 // Lowers a node: where it goes, and then its body. A state that ran short stays as it is.
-#[cycle(lower_apart_lower_dt_node_lower_item_lower_items)]
+#[cycle(nesting)]
 fn lower_dt_node(
     words: &[u32],
     text: &[u8],
@@ -137,7 +137,7 @@ fn lower_dt_node(
 }
 
 // Lowers the body of a node at "/" into a log of its own.
-#[cycle(lower_apart_lower_dt_node_lower_item_lower_items)]
+#[cycle(nesting)]
 fn lower_apart(
     words: &[u32],
     text: &[u8],
