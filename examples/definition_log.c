@@ -1,7 +1,8 @@
 /* Lowers a small description of two files by include/definition_log.h, prints its log, asks the three queries of it, and shows refusals,
  * levels and box numbers:
- *   rt staticlib definition_log_c
- *   gcc -Iinclude examples/definition_log.c target/staticlib/libdefinition_log_c.a -o target/definition_log && target/definition_log
+ *   (cd crates/definition_log_c && rt lib)
+ *   mkdir -p target && gcc -Iinclude examples/definition_log.c crates/definition_log_c/out/libdefinition_log_c.a -o target/definition_log
+ *   target/definition_log
  *
  * definition_log.expected is what it must print. Its definitions, bindings, diagnostics, live lists and histories are the Rust's answers
  * (`differential/run ask`), its counts and refusals 01's table, counted by hand. The numbers of the log's records, which 01 leaves open,

@@ -1,6 +1,7 @@
 /* A few calls of include/paths_numbers.h, with what they give:
- *   rt staticlib paths_numbers_c
- *   gcc -Iinclude examples/paths_numbers.c target/staticlib/libpaths_numbers_c.a -o target/paths_numbers && target/paths_numbers
+ *   (cd crates/paths_numbers_c && rt lib)
+ *   mkdir -p target && gcc -Iinclude examples/paths_numbers.c crates/paths_numbers_c/out/libpaths_numbers_c.a -o target/paths_numbers
+ *   target/paths_numbers
  *
  * paths_numbers.expected is what it must print: the Rust's answers (`differential/run worked`), with the numbers that the header gives to
  * a lack of room, a width that is none and an operator that is none. */

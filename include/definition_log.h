@@ -16,7 +16,7 @@
  * 350 KB, box numbers next to nothing (measured; docs/PERFORMANCE.md says how). What lowering takes is bounded whatever it is lent: arrays
  * of fixed sizes, and calls that go down one level for each of the 64 that a description may have.
  *
- * Link with libdefinition_log_c.a (`rt staticlib definition_log_c`). */
+ * Link with libdefinition_log_c.a (`rt lib` in crates/definition_log_c). */
 #ifndef DEFINITION_LOG_H
 #define DEFINITION_LOG_H
 

@@ -10,7 +10,7 @@
  * Codes are 01's: 11 a hex digit is missing, 12 no cell width, 13 character too large, 15 expression outside the width, 16 empty, 17 not
  * a digit, 18 too large, 19 too small, 24 result outside 64 bits, 25 zero divisor, 26 shift amount outside 0 to 63.
  *
- * Link with libpaths_numbers_c.a (`rt staticlib paths_numbers_c`). */
+ * Link with libpaths_numbers_c.a (`rt lib` in crates/paths_numbers_c). */
 #ifndef PATHS_NUMBERS_H
 #define PATHS_NUMBERS_H
 

@@ -1,13 +1,13 @@
 //! Links the static library with the functions of `include/definition_log.h`: the file that
-//! `DEFINITION_LOG_LIB` names, or the one that `rt staticlib` makes in the repository.
+//! `DEFINITION_LOG_LIB` names, or the one that `rt lib` makes in the repository.
 
 use std::{
     env,
     path::{Path, PathBuf},
 };
 
-/// Where `rt staticlib definition_log_c` puts it, from the repository's top folder.
-const MADE: &str = "target/staticlib/libdefinition_log_c.a";
+/// Where `rt lib` in crates/definition_log_c puts it, from the repository's top folder.
+const MADE: &str = "crates/definition_log_c/out/libdefinition_log_c.a";
 
 fn main() {
     println!("cargo::rerun-if-changed=build.rs");
@@ -37,8 +37,8 @@ fn link_name(library: &Path) -> Result<String, String> {
     }
     if !library.is_file() {
         return Err(format!(
-            "the proved library is not there: {} is no file. Make it with `rt staticlib definition_log_c` in the \
-             repository's top folder, or set DEFINITION_LOG_LIB to the path of libdefinition_log_c.a",
+            "the proved library is not there: {} is no file. Make it with `rt lib` in the repository's folder \
+             crates/definition_log_c, or set DEFINITION_LOG_LIB to the path of libdefinition_log_c.a",
             library.display()
         ));
     }

@@ -9,7 +9,7 @@ const LISTED: &str = "../../crates.txt";
 fn crates_read() -> Vec<String> {
     println!("cargo::rerun-if-changed={LISTED}");
     let listed = fs::read_to_string(LISTED).unwrap_or_else(|error| panic!("{LISTED}: {error}"));
-    let used = listed.lines().find_map(|line| line.strip_prefix("definition_log_c: ")).expect("it is listed");
+    let used = listed.lines().find_map(|line| line.strip_prefix("definition_log_c staticlib: ")).expect("it is listed");
     used.split(' ').chain(["definition_log_c"]).map(str::to_owned).collect()
 }
 
@@ -39,20 +39,19 @@ fn read_crate(name: &str, names: &[String], from: &Path, to: &Path) {
     }
 }
 
-/// A source without ghost lines and contracts, its own crate and the others as modules of one, and the
+/// A source without ghost lines, contracts and attributes, its own crate and the others as modules of one, and the
 /// prover's sums that wrap as Rust's.
 fn as_rust(name: &str, names: &[String], source: &str) -> String {
     let mut out = String::new();
     let mut open = 0;
     for line in source.lines() {
         let start = line.trim_start();
-        let contract = ["requires {", "ensures {", "invariant {", "decreases {"]
-            .iter()
-            .any(|word| start.starts_with(word));
-        if open > 0 || contract {
-            open += line.matches('{').count();
-            open -= line.matches('}').count();
-        } else if !start.starts_with("ghost ") && start != "#[no_mangle]" {
+        let contract = ["requires", "ensures"].contains(&start.split(' ').next().unwrap_or_default());
+        let attribute = start.starts_with("#[") || start.starts_with("#![");
+        if open > 0 || contract || attribute {
+            open += line.matches(['{', '[']).count();
+            open -= line.matches(['}', ']']).count();
+        } else if !start.starts_with("ghost ") {
             if ["pub enum ", "pub struct ", "enum ", "struct "].iter().any(|word| start.starts_with(word)) {
                 out += "#[derive(Clone, Copy)]\n";
             }

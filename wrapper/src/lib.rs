@@ -37,7 +37,7 @@
 //!
 //! # How to build
 //!
-//! `rt staticlib definition_log_c` in the repository's top folder makes the library, and this crate
+//! `rt lib` in the folder crates/definition_log_c makes the library, and this crate
 //! links it. It may lie elsewhere: `DEFINITION_LOG_LIB` then has its path.
 
 #![deny(missing_docs)]

@@ -89,7 +89,7 @@ pub fn write(folder: &str, crates: &str, count: usize, from: u64) -> Result<Stri
         }
         fs::create_dir_all(&part).map_err(|error| format!("{}: {error}", part.display()))?;
     }
-    put(home.join("src/lib.rt"), "// Descriptions with the Rust's answers: no code, theorems in specs/.\n")?;
+    put(home.join("src/lib.rt"), "// Descriptions with the Rust's answers: no code, theorems in specs/.\n#![tactic(auto)]\n")?;
     put(home.join("specs/Computed.antt"), &computed(Path::new(crates))?)?;
     let files = files(&samples)?;
     let mut modules = "pub mod Computed\n".to_owned();
@@ -323,7 +323,7 @@ fn computed(crates: &Path) -> Result<String, String> {
             let module = file.file_stem().unwrap_or_default().to_string_lossy();
             let text = fs::read_to_string(file).map_err(fault)?;
             names.extend(
-                unfoldable(&text).iter().map(|name| format!("Rattle·{used}.specs.meaning.{module}.{name}")),
+                unfoldable(&text).iter().map(|name| format!("Rattle.{used}.specs.meaning.{module}.{name}")),
             );
         }
     }
@@ -353,27 +353,26 @@ fn unfoldable(text: &str) -> Vec<String> {
 
 const COMPUTED: &str =
     "-- What the theorems share: short names, and one name for all that they compute through.
-use Prim.Native.Nat.{ℕ}
-use mathlib.Core.List.{List}
-use Rattle·log.specs.meaning.Contents.{Span, DefValue, Def, Ext, Binding, Diag}
-use Rattle·making.specs.meaning.State.{State}
-use Rattle·lowering.specs.meaning.Lowered.{meaning}
-use Rattle·paths_numbers.specs.meaning.Reference.{Target}
+use Rattle.std.specs.Prelude.{ℕ, List}
+use Rattle.definition_log.specs.meaning.Contents.{Span, DefValue, Def, Ext, Binding, Diag}
+use Rattle.making.specs.meaning.State.{State}
+use Rattle.lowering.specs.meaning.Lowered.{meaning}
+use Rattle.paths_numbers.specs.meaning.Reference.{Target}
 
 abbrev pub span : ℕ → ℕ → Span
 span a b = record { from = a; to = b }
 
 abbrev pub definition : List ℕ → DefValue → Span → Span → Def
-definition p v s n = record { path = p; value = v; span = s; nameSpan = n }
+definition p v s n = record { path = p; value = v; span = s; name_span = n }
 
 abbrev pub extension : Target → List Def → Span → Span → Ext
-extension t b s n = record { target = t; body = b; span = s; nameSpan = n }
+extension t b s n = record { target = t; body = b; span = s; name_span = n }
 
 abbrev pub binding : List ℕ → List ℕ → Span → Binding
 binding l p s = record { label = l; path = p; span = s }
 
 abbrev pub diagnostic : ℕ → List ℕ → Span → Span → Diag
-diagnostic c t s n = record { code = c; text = t; span = s; nameSpan = n }
+diagnostic c t s n = record { code = c; text = t; span = s; name_span = n }
 
 -- all that is computed through
 unfoldable pub computed : ℕ → List ℕ → List ℕ → State

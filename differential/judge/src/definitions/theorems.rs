@@ -15,25 +15,22 @@ use crate::{
 
 /// How a file begins.
 const HEAD: &str = "-- Descriptions with the Rust's answers, in the judge's notation and as words and text.
-use Prim.Native.Nat.{ℕ}
-use mathlib.Core.Bool.{true, false}
-use mathlib.Core.Path.{_≡_, refl}
-use mathlib.Core.Option.{some, none}
-use mathlib.Core.List.{List, [], _∷_}
-use Rattle·slashes.specs.meaning.Slash.{nextSlash}
-use Rattle·paths_numbers.specs.meaning.Reference.{label, labelPath, path}
-use Rattle·log.specs.meaning.Contents.{Def, number, reference, string, cellList, bytestring, phandle}
-use Rattle·log.specs.meaning.Contents.{node, property, deletedNode, deletedProperty, version, plugin}
-use Rattle·queries.specs.meaning.Live.{live, containsNode}
-use Rattle·queries.specs.meaning.History.{history}
-use Rattle·making.specs.meaning.State.{State}
-use Rattle·post_checks.specs.meaning.Post.{postChecks}
-use Rattle·input.specs.meaning.Rows.{verdict, accepted, refused}
-use Rattle·levels.specs.meaning.Rules.{isLevel}
-use Rattle·files.specs.meaning.Files.{fileOf, goodFiles}
-use Rattle·boxes.specs.meaning.Box.{readAnswer, packedValue, writeAnswer, packedBytes, writeOut}
-use Rattle·lowering.specs.meaning.Lowered.{meaning, recordsMade, bytesMade}
-use Rattle·judged·specs.specs.Computed.{computed, span, definition, extension, binding, diagnostic}
+use Rattle.std.specs.Prelude.{ℕ, true, false, ◌≡◌, refl, List, [], ◌∷◌}
+use Rattle.std.proofs.Math.Option.{some, none}
+use Rattle.slashes.specs.meaning.Slash.{next_slash}
+use Rattle.paths_numbers.specs.meaning.Reference.{label, label_path, path}
+use Rattle.definition_log.specs.meaning.Contents.{Def, number, reference, string, cell_list, bytestring, phandle}
+use Rattle.definition_log.specs.meaning.Contents.{node, property, deleted_node, deleted_property, version, plugin}
+use Rattle.queries.specs.meaning.Live.{live, contains_node}
+use Rattle.queries.specs.meaning.History.{history}
+use Rattle.making.specs.meaning.State.{State}
+use Rattle.post_checks.specs.meaning.Post.{post_checks}
+use Rattle.input.specs.meaning.Rows.{verdict, accepted, refused}
+use Rattle.levels.specs.meaning.Rules.{is_level}
+use Rattle.files.specs.meaning.Files.{file_of, good_files}
+use Rattle.boxes.specs.meaning.Box.{read_answer, packed_value, write_answer, packed_bytes, write_out}
+use Rattle.lowering.specs.meaning.Lowered.{meaning, records_made, bytes_made}
+use Rattle.judged.specs.Computed.{computed, span, definition, extension, binding, diagnostic}
 ";
 
 /// The most bytes of a slice that is written out.
@@ -54,7 +51,7 @@ impl File {
     pub fn levels(&mut self, numbers: &[u32]) {
         for number in numbers {
             let is = [SIGNED, UNSIGNED].contains(number);
-            self.theorem(&format!("level-{number}"), &format!("isLevel {number}"), &is.to_string());
+            self.theorem(&format!("level-{number}"), &format!("is_level {number}"), &is.to_string());
         }
     }
 
@@ -62,10 +59,10 @@ impl File {
     pub fn starts(&mut self, number: usize, starts: &[u32], places: &[u32]) {
         let (at, list) = (format!("{number:03}"), inner(listed(starts, u32::to_string)));
         let is_good = files::faults(starts).is_empty();
-        self.theorem(&format!("good-{at}"), &format!("goodFiles {list}"), &is_good.to_string());
+        self.theorem(&format!("good-{at}"), &format!("good_files {list}"), &is_good.to_string());
         for place in places {
             let file = files::file_of(starts, *place).to_string();
-            self.theorem(&format!("file-{at}-{place}"), &format!("fileOf {list} {place}"), &file);
+            self.theorem(&format!("file-{at}-{place}"), &format!("file_of {list} {place}"), &file);
         }
     }
 
@@ -73,7 +70,7 @@ impl File {
     pub fn next_slash(&mut self, number: usize, text: &[u8], from: usize) {
         let found = leaves::next_slash(text, from);
         let due = found.map_or("none".to_owned(), |place| format!("some {place}"));
-        let left = format!("nextSlash {} {from}", inner(listed(text, u8::to_string)));
+        let left = format!("next_slash {} {from}", inner(listed(text, u8::to_string)));
         self.theorem(&format!("slash-{number:03}"), &left, &due);
     }
 
@@ -89,10 +86,10 @@ impl File {
         let read = boxes::read(bytes);
         let (answer, value) = read.map_or_else(|answer| (answer, 0), |value| (0, value));
         let due = format!("record {{ number = {answer}; value = {value} }}");
-        self.theorem(&format!("box-{at}"), &format!("readAnswer {}", text(bytes)), &due);
+        self.theorem(&format!("box-{at}"), &format!("read_answer {}", text(bytes)), &due);
         if answer != boxes::BAD_LENGTH {
             let due = read.map_or("none".to_owned(), |value| format!("some {value}"));
-            self.theorem(&format!("box-value-{at}"), &format!("packedValue {}", text(bytes)), &due);
+            self.theorem(&format!("box-value-{at}"), &format!("packed_value {}", text(bytes)), &due);
         }
     }
 
@@ -100,16 +97,16 @@ impl File {
         let written = boxes::written(value, length);
         let answer = written.as_ref().err().copied().unwrap_or(0);
         let due = format!("record {{ number = {answer}; returned = 0 }}");
-        self.theorem(&format!("packed-{at}"), &format!("writeAnswer {length} {value}"), &due);
+        self.theorem(&format!("packed-{at}"), &format!("write_answer {length} {value}"), &due);
         if let Ok(bytes) = &written {
             let due = listed(bytes, u8::to_string);
-            self.theorem(&format!("packed-bytes-{at}"), &format!("packedBytes {length} {value}"), &due);
+            self.theorem(&format!("packed-bytes-{at}"), &format!("packed_bytes {length} {value}"), &due);
         }
         if length <= MOST_BYTES {
             // What the slice holds before: bytes that differ.
             let held: Vec<u8> = (200..).take(length).collect();
             let due = listed(written.as_ref().unwrap_or(&held), u8::to_string);
-            self.theorem(&format!("packed-slice-{at}"), &format!("writeOut {} {value}", text(&held)), &due);
+            self.theorem(&format!("packed-slice-{at}"), &format!("write_out {} {value}", text(&held)), &due);
         }
     }
 
@@ -154,25 +151,25 @@ impl File {
             ("binds", listed(&answer.bindings, binding)),
             ("diags", listed(&answer.lowering, diagnostic)),
         ] {
-            self.theorem(&format!("{part}-{at}"), &format!("{state} .{part}"), &due);
+            self.theorem(&format!("{part}-{at}"), &format!("({state}).{part}"), &due);
         }
         for (name, of, due) in [
-            ("post", "postChecks", listed(&answer.post, diagnostic)),
-            ("records", "recordsMade", by_01.records.to_string()),
-            ("bytes", "bytesMade", by_01.bytes.to_string()),
+            ("post", "post_checks", listed(&answer.post, diagnostic)),
+            ("records", "records_made", by_01.records.to_string()),
+            ("bytes", "bytes_made", by_01.bytes.to_string()),
         ] {
             self.theorem(&format!("{name}-{at}"), &format!("{of} ({state})"), &due);
         }
     }
 
     fn queries(&mut self, at: &str, state: &str, queries: &[Query]) {
-        let defs = format!("({state} .defs)");
+        let defs = format!("({state}).defs");
         for (place, query) in asked(queries).into_iter().enumerate() {
             let path = text(&query.path);
             for (name, of, due) in [
                 ("live", "live", by_place(at, &query.live)),
                 ("history", "history", by_place(at, &query.history)),
-                ("contains", "containsNode", query.contains.to_string()),
+                ("contains", "contains_node", query.contains.to_string()),
             ] {
                 self.theorem(&format!("{name}-{at}-{place}"), &format!("{of} {path} {defs}"), &due);
             }
@@ -206,8 +203,8 @@ fn definition(made: &Definition) -> String {
     let value = match made.kind {
         1 => format!("(node {} {})", inner(listed(&made.labels, |label| text(label))), made.omit),
         2 => format!("(property {})", inner(listed(&made.values, value))),
-        3 => "deletedNode".to_owned(),
-        4 => "deletedProperty".to_owned(),
+        3 => "deleted_node".to_owned(),
+        4 => "deleted_property".to_owned(),
         5 => "version".to_owned(),
         _ => "plugin".to_owned(),
     };
@@ -217,7 +214,7 @@ fn definition(made: &Definition) -> String {
 fn value(value: &Value) -> String {
     match value {
         Value::String(string) => format!("string {}", text(string)),
-        Value::Cells(width, cells) => format!("cellList {width} {}", inner(listed(cells, cell))),
+        Value::Cells(width, cells) => format!("cell_list {width} {}", inner(listed(cells, cell))),
         Value::Bytes(bytes) => format!("bytestring {}", text(bytes)),
         Value::Reference(to) => format!("phandle ({})", target(to)),
     }
@@ -233,7 +230,7 @@ fn cell(cell: &Cell) -> String {
 fn target(to: &Target) -> String {
     match to.form {
         1 => format!("label {}", text(&to.label)),
-        2 => format!("labelPath {} {}", text(&to.label), text(&to.path)),
+        2 => format!("label_path {} {}", text(&to.label), text(&to.path)),
         _ => format!("path {}", text(&to.path)),
     }
 }

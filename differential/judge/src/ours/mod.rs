@@ -71,7 +71,7 @@ pub fn leaves() -> Result<Leaves, String> {
     #[cfg(ours)]
     return Ok(paths_numbers::leaves());
     #[cfg(not(ours))]
-    Err("our library of numbers and paths is not there: rt staticlib paths_numbers_c".to_owned())
+    Err("our library of numbers and paths is not there: rt lib in crates/paths_numbers_c".to_owned())
 }
 
 /// Our lowering and queries; fails if the library was not there when the judge was built.
@@ -92,4 +92,4 @@ pub fn boxes() -> Result<Boxes, String> {
 
 #[cfg(not(ours_queries))]
 const NO_LIBRARY: &str =
-    "our library of lowering, queries and box numbers is not there: rt staticlib definition_log_c";
+    "our library of lowering, queries and box numbers is not there: rt lib in crates/definition_log_c";
