@@ -18,7 +18,7 @@ digits_of_lem (suc k) n h l =
     by_test (ltb n 10)
     (λ t. rw t (decimal_digit n (ltb-true n 10 t)))
     (λ t.
-    let less : n / 10 < 10 ^ suc k = (div-lt_iff_lt-mul {k = 10} (omega arith)).2 (rw (pow-suc 10 (suc k)) at h) in
+    let less : n / 10 < 10 ^ suc k = (div-lt_iff_lt-mul {k = 10} (omega arith)).1 (rw (pow-suc 10 (suc k)) at h) in
     rw t (decimal_step n (ltb-false n 10 t) l ∙ ap (λ s. s ++ (48 + n % 10) ∷ []) (digits_of_lem k (n / 10) less (omega (arith, l)))))
 
 pub decimal_digits : (n : ℕ) → n < 2 ^ 32 → printed_decimal n ≡ decimal n
