@@ -2,8 +2,7 @@
 #![tactic(auto)]
 
 ghost use Rattle.std.specs.Prelude.{ℕ, ◌*◌, ◌≤◌, ◌≡◌, List, length, take};
-ghost use Rattle.io.specs.Counts.{IsPrefixLen};
-ghost use Rattle.listing.specs.machine.Page.{page_at, filled};
+ghost use Rattle.listing.specs.machine.Page.{page_at, filled, IsPrefixLen};
 ghost use Rattle.listing.specs.meaning.Program.{word_bytes, most_words, words_of, out_length, bytes_length, listed, printed};
 ghost use Rattle.listing.specs.meaning.Program.{most_printed, most_read, ReadOf};
 

@@ -1,6 +1,6 @@
 -- A page: bytes, and where the next one goes. What is put on a page that is full is lost, so a text that does not fit is cut at the page's
 -- end.
-use Rattle.std.specs.Prelude.{ℕ, ◌+◌, cond, ◌≡◌, List, [], ◌∷◌, ◌++◌, eqb, ltb, length, take, drop, set}
+use Rattle.std.specs.Prelude.{ℕ, ◌+◌, ◌≤◌, cond, ◌≡◌, List, [], ◌∷◌, ◌++◌, eqb, ltb, length, take, drop, set}
 use Rattle.definition_log.specs.meaning.ReadBack.{Log}
 use Rattle.listing.specs.meaning.Listing.{listing, refusal_line}
 
@@ -29,3 +29,7 @@ pub record Puts (text before : List ℕ) (at : ℕ) (after : List ℕ) (to : ℕ
 -- a page that held `bytes` with a text at its start: the text is cut at the page's end, and what is behind the text stays
 unfoldable pub filled : List ℕ → List ℕ → Page
 filled bytes text = page_at (take (length bytes) text ++ drop (length text) bytes) (length (take (length bytes) text))
+
+-- the first n bytes of a list: it has as many. The second part follows from the first.
+abbrev pub IsPrefixLen : ℕ → List ℕ → Type 0
+IsPrefixLen n xs = (n ≤ length xs) × (n ≡ length (take n xs))
