@@ -5,19 +5,19 @@ use crate::tally::Tally;
 use definition_log::kinds::{CELL_LIST, NODE, PROPERTY};
 use definition_log::layout;
 use definition_log::record::{child_of, kind_of, leads_to, log_count, next_of, out_field};
-use std::alloc::AllocError;
+use std::io;
 
 // A chain: how many records it has, and each of them with the chains that it has.
 #[cycle(chain_chains_of)]
-pub fn chain(
+pub fn chain<R: Print>(
     sample: &[u8],
     out: &[u32],
     bytes: &[u8],
     has: u32,
     first: u32,
     what: &str,
-    t: &mut Tally,
-) -> Result<(), AllocError> {
+    t: &mut Tally<R>,
+) -> io::Result<()> {
     let mut left = t.recorded(sample);
     counted(sample, out, first, t, what)?;
     let mut r = first;
@@ -34,15 +34,15 @@ pub fn chain(
 // The chains of a record: an extension's body, the labels and values of a definition, and the cells of a
 // value that is recorded as a cell list.
 #[cycle(chain_chains_of)]
-fn chains_of(
+fn chains_of<R: Print>(
     sample: &[u8],
     out: &[u32],
     bytes: &[u8],
     has: u32,
     r: u32,
     kind: u32,
-    t: &mut Tally,
-) -> Result<(), AllocError> {
+    t: &mut Tally<R>,
+) -> io::Result<()> {
     if has == EXTENSIONS {
         let body = out_field(out, r, layout::M);
         return chain(
@@ -87,13 +87,13 @@ fn child_if(out: &[u32], r: u32, kind: u32) -> u32 {
 }
 
 // Compares a chain's length with the number that is recorded; it has no first record if that is 0.
-fn counted(
+fn counted<R: Print>(
     sample: &[u8],
     out: &[u32],
     first: u32,
-    t: &mut Tally,
+    t: &mut Tally<R>,
     what: &str,
-) -> Result<(), AllocError> {
+) -> io::Result<()> {
     let none = t.recorded(sample) == 0;
     t.noted((first == 0) == none, what)?;
     t.number(sample, chain_len(out, first), what)

@@ -4,15 +4,15 @@ use crate::records::{BINDINGS, DEFINITIONS, DIAGNOSTICS, EXTENSIONS};
 use crate::tally::Tally;
 use definition_log::layout;
 use definition_log::record::out_field;
-use std::alloc::AllocError;
+use std::io;
 
 // The whole log: record 0's counts and what its chains have.
-pub fn whole_log(
+pub fn whole_log<R: Print>(
     sample: &[u8],
     out: &[u32],
     bytes: &[u8],
-    t: &mut Tally,
-) -> Result<(), AllocError> {
+    t: &mut Tally<R>,
+) -> io::Result<()> {
     let records = out_field(out, 0, layout::RECORDS_USED);
     t.number(sample, records, "records used")?;
     let size = out_field(out, 0, layout::BYTES_USED);

@@ -16,7 +16,6 @@ ghost use Rattle.std.specs.Prelude.{◌≡◌, length};
 use full_reads::read_full;
 use recorded::{after_number, number_at};
 use replayed::replay_case;
-use std::alloc::{AllocError, Global};
 use std::{fs, io};
 use tally::{Tally, new_tally};
 
@@ -28,26 +27,25 @@ fn main(rt: HostRuntime) -> io::Result<()> {
 }
 
 // Replays a sample.
-fn replay<R: Print + AllocGlobal>(rt: &R, sample: &[u8]) -> io::Result<()> {
+fn replay<R: Print>(rt: &R, sample: &[u8]) -> io::Result<()> {
     let mut input = words_buffer();
     let mut out = words_buffer();
     let mut bytes = bytes_buffer();
     let mut list = list_buffer();
-    let alloc = rt.alloc();
-    let t = replay_cases(alloc, sample, &mut input, &mut out, &mut bytes, &mut list)?;
-    t.print_total(rt, number_at(sample, 0))
+    let t = replay_cases(rt, sample, &mut input, &mut out, &mut bytes, &mut list)?;
+    t.print_total(number_at(sample, 0))
 }
 
 // Replays its cases, of which its first number says how many there are.
-fn replay_cases(
-    alloc: Global,
+fn replay_cases<'a, R: Print>(
+    rt: &'a R,
     sample: &[u8],
     input: &mut [u32],
     out: &mut [u32],
     bytes: &mut [u8],
     list: &mut [u32],
-) -> Result<Tally, AllocError> {
-    let mut t = new_tally(alloc, after_number(sample, 0));
+) -> io::Result<Tally<'a, R>> {
+    let mut t = new_tally(rt, after_number(sample, 0));
     let mut left = number_at(sample, 0);
     while 0 < left {
         t.next_case();

@@ -6,16 +6,16 @@ use definition_log::answer::Answer;
 use definition_log::layout;
 use definition_log::record::{log_count, next_of, out_field};
 use queries::query::{contains_node, history, iter_live_defs_under};
-use std::alloc::AllocError;
+use std::io;
 
 // The queries of a log.
-pub fn asked(
+pub fn asked<R: Print>(
     sample: &[u8],
     out: &[u32],
     bytes: &[u8],
     list: &mut [u32],
-    t: &mut Tally,
-) -> Result<(), AllocError> {
+    t: &mut Tally<R>,
+) -> io::Result<()> {
     let mut left = t.recorded(sample);
     t.skipped(sample);
     while 0 < left {
@@ -26,13 +26,13 @@ pub fn asked(
 }
 
 // The three queries of a path.
-fn query(
+fn query<R: Print>(
     sample: &[u8],
     out: &[u32],
     bytes: &[u8],
     list: &mut [u32],
-    t: &mut Tally,
-) -> Result<(), AllocError> {
+    t: &mut Tally<R>,
+) -> io::Result<()> {
     let path = text_at(sample, t.at);
     t.moved(after_text(sample, t.at));
     answered(sample, contains_node(out, bytes, path), t, "contains_node")?;
@@ -43,20 +43,25 @@ fn query(
 }
 
 // What is returned with number 0.
-fn answered(sample: &[u8], answer: Answer, t: &mut Tally, what: &str) -> Result<(), AllocError> {
+fn answered<R: Print>(
+    sample: &[u8],
+    answer: Answer,
+    t: &mut Tally<R>,
+    what: &str,
+) -> io::Result<()> {
     t.noted(answer.number == 0, what)?;
     t.number(sample, answer.returned, what)
 }
 
 // A list of places against the definitions that are listed.
-fn places(
+fn places<R: Print>(
     sample: &[u8],
     out: &[u32],
     list: &[u32],
     answer: Answer,
-    t: &mut Tally,
+    t: &mut Tally<R>,
     what: &str,
-) -> Result<(), AllocError> {
+) -> io::Result<()> {
     let mut left = t.recorded(sample);
     answered(sample, answer, t, what)?;
     let mut i = 0;

@@ -5,7 +5,7 @@ use definition_log::kinds::{
 };
 use definition_log::layout;
 use definition_log::record::{child_of, first_text, kind_of, out_field, second_text};
-use std::alloc::AllocError;
+use std::io;
 
 // What a chain has; a chain inside a record of another has the lower number.
 pub const CELLS: u32 = 0;
@@ -23,14 +23,14 @@ pub const BINDINGS: u32 = 5;
 pub const DIAGNOSTICS: u32 = 6;
 
 // A record of a chain.
-pub fn record_itself(
+pub fn record_itself<R: Print>(
     sample: &[u8],
     out: &[u32],
     bytes: &[u8],
     has: u32,
     r: u32,
-    t: &mut Tally,
-) -> Result<(), AllocError> {
+    t: &mut Tally<R>,
+) -> io::Result<()> {
     match has {
         CELLS => cell(sample, out, bytes, r, t),
         LABELS => label(sample, out, bytes, r, t),
@@ -43,7 +43,13 @@ pub fn record_itself(
 }
 
 // A cell.
-fn cell(sample: &[u8], out: &[u32], bytes: &[u8], r: u32, t: &mut Tally) -> Result<(), AllocError> {
+fn cell<R: Print>(
+    sample: &[u8],
+    out: &[u32],
+    bytes: &[u8],
+    r: u32,
+    t: &mut Tally<R>,
+) -> io::Result<()> {
     let kind = t.recorded(sample);
     t.number(sample, kind_of(out, r), "kind of a cell")?;
     if kind == NUMBER {
@@ -54,25 +60,25 @@ fn cell(sample: &[u8], out: &[u32], bytes: &[u8], r: u32, t: &mut Tally) -> Resu
 }
 
 // A label.
-fn label(
+fn label<R: Print>(
     sample: &[u8],
     out: &[u32],
     bytes: &[u8],
     r: u32,
-    t: &mut Tally,
-) -> Result<(), AllocError> {
+    t: &mut Tally<R>,
+) -> io::Result<()> {
     t.noted(kind_of(out, r) == LABEL, "kind of a label")?;
     t.text(sample, first_text(out, bytes, r), "label")
 }
 
 // A value.
-fn value(
+fn value<R: Print>(
     sample: &[u8],
     out: &[u32],
     bytes: &[u8],
     r: u32,
-    t: &mut Tally,
-) -> Result<(), AllocError> {
+    t: &mut Tally<R>,
+) -> io::Result<()> {
     let kind = t.recorded(sample);
     t.number(sample, kind_of(out, r), "kind of a value")?;
     match kind {
@@ -84,13 +90,13 @@ fn value(
 }
 
 // A definition.
-fn definition(
+fn definition<R: Print>(
     sample: &[u8],
     out: &[u32],
     bytes: &[u8],
     r: u32,
-    t: &mut Tally,
-) -> Result<(), AllocError> {
+    t: &mut Tally<R>,
+) -> io::Result<()> {
     t.number(sample, kind_of(out, r), "kind of a definition")?;
     t.text(sample, first_text(out, bytes, r), "path of a definition")?;
     spans(sample, out, r, t)?;
@@ -98,26 +104,26 @@ fn definition(
 }
 
 // An extension, with its reference.
-fn extension(
+fn extension<R: Print>(
     sample: &[u8],
     out: &[u32],
     bytes: &[u8],
     r: u32,
-    t: &mut Tally,
-) -> Result<(), AllocError> {
+    t: &mut Tally<R>,
+) -> io::Result<()> {
     t.noted(kind_of(out, r) == EXTENSION, "kind of an extension")?;
     spans(sample, out, r, t)?;
     reference(sample, out, bytes, child_of(out, r), t)
 }
 
 // A binding.
-fn binding(
+fn binding<R: Print>(
     sample: &[u8],
     out: &[u32],
     bytes: &[u8],
     r: u32,
-    t: &mut Tally,
-) -> Result<(), AllocError> {
+    t: &mut Tally<R>,
+) -> io::Result<()> {
     t.noted(kind_of(out, r) == BINDING, "kind of a binding")?;
     t.text(sample, first_text(out, bytes, r), "label of a binding")?;
     t.text(sample, second_text(out, bytes, r), "path of a binding")?;
@@ -125,13 +131,13 @@ fn binding(
 }
 
 // A diagnostic.
-fn diagnostic(
+fn diagnostic<R: Print>(
     sample: &[u8],
     out: &[u32],
     bytes: &[u8],
     r: u32,
-    t: &mut Tally,
-) -> Result<(), AllocError> {
+    t: &mut Tally<R>,
+) -> io::Result<()> {
     t.noted(kind_of(out, r) == DIAGNOSTIC, "kind of a diagnostic")?;
     t.number(sample, out_field(out, r, layout::N), "code of a diagnostic")?;
     t.text(sample, first_text(out, bytes, r), "text of a diagnostic")?;
@@ -139,13 +145,13 @@ fn diagnostic(
 }
 
 // What a reference names.
-fn reference(
+fn reference<R: Print>(
     sample: &[u8],
     out: &[u32],
     bytes: &[u8],
     r: u32,
-    t: &mut Tally,
-) -> Result<(), AllocError> {
+    t: &mut Tally<R>,
+) -> io::Result<()> {
     t.noted(kind_of(out, r) == REFERENCE, "kind of a reference")?;
     t.number(sample, out_field(out, r, layout::N), "form of a reference")?;
     t.text(sample, first_text(out, bytes, r), "label of a reference")?;
@@ -153,7 +159,7 @@ fn reference(
 }
 
 // The span and the name span of a record.
-fn spans(sample: &[u8], out: &[u32], r: u32, t: &mut Tally) -> Result<(), AllocError> {
+fn spans<R: Print>(sample: &[u8], out: &[u32], r: u32, t: &mut Tally<R>) -> io::Result<()> {
     span(sample, out, r, t)?;
     t.number(
         sample,
@@ -168,7 +174,7 @@ fn spans(sample: &[u8], out: &[u32], r: u32, t: &mut Tally) -> Result<(), AllocE
 }
 
 // The span of a record.
-fn span(sample: &[u8], out: &[u32], r: u32, t: &mut Tally) -> Result<(), AllocError> {
+fn span<R: Print>(sample: &[u8], out: &[u32], r: u32, t: &mut Tally<R>) -> io::Result<()> {
     t.number(
         sample,
         out_field(out, r, layout::SPAN_START),

@@ -7,17 +7,17 @@ use definition_log::answer::{Answer, REFUSED_ROOM};
 use definition_log::layout::RECORD_WORDS;
 use levels::level::SIGNED;
 use lowering::lower::lower;
-use std::alloc::AllocError;
+use std::io;
 
 // Replays a case: its words, its text, and what comes of them.
-pub fn replay_case(
+pub fn replay_case<R: Print>(
     sample: &[u8],
     input: &mut [u32],
     out: &mut [u32],
     bytes: &mut [u8],
     list: &mut [u32],
-    t: &mut Tally,
-) -> Result<(), AllocError> {
+    t: &mut Tally<R>,
+) -> io::Result<()> {
     let n = read_numbers(sample, t.at, input);
     let at = after_numbers(sample, t.at);
     let text = text_at(sample, at);
@@ -27,15 +27,15 @@ pub fn replay_case(
 
 // Replays an input, in larger buffers first; what is recorded starts with how many records and bytes
 // are made.
-fn replay_input(
+fn replay_input<R: Print>(
     sample: &[u8],
     words: &[u32],
     text: &[u8],
     out: &mut [u32],
     bytes: &mut [u8],
     list: &mut [u32],
-    t: &mut Tally,
-) -> Result<(), AllocError> {
+    t: &mut Tally<R>,
+) -> io::Result<()> {
     let start = t.at;
     let records = t.recorded(sample) as usize;
     let size = number_at(sample, after_number(sample, start)) as usize;
@@ -45,7 +45,7 @@ fn replay_input(
 }
 
 // Replays an input in buffers that are too small, and in such as are just large enough.
-fn replay_rooms(
+fn replay_rooms<R: Print>(
     sample: &[u8],
     words: &[u32],
     text: &[u8],
@@ -54,8 +54,8 @@ fn replay_rooms(
     out: &mut [u32],
     bytes: &mut [u8],
     list: &mut [u32],
-    t: &mut Tally,
-) -> Result<(), AllocError> {
+    t: &mut Tally<R>,
+) -> io::Result<()> {
     too_small(sample, words, text, records, size, out, bytes, list, t)?;
     replay_part(
         sample, words, text, records, size, true, out, bytes, list, t,
@@ -63,7 +63,7 @@ fn replay_rooms(
 }
 
 // Replays an input in buffers that are one record short, and one byte.
-fn too_small(
+fn too_small<R: Print>(
     sample: &[u8],
     words: &[u32],
     text: &[u8],
@@ -72,14 +72,14 @@ fn too_small(
     out: &mut [u32],
     bytes: &mut [u8],
     list: &mut [u32],
-    t: &mut Tally,
-) -> Result<(), AllocError> {
+    t: &mut Tally<R>,
+) -> io::Result<()> {
     record_short(sample, words, text, records, size, out, bytes, list, t)?;
     byte_short(sample, words, text, records, size, out, bytes, list, t)
 }
 
 // Replays an input in buffers that are one record short.
-fn record_short(
+fn record_short<R: Print>(
     sample: &[u8],
     words: &[u32],
     text: &[u8],
@@ -88,8 +88,8 @@ fn record_short(
     out: &mut [u32],
     bytes: &mut [u8],
     list: &mut [u32],
-    t: &mut Tally,
-) -> Result<(), AllocError> {
+    t: &mut Tally<R>,
+) -> io::Result<()> {
     if records == 0 {
         return Ok(());
     }
@@ -108,7 +108,7 @@ fn record_short(
 }
 
 // Replays an input in buffers that are one byte short.
-fn byte_short(
+fn byte_short<R: Print>(
     sample: &[u8],
     words: &[u32],
     text: &[u8],
@@ -117,8 +117,8 @@ fn byte_short(
     out: &mut [u32],
     bytes: &mut [u8],
     list: &mut [u32],
-    t: &mut Tally,
-) -> Result<(), AllocError> {
+    t: &mut Tally<R>,
+) -> io::Result<()> {
     if size == 0 {
         return Ok(());
     }
@@ -137,7 +137,7 @@ fn byte_short(
 }
 
 // Replays an input in the first records and bytes of buffers, which are enough for it or not.
-fn replay_part(
+fn replay_part<R: Print>(
     sample: &[u8],
     words: &[u32],
     text: &[u8],
@@ -147,8 +147,8 @@ fn replay_part(
     out: &mut [u32],
     bytes: &mut [u8],
     list: &mut [u32],
-    t: &mut Tally,
-) -> Result<(), AllocError> {
+    t: &mut Tally<R>,
+) -> io::Result<()> {
     if out.len() / RECORD_WORDS < records {
         return t.noted(false, "room for records");
     }
@@ -169,7 +169,7 @@ fn replay_part(
 }
 
 // Replays an input in buffers that are enough for it or not.
-fn replay_sized(
+fn replay_sized<R: Print>(
     sample: &[u8],
     words: &[u32],
     text: &[u8],
@@ -177,8 +177,8 @@ fn replay_sized(
     out: &mut [u32],
     bytes: &mut [u8],
     list: &mut [u32],
-    t: &mut Tally,
-) -> Result<(), AllocError> {
+    t: &mut Tally<R>,
+) -> io::Result<()> {
     if enough {
         return replay_whole(sample, words, text, out, bytes, list, t);
     }
@@ -186,19 +186,24 @@ fn replay_sized(
 }
 
 // Lowers an input into buffers that are too small.
-fn replay_refused(
+fn replay_refused<R: Print>(
     words: &[u32],
     text: &[u8],
     out: &mut [u32],
     bytes: &mut [u8],
-    t: &mut Tally,
-) -> Result<(), AllocError> {
+    t: &mut Tally<R>,
+) -> io::Result<()> {
     let answer = lower_case(words, text, out, bytes);
     refused(answer, out, bytes, t)
 }
 
 // What is answered and left where there is no room.
-fn refused(answer: Answer, out: &[u32], bytes: &[u8], t: &mut Tally) -> Result<(), AllocError> {
+fn refused<R: Print>(
+    answer: Answer,
+    out: &[u32],
+    bytes: &[u8],
+    t: &mut Tally<R>,
+) -> io::Result<()> {
     t.noted(
         answer.number == REFUSED_ROOM,
         "number of an input without room",
@@ -209,40 +214,40 @@ fn refused(answer: Answer, out: &[u32], bytes: &[u8], t: &mut Tally) -> Result<(
 }
 
 // Lowers an input and compares the log and the queries.
-fn replay_whole(
+fn replay_whole<R: Print>(
     sample: &[u8],
     words: &[u32],
     text: &[u8],
     out: &mut [u32],
     bytes: &mut [u8],
     list: &mut [u32],
-    t: &mut Tally,
-) -> Result<(), AllocError> {
+    t: &mut Tally<R>,
+) -> io::Result<()> {
     replay_log(sample, words, text, out, bytes, t)?;
     asked(sample, out, bytes, list, t)
 }
 
 // Lowers an input and compares the log.
-fn replay_log(
+fn replay_log<R: Print>(
     sample: &[u8],
     words: &[u32],
     text: &[u8],
     out: &mut [u32],
     bytes: &mut [u8],
-    t: &mut Tally,
-) -> Result<(), AllocError> {
+    t: &mut Tally<R>,
+) -> io::Result<()> {
     let answer = lower_case(words, text, out, bytes);
     lowered(sample, answer, out, bytes, t)
 }
 
 // What is answered and left where there is room.
-fn lowered(
+fn lowered<R: Print>(
     sample: &[u8],
     answer: Answer,
     out: &[u32],
     bytes: &[u8],
-    t: &mut Tally,
-) -> Result<(), AllocError> {
+    t: &mut Tally<R>,
+) -> io::Result<()> {
     t.noted(answer.number == 0, "number of an input")?;
     t.noted(answer.returned == 0, "returned of an input")?;
     whole_log(sample, out, bytes, t)

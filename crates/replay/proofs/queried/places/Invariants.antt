@@ -2,4 +2,4 @@
 use Rattle.replay.proofs.queried.places.Given as goal
 
 abbrev pub decreases-loop-left : goal.decreases-loop-left
-decreases-loop-left l = l.left
+decreases-loop-left g l = l.left
