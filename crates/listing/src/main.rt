@@ -1,7 +1,8 @@
 // Reads a description from standard input, lowers it and prints the listing of its log.
 #![tactic(auto)]
 
-ghost use Rattle.std.specs.Prelude.{ℕ, ◌*◌, ◌≤◌, ◌≡◌, List, length, take};
+ghost use Rattle.std.specs.Prelude.{ℕ, ◌*◌, ◌≤◌, ◌≡◌, List, length, take, OnOk, IfSome};
+ghost use Rattle.std.specs.Io.KnownBytes.{Appends};
 ghost use Rattle.listing.specs.machine.Page.{page_at, filled, IsPrefixLen};
 ghost use Rattle.listing.specs.meaning.Program.{word_bytes, most_words, words_of, out_length, bytes_length, listed, printed};
 ghost use Rattle.listing.specs.meaning.Program.{most_printed, most_read, ReadOf};
@@ -21,6 +22,7 @@ use listing::{list_answer, list_refusal};
 use lowering::lower::lower;
 use reading::{RECORD_BYTES, WORD_BYTES, read_words, word_at};
 use std::io;
+use std::io::{Read, Write};
 
 // The longest input that is not refused by its size, and one byte more, by which a longer one is seen to be
 // longer.
@@ -35,11 +37,18 @@ const OUT_BYTES: usize = 65536;
 const MOST_PAGE: usize = (OUT_RECORDS - 1) * 50 + OUT_BYTES + 2;
 
 fn main(rt: HostRuntime) -> io::Result<()> {
+    list(&mut rt.reader(), &mut io::writer(&rt))
+}
+
+// Reads an input and writes what is printed for all of it.
+fn list<R: Read, W: Write>(input: &mut R, out: &mut W) -> io::Result<()>
+    ensures { OnOk result (IfSome (R.remaining input.old) (λ whole. Appends (W.contents out.old) (W.contents out.new) (printed whole))) }
+{
     let mut buffer = [0u8; MOST_INPUT];
-    let n = read_full(&mut rt.reader(), &mut buffer)?;
+    let n = read_full(input, &mut buffer)?;
     let mut page = [0u8; MOST_PAGE];
     let used = list_whole(&buffer, n, &mut page);
-    rt.write_all(&page[..used])
+    out.write_all(&page[..used])
 }
 
 // Writes what is printed for an input to the start of a page that is long enough for any, and returns how

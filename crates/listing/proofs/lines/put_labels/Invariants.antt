@@ -13,7 +13,6 @@ use Rattle.listing.proofs.lines.put_labels.Given as goal
 abbrev pub label : List ℕ → List ℕ → ℕ → List ℕ
 label words bytes r = label_line (first_text words bytes r)
 
-
 abbrev pub invariant-loop-page : goal.invariant-loop-page
 invariant-loop-page l = (length l.page ≡ length l.initial.page)
     × (put (flat_map label_line (read_labels l.words l.bytes l.first)) (page_at l.initial.page l.at) ≡ put

@@ -3,6 +3,7 @@ use Prim.Native.Nat.{ℕ}
 use mathlib.Core.Path.{◌≡◌, refl}
 use mathlib.Core.List.{List}
 use borrow.Author.Tests.{ne_eqb}
+use native.Mathlib.Omega.{arith}
 use Rattle.definition_log.specs.meaning.ReadBack.{diag_at}
 use Rattle.listing.specs.meaning.Listing.{diagnostic_line}
 use Rattle.listing.specs.machine.Chains.{definitions_at, bindings_at, record_lines}
@@ -15,7 +16,6 @@ others : (chain : ℕ) (words bytes : List ℕ) (r : ℕ) → (chain ≡ definit
 unfolding record_lines
 others chain words bytes r d b = rw (ne_eqb chain definitions_at d, ne_eqb chain bindings_at b) refl
 
-
 pub returns-in-1 : goal.returns-in-1
 unfolding record_lines
 returns-in-1 c = rw c.in-1.is c.put_definition.ensures
@@ -26,6 +26,5 @@ returns-in-3 c = rw c.in-3.is c.put_binding.ensures
 
 pub returns-in_default : goal.returns-in_default
 returns-in_default c = let a = c.args in
-    let m = c.in_default.in_default-own.rest in
-    puts_same (others a.chain a.words.now a.bytes.now a.r m.0.1 m.1)
+    puts_same (others a.chain a.words.now a.bytes.now a.r (λ e. omega (arith, e)) (λ e. omega (arith, e)))
     (c.put_diagnostic.ensures a.bytes.now)
