@@ -1,4 +1,4 @@
--- An expression at level 2, as the code evaluates it: on the signed values of the same bits (logicAt). What it makes of an expression is
+-- An expression at level 2, as the code evaluates it: on the signed values of the same bits (logic_at). What it makes of an expression is
 -- what the definition makes on numbers below 2 ^ 64.
 use Prim.Native.Nat.{ℕ, ◌%◌, ◌^◌, ◌≤◌, ◌<◌}
 use mathlib.Core.Path.{◌≡◌, refl, sym, ap, ◌∙◌}

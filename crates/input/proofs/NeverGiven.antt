@@ -5,7 +5,7 @@ use mathlib.Core.Bool.{true, false}
 use mathlib.Core.List.{List, [], ◌∷◌, ◌++◌}
 use borrow.Author.Tests.{eqb-true}
 use lib.Dec.{eqb}
-use Rattle.paths_numbers.specs.meaning.Code.{number_empty, not_aDigit, number_too_large, zero_divisor, shift_amount}
+use Rattle.paths_numbers.specs.meaning.Code.{number_empty, not_a_digit, number_too_large, zero_divisor, shift_amount}
 use Rattle.paths_numbers.specs.meaning.Lists.{any}
 use Rattle.paths_numbers.specs.meaning.Reading.{no_code}
 use Rattle.paths_numbers.proofs.Lists.{any_append}
@@ -34,7 +34,7 @@ pub given_quiet : (code : ℕ) → given code ≡ true → never_given code ≡ 
 given_quiet code h =
     by_test (eqb code no_code) (λ t. rw (eqb-true code no_code t) refl)
     (λ a. by_test (eqb code number_empty) (λ t. rw (eqb-true code number_empty t) refl)
-    (λ b. by_test (eqb code not_aDigit) (λ t. rw (eqb-true code not_aDigit t) refl)
+    (λ b. by_test (eqb code not_a_digit) (λ t. rw (eqb-true code not_a_digit t) refl)
     (λ c. by_test (eqb code number_too_large) (λ t. rw (eqb-true code number_too_large t) refl)
     (λ d. by_test (eqb code zero_divisor) (λ t. rw (eqb-true code zero_divisor t) refl)
     (λ e. let t : eqb code shift_amount ≡ true = rw (a, b, c, d, e) at h in

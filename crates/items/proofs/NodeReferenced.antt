@@ -82,8 +82,8 @@ module _ (words bytes l path : List ℕ) where
 -- the definition there
 module _ {c d : LowerCtx} {words bytes w b : List ℕ} {parts : Trees} (v : Resolved) (l path : List ℕ) (kind : DefKind)
     (span name_span : SpanRead) (found : Span) (q : List ℕ) (made : Steps c d words bytes w b (define (bare_def kind span name_span q)))
-    (valueIs : bare_value kind ≡ node [] (has omit_kind parts)) (spanIs : meant span ≡ found)
-    (nameSpanIs : meant name_span ≡ node_name_span parts found) where
+    (value_is : bare_value kind ≡ node [] (has omit_kind parts)) (span_is : meant span ≡ found)
+    (name_span_is : meant name_span ≡ node_name_span parts found) where
   defines_at : ((k : Context) (s : State) (p : List ℕ) → Represents k c words bytes s → c.short ≡ false
       → Leads words bytes c.binds.first c.defs.first l path v → resolution words bytes l path v ≡ reaches p → q ≡ p)
       → DefinesLeading v l path c d words bytes w b parts found
@@ -91,7 +91,7 @@ module _ {c d : LowerCtx} {words bytes w b : List ℕ} {parts : Trees} (v : Reso
       record {
         defines = λ k s p r z i h.
             subst (λ (x : Def). Represents k d w b (define x s))
-            (bare_node_lem kind span name_span q p parts found (e k s p r z i h) valueIs spanIs nameSpanIs) (made.steps k s r z);
+            (bare_node_lem kind span name_span q p parts found (e k s p r z i h) value_is span_is name_span_is) (made.steps k s r z);
       }
 
   pub defines_bound : (n : ℕ) → v ≡ R.Bound n → q ≡ path_in c.bytes bytes (placed_in words n 4)

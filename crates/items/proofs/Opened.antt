@@ -84,9 +84,9 @@ bare_node_lem kind span name_span q p parts at e v x y = rw (e, v, x, y) refl
 module _ {parent : PathAt} {c d : LowerCtx} {words bytes w₁ b₁ w b : List ℕ} {parts : Trees} {o : Opened} (kind : DefKind)
     (span name_span : SpanRead) (at : Span) (q : List ℕ) (path : List ℕ → List ℕ)
     (made : Steps c d words bytes w₁ b₁ (define (bare_def kind span name_span q))) (labels : Opens d w₁ b₁ w b parts o)
-    (valueIs : bare_value kind ≡ node [] (has omit_kind parts)) (spanIs : meant span ≡ at)
-    (nameSpanIs : meant name_span ≡ node_name_span parts at)
-    (pathIs : (k : Context) (p : List ℕ) (s : State) → Represents (with_place (record { at = parent; path = p }) k) c words bytes s
+    (value_is : bare_value kind ≡ node [] (has omit_kind parts)) (span_is : meant span ≡ at)
+    (name_span_is : meant name_span ≡ node_name_span parts at)
+    (path_is : (k : Context) (p : List ℕ) (s : State) → Represents (with_place (record { at = parent; path = p }) k) c words bytes s
     → c.short ≡ false → q ≡ path p) where
   defined : (k : Context) (p : List ℕ) (s : State) → Represents (with_place (record { at = parent; path = p }) k) c words bytes s
       → Represents (with_place (record { at = parent; path = p }) k) d w₁ b₁ (define (bare_node (path p) parts at) s)
@@ -96,7 +96,7 @@ module _ {parent : PathAt} {c d : LowerCtx} {words bytes w₁ b₁ w b : List �
       ((define_grows (bare_node (path p) parts at)).bytes s) r)
       (λ z.
       subst (λ (x : Def). Represents (with_place (record { at = parent; path = p }) k) d w₁ b₁ (define x s))
-      (bare_node_lem kind span name_span q (path p) parts at (pathIs k p s r z) valueIs spanIs nameSpanIs)
+      (bare_node_lem kind span name_span q (path p) parts at (path_is k p s r z) value_is span_is name_span_is)
       (made.steps (with_place (record { at = parent; path = p }) k) s r z))
 
   pub defined_opens : OpensAt parent c words bytes w b parts at path o

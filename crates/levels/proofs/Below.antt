@@ -3,7 +3,7 @@ use Rattle.std.proofs.Common.{◌≡◌, ℕ, ◌+◌, ◌-◌, ◌*◌, ◌%◌
 use native.Mathlib.Nat.{mod-le}
 use lib.Bits.{and_le_l, or_lt, xor_lt}
 use Rattle.paths_numbers.specs.meaning.Reading.{Reading, value, fails, no_code}
-use Rattle.paths_numbers.specs.meaning.Code.{number_empty, not_aDigit, number_too_large, zero_divisor, shift_amount}
+use Rattle.paths_numbers.specs.meaning.Code.{number_empty, not_a_digit, number_too_large, zero_divisor, shift_amount}
 use Rattle.paths_numbers.specs.meaning.Byte.{digit_of, plus}
 use Rattle.paths_numbers.specs.meaning.Expression.{and_op, or_op}
 use Rattle.paths_numbers.specs.meaning.Number.{trimmed, base_of, behind_prefix, digits, behind_sign, unsigned, unsigned_number}
@@ -19,7 +19,7 @@ abbrev pub given : ℕ → Bool
 given c =
     cond (eqb c no_code) true
     (cond (eqb c number_empty) true
-    (cond (eqb c not_aDigit) true
+    (cond (eqb c not_a_digit) true
     (cond (eqb c number_too_large) true
     (cond (eqb c zero_divisor) true
     (eqb c shift_amount)))))

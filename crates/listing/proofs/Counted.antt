@@ -135,7 +135,7 @@ opened_counted p parts span s =
 module _ (parts : Trees) (span : Span) (body : List ℕ → State → State) (b : (p : List ℕ) (s : State) → Counted s (body p s)) where
   placed_counted : (l : Place) (s : State) → Counted s (lower_placed l parts span body s)
   placed_counted (at p) s = then_counted (opened_counted p parts span s) (b p _)
-  placed_counted (aside t refSpan) s =
+  placed_counted (aside t ref_span) s =
       counted_if (sets_overlay s.defs) (extended_counted _ (b root (apart s))) (dropped_counted (b root (apart s)))
   placed_counted discarded s = dropped_counted (b root (apart s))
   placed_counted nowhere s = nothing_more s

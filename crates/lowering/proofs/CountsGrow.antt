@@ -62,7 +62,7 @@ opened_above p parts span s =
 module _ (parts : Trees) (span : Span) (body : List ℕ → State → State) (b : (p : List ℕ) (s : State) → Above s (body p s)) where
   pub placed_above : (l : Place) (s : State) → Above s (lower_placed l parts span body s)
   placed_above (at p) s = then_above (opened_above p parts span s) (b p _)
-  placed_above (aside t refSpan) s =
+  placed_above (aside t ref_span) s =
       above_if (sets_overlay s.defs) (extended_above _ (b root (apart s))) (dropped_above (b root (apart s)))
   placed_above discarded s = dropped_above (b root (apart s))
   placed_above nowhere s = same_counts s

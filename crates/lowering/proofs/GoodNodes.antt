@@ -133,17 +133,17 @@ module _ (parts : Trees) (t : GoodTrees parts) (span : Span) (e : in_order span 
       (node_def p parts span)
       (good_def_lem (node_def p parts span) e (node_span parts span t.spans e) f)
 
-  settled_good : {s u : State} → GoodState s → GoodState u → (x : Target) (refSpan : Span) → in_order refSpan ≡ true
-      → GoodState (settled x refSpan span s u)
-  settled_good {s} {u} g h x refSpan r =
+  settled_good : {s u : State} → GoodState s → GoodState u → (x : Target) (ref_span : Span) → in_order ref_span ≡ true
+      → GoodState (settled x ref_span span s u)
+  settled_good {s} {u} g h x ref_span r =
       cond_in GoodState (sets_overlay s.defs)
-      (good_extended g (record { target = x; body = u.defs; span = span; name_span = refSpan }) refl e r h)
+      (good_extended g (record { target = x; body = u.defs; span = span; name_span = ref_span }) refl e r h)
       (good_dropped g h)
 
   placed_good : {s : State} → GoodState s → (body : List ℕ → State → State) → KeepsGood body → (place : Place) → good_place place ≡ true
       → GoodState (lower_placed place parts span body s)
   placed_good g body k (at p) f = k p _ (nonempty_good p f) (opened_good g p f)
-  placed_good g body k (aside x refSpan) f = settled_good g (k root _ root_good (good_apart g)) x refSpan f
+  placed_good g body k (aside x ref_span) f = settled_good g (k root _ root_good (good_apart g)) x ref_span f
   placed_good g body k discarded f = good_dropped g (k root _ root_good (good_apart g))
   placed_good g body k nowhere f = g
 

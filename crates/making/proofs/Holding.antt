@@ -272,16 +272,16 @@ module _ {c d f : LowerCtx} {words bytes w b : List ℕ} {r : Rec} {x y : List �
       })))
 
 -- and below a record
-pub added_child : {c d : LowerCtx} {words bytes w b : List ℕ} {r : Rec} {x y : List ℕ} (owner lastChild : ℕ)
-    → Told c d words bytes w b r x y (child_link owner lastChild)
-    → AddsBelow c d words bytes w b owner lastChild (event_of (children_of owner) 0 r x y)
+pub added_child : {c d : LowerCtx} {words bytes w b : List ℕ} {r : Rec} {x y : List ℕ} (owner last_child : ℕ)
+    → Told c d words bytes w b r x y (child_link owner last_child)
+    → AddsBelow c d words bytes w b owner last_child (event_of (children_of owner) 0 r x y)
 unfolding one_more
-added_child {c} {d} {r = r} {x} {y} owner lastChild t =
+added_child {c} {d} {r = r} {x} {y} owner last_child t =
     record {
       holds = λ g es h th la.
           let e = event_of (children_of owner) 0 r x y in
           added t d (children_of owner) 0 g es h
-          (λ s l en. spot_below owner lastChild es l.ordered (th s) (la s))
+          (λ s l en. spot_below owner last_child es l.ordered (th s) (la s))
           (λ s o z. omega (arith, there_to owner 1 es (th s)))
           refl refl refl
           (λ m s n en.

@@ -3,7 +3,7 @@ use Rattle.std.proofs.Common.{◌≡◌, ℕ, ◌+◌, ◌-◌, ◌*◌, ◌/◌
 use borrow.Author.Tests.{lt-leb}
 use Rattle.paths_numbers.proofs.Texts.{cond_in}
 use Rattle.paths_numbers.specs.meaning.Byte.{digit_of}
-use Rattle.paths_numbers.specs.meaning.Code.{not_aDigit}
+use Rattle.paths_numbers.specs.meaning.Code.{not_a_digit}
 use Rattle.paths_numbers.specs.meaning.Reading.{Reading, value, fails}
 use Rattle.paths_numbers.specs.meaning.Number.{digits, behind_sign}
 use Rattle.paths_numbers.specs.machine.Limits.{Within}
@@ -12,7 +12,7 @@ use Rattle.paths_numbers.specs.machine.Limits.{Within}
 module _ (base most over acc : ℕ) (s : List ℕ) (i : ℕ) (w : Reading ℕ)
     (inv : w ≡ digits base most over acc (drop i s)) where
   -- the next byte is no digit of the base
-  pub bad : i < length s → base ≤ digit_of (get_or s i 0) → fails not_aDigit ≡ w
+  pub bad : i < length s → base ≤ digit_of (get_or s i 0) → fails not_a_digit ≡ w
   unfolding digits
   bad h k = sym (inv ∙ rw (drop-cons s i 0 h) (simp (le-ltb _ _ k)))
 

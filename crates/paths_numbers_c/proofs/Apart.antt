@@ -5,7 +5,7 @@ use mathlib.Core.Bool.{cond}
 use mathlib.Core.Option.{Option, some, none}
 use lib.Dec.{eqb}
 use lib.IntN.{ℤ}
-use Rattle.paths_numbers.specs.meaning.Code.{number_empty, not_aDigit, number_too_large, width_unsupported, character_too_large}
+use Rattle.paths_numbers.specs.meaning.Code.{number_empty, not_a_digit, number_too_large, width_unsupported, character_too_large}
 use Rattle.paths_numbers.specs.meaning.Code.{outside64_bits, zero_divisor, shift_amount}
 use Rattle.paths_numbers.specs.meaning.Reading.{Reading, value, fails}
 use Rattle.paths_numbers.specs.meaning.Path.{built_told}
@@ -45,7 +45,7 @@ apart told back same a b e = sym (same a) ∙ ap back e ∙ same b
 
 -- how a reading failed, by its code
 abbrev kind_back : ℕ → IntErrorKind
-kind_back c = cond (eqb c number_empty) Empty (cond (eqb c not_aDigit) InvalidDigit (cond (eqb c number_too_large) PosOverflow NegOverflow))
+kind_back c = cond (eqb c number_empty) Empty (cond (eqb c not_a_digit) InvalidDigit (cond (eqb c number_too_large) PosOverflow NegOverflow))
 
 pub int_apart : Apart int_told
 int_apart = apart int_told back same

@@ -258,18 +258,18 @@ not_false true e = refl
 not_false false e = sym e
 
 -- binds_as: whether x has r's label, and its path
-module _ (words bytes : List ℕ) (r x : ℕ) (byPath : Bool) (t : Bool) (e : t ≡ same (first_text words bytes r) (first_text words bytes x))
+module _ (words bytes : List ℕ) (r x : ℕ) (by_path : Bool) (t : Bool) (e : t ≡ same (first_text words bytes r) (first_text words bytes x))
   where
-    pub again_other : not t ≡ true → false ≡ again (binding_at words bytes r) byPath (binding_at words bytes x)
+    pub again_other : not t ≡ true → false ≡ again (binding_at words bytes r) by_path (binding_at words bytes x)
     unfolding again binding_at
     again_other f = let q : same (first_text words bytes r) (first_text words bytes x) ≡ false = sym e ∙ not_true t f in rw q refl
 
-    pub again_path : not t ≡ false → byPath ≡ true → (u : Bool) → u ≡ same (second_text words bytes r) (second_text words bytes x)
-        → u ≡ again (binding_at words bytes r) byPath (binding_at words bytes x)
+    pub again_path : not t ≡ false → by_path ≡ true → (u : Bool) → u ≡ same (second_text words bytes r) (second_text words bytes x)
+        → u ≡ again (binding_at words bytes r) by_path (binding_at words bytes x)
     unfolding again binding_at
     again_path f p u v = let q : same (first_text words bytes r) (first_text words bytes x) ≡ true = sym e ∙ not_false t f in rw (q, p) v
 
-    pub again_label : not t ≡ false → byPath ≡ false → true ≡ again (binding_at words bytes r) byPath (binding_at words bytes x)
+    pub again_label : not t ≡ false → by_path ≡ false → true ≡ again (binding_at words bytes r) by_path (binding_at words bytes x)
     unfolding again binding_at
     again_label f p = let q : same (first_text words bytes r) (first_text words bytes x) ≡ true = sym e ∙ not_false t f in rw (q, p) refl
 

@@ -158,7 +158,7 @@ module _ (parts : Trees) (span : Span) (body : List ℕ → State → State) (b 
   placed_quiet : (l : Place) (s : State) → QuietState s → QuietState (lower_placed l parts span body s)
   unfolding dropped
   placed_quiet (at p) s h = b p _ (opened_quiet p s h)
-  placed_quiet (aside t refSpan) s h = settled_quiet t refSpan s _ (apart_quiet s h)
+  placed_quiet (aside t ref_span) s h = settled_quiet t ref_span s _ (apart_quiet s h)
   placed_quiet discarded s h = apart_quiet s h
   placed_quiet nowhere s h = h
 

@@ -84,7 +84,7 @@ module _ (l m : ℕ) where
   module _ (parts : Trees) (span : Span) (f g : List ℕ → State → State) (e : (p : List ℕ) (s : State) → f p s ≡ g p s) where
     placed_same : (place : Place) (s : State) → lower_placed place parts span f s ≡ lower_placed place parts span g s
     placed_same (at p) s = e p _
-    placed_same (aside t refSpan) s = ap (settled t refSpan span s) (e root (apart s))
+    placed_same (aside t ref_span) s = ap (settled t ref_span span s) (e root (apart s))
     placed_same discarded s = ap (dropped s) (e root (apart s))
     placed_same nowhere s = refl
 

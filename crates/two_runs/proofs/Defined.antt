@@ -52,15 +52,15 @@ module _ (s : State) (h : Defined s) where
   unfolding dropped
   still_dropped t = h
 
-  still_settled : (x : Target) (refSpan span : Span) (t : State) → Defined (settled x refSpan span s t)
+  still_settled : (x : Target) (ref_span span : Span) (t : State) → Defined (settled x ref_span span s t)
   unfolding dropped extended
-  still_settled x refSpan span t = by_test (sets_overlay s.defs) (λ e. rw e h) (λ e. rw e h)
+  still_settled x ref_span span t = by_test (sets_overlay s.defs) (λ e. rw e h) (λ e. rw e h)
 
   still_placed : (place : Place) (parts : Trees) (span : Span) (body : List ℕ → State → State)
       → ((p : List ℕ) (t : State) → Defined t → Defined (body p t))
       → Defined (lower_placed place parts span body s)
   still_placed (at p) parts span body k = k p _ (still_opened p parts span)
-  still_placed (aside x refSpan) parts span body k = still_settled x refSpan span (body root (apart s))
+  still_placed (aside x ref_span) parts span body k = still_settled x ref_span span (body root (apart s))
   still_placed discarded parts span body k = still_dropped (body root (apart s))
   still_placed nowhere parts span body k = h
 

@@ -157,16 +157,16 @@ sim_opened s p parts span =
 
 module _ {new : List ℕ} {t : Bool} {a b : State} (s : Sim new t a b) where
   -- a body with a log of its own, kept or not
-  sim_settled : {u v : State} (x : Target) (refSpan span : Span) → Sim new false u v
-      → Sim new t (settled x refSpan span a u) (settled x refSpan span b v)
-  sim_settled x refSpan span r =
-      rw (like_overlay s.logs) (sim_cond (sets_overlay b.defs) (sim_extended s x span refSpan r) (sim_dropped s r))
+  sim_settled : {u v : State} (x : Target) (ref_span span : Span) → Sim new false u v
+      → Sim new t (settled x ref_span span a u) (settled x ref_span span b v)
+  sim_settled x ref_span span r =
+      rw (like_overlay s.logs) (sim_cond (sets_overlay b.defs) (sim_extended s x span ref_span r) (sim_dropped s r))
 
   -- a node that goes to a place
   sim_placed : (body : List ℕ → State → State) → Keeps new body → (place : Place) (parts : Trees) (span : Span)
       → Sim new t (lower_placed place parts span body a) (lower_placed place parts span body b)
   sim_placed body k (at p) parts span = k p t _ _ (sim_opened s p parts span)
-  sim_placed body k (aside x refSpan) parts span = sim_settled x refSpan span (k root false _ _ (sim_apart s))
+  sim_placed body k (aside x ref_span) parts span = sim_settled x ref_span span (k root false _ _ (sim_apart s))
   sim_placed body k discarded parts span = sim_dropped s (k root false _ _ (sim_apart s))
   sim_placed body k nowhere parts span = s
 

@@ -93,7 +93,7 @@ settled t name_span span s u =
 -- a node with a way to lower its body under a path
 abbrev pub lower_placed : Place → Trees → Span → (List ℕ → State → State) → State → State
 lower_placed (at p) parts span body s = body p (opened p parts span s)
-lower_placed (aside t refSpan) parts span body s = settled t refSpan span s (body root (apart s))
+lower_placed (aside t ref_span) parts span body s = settled t ref_span span s (body root (apart s))
 lower_placed discarded parts span body s = dropped s (body root (apart s))
 lower_placed nowhere parts span body s = s
 

@@ -39,7 +39,7 @@ there r k [] = false
 there r k (e ∷ es) = cond (eqb r k) e.alive (there r (k + 1) es)
 
 -- an operation from c to d that adds a child to a record that is there, whose last child is given, 0 where it has none
-pub record AddsBelow (c d : LowerCtx) (words bytes w b : List ℕ) (owner lastChild : ℕ) (e : Event) : Type 0 where
+pub record AddsBelow (c d : LowerCtx) (words bytes w b : List ℕ) (owner last_child : ℕ) (e : Event) : Type 0 where
   pub holds : (g : Hand) (es : List Event) → Holds g c words bytes es → (c.short ≡ false → there owner 1 es ≡ true)
-      → (c.short ≡ false → lastChild ≡ last (children_of owner) 1 es) → Holds g d w b (es ++ e ∷ [])
+      → (c.short ≡ false → last_child ≡ last (children_of owner) 1 es) → Holds g d w b (es ++ e ∷ [])
   pub stays : c.short ≡ true → d.short ≡ true

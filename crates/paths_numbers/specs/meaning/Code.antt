@@ -52,8 +52,8 @@ cell_outside = 15
 abbrev pub number_empty : ℕ
 number_empty = 16
 
-abbrev pub not_aDigit : ℕ
-not_aDigit = 17
+abbrev pub not_a_digit : ℕ
+not_a_digit = 17
 
 abbrev pub number_too_large : ℕ
 number_too_large = 18

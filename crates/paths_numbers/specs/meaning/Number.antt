@@ -1,6 +1,6 @@
 -- 01, "Numbers": what a number's text reads as, at an unsigned limit and signed in 64 bits.
 use Rattle.std.specs.Prelude.{ℕ, ◌+◌, ◌-◌, ◌*◌, ◌^◌, Bool, true, false, cond, List, [], ◌∷◌, drop, ℤ, pos, neg_ℤ, ◌==◌, nat_le, nat_lt, slice_index}
-use Rattle.paths_numbers.specs.meaning.Code.{number_empty, not_aDigit, number_too_large, number_too_small}
+use Rattle.paths_numbers.specs.meaning.Code.{number_empty, not_a_digit, number_too_large, number_too_small}
 use Rattle.paths_numbers.specs.meaning.Reading.{Reading, value, fails}
 use Rattle.paths_numbers.specs.meaning.Byte.{digit_of, plus, minus}
 use Rattle.paths_numbers.specs.declared.expr_eval.IntErrorKind.{IntErrorKind}
@@ -13,7 +13,7 @@ use Rattle.paths_numbers.specs.declared.expr_eval.ParsedI64.TheVariants as I
 -- the diagnostic code of each way to fail, and what an answer tells
 abbrev pub int_code : IntErrorKind → ℕ
 int_code Empty = number_empty
-int_code InvalidDigit = not_aDigit
+int_code InvalidDigit = not_a_digit
 int_code PosOverflow = number_too_large
 int_code NegOverflow = number_too_small
 
@@ -72,11 +72,11 @@ digits base most over acc [] = value acc
 digits base most over acc (b ∷ s) =
     cond (nat_lt (digit_of b) base)
     (cond (nat_le (acc * base + digit_of b) most) (digits base most over (acc * base + digit_of b) s) (fails over))
-    (fails not_aDigit)
+    (fails not_a_digit)
 
 -- what stands behind a sign: a lone sign is no digit
 unfoldable pub behind_sign : ℕ → ℕ → ℕ → List ℕ → Reading ℕ
-behind_sign base most over [] = fails not_aDigit
+behind_sign base most over [] = fails not_a_digit
 behind_sign base most over (b ∷ s) = digits base most over 0 (b ∷ s)
 
 -- an unsigned reading up to most: "One leading + is allowed … Empty: code 16."

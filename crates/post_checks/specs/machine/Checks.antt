@@ -51,7 +51,7 @@ headers_after kind h =
 
 -- duplicate labels: whether an earlier binding has the same label as c, and the same path where that is asked
 unfoldable pub again : Binding → Bool → Binding → Bool
-again c byPath x = cond (same c.label x.label) (cond byPath (same c.path x.path) true) false
+again c by_path x = cond (same c.label x.label) (cond by_path (same c.path x.path) true) false
 
 -- whether there is a report on a binding c of the label whose first binding is b, with these between them
 unfoldable pub is_reported : Binding → Binding → List Binding → Bool

@@ -2,7 +2,7 @@
 --
 -- Run A lowers a description, run B, accepted too, lowers it with two adjacent items more, anywhere in any node body that enters the main
 -- log: a new subnode, then its deletion by name. The premises are those of `Inserted` and `Pair` (TwoRuns); the conclusion is about the
--- words and bytes that both runs leave. Read in this order: Lowered, TwoRuns from `plainName` on, this file.
+-- words and bytes that both runs leave. Read in this order: Lowered, TwoRuns from `plain_name` on, this file.
 use Rattle.std.specs.Prelude.{ℕ, false, ◌≡◌, List, []}
 use Rattle.paths_numbers.specs.meaning.Path.{at_or_under}
 use Rattle.definition_log.specs.meaning.Record.{first_ext, first_bind, first_diag, first_post}
