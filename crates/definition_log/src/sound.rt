@@ -91,7 +91,8 @@ pub fn check_log(words: &[u32], bytes: &[u8]) -> Soundness
     first_fault(words, bytes, &marks)
 }
 
-// The same of a log of few records.
+// The same of a log of few records. Inlined, its arrays would be on the stack beside the larger ones.
+#[inline(never)]
 fn check_few(words: &[u32], bytes: &[u8]) -> Soundness
     requires { (log_count words.now ≤ few_records) × (wrong_count words.now ≡ false) }
     ensures { told result ≡ soundness words.now bytes.now }

@@ -44,7 +44,9 @@ pub fn check_phandles(out: &mut [u32], bytes: &mut [u8], ctx: LowerCtx) -> Lower
     check_live(out, bytes, ctx, &mut list)
 }
 
-// The reports on all live definitions of a log of few records.
+// The reports on all live definitions of a log of few records, not inlined, so that its list is not on the
+// stack beside the larger one.
+#[inline(never)]
 fn check_few(out: &mut [u32], bytes: &mut [u8], ctx: LowerCtx) -> LowerCtx
     requires { log_count out.old ≤ 8192 }
     ensures { ReportsLive ctx result out.old bytes.old out.new bytes.new }
@@ -53,7 +55,8 @@ fn check_few(out: &mut [u32], bytes: &mut [u8], ctx: LowerCtx) -> LowerCtx
     check_live(out, bytes, ctx, &mut list)
 }
 
-// The reports on all live definitions of a log of the fewest records.
+// The reports on all live definitions of a log of the fewest records, not inlined either.
+#[inline(never)]
 fn check_least(out: &mut [u32], bytes: &mut [u8], ctx: LowerCtx) -> LowerCtx
     requires { log_count out.old ≤ 1024 }
     ensures { ReportsLive ctx result out.old bytes.old out.new bytes.new }

@@ -27,7 +27,8 @@ pub fn history_list(words: &[u32], bytes: &[u8], first: u32, path: &[u8], list: 
     history_list_by(words, bytes, first, path, list, &mut found)
 }
 
-// The same of a log of few records.
+// The same of a log of few records, not inlined, so that its array is not on the stack beside the larger one.
+#[inline(never)]
 fn history_list_few(words: &[u32], bytes: &[u8], first: u32, path: &[u8], list: &mut [u32]) -> u32
     requires { log_count words.now ≤ few_heads }
     ensures { Listed list.old list.new result

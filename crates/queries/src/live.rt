@@ -39,7 +39,8 @@ pub fn live_list(words: &[u32], bytes: &[u8], first: u32, base: &[u8], list: &mu
     )
 }
 
-// The same of a log of few records.
+// The same of a log of few records, not inlined, so that its arrays are not on the stack beside the larger ones.
+#[inline(never)]
 fn live_list_few(words: &[u32], bytes: &[u8], first: u32, base: &[u8], list: &mut [u32]) -> u32
     requires { log_count words.now ≤ few_heads }
     ensures { Listed list.old list.new result
@@ -54,7 +55,8 @@ fn live_list_few(words: &[u32], bytes: &[u8], first: u32, base: &[u8], list: &mu
     )
 }
 
-// The same of a log of the fewest records.
+// The same of a log of the fewest records, not inlined either.
+#[inline(never)]
 fn live_list_least(words: &[u32], bytes: &[u8], first: u32, base: &[u8], list: &mut [u32]) -> u32
     requires { log_count words.now ≤ least_heads }
     ensures { Listed list.old list.new result

@@ -8,7 +8,7 @@ mod field;
 use field::{FIELD, first};
 use full_reads::read_full;
 use std::io;
-use std::io::{BufWriter, Write};
+use std::io::Write;
 
 // How many bytes of standard input are read.
 const MOST_INPUT: usize = 65536;
@@ -16,9 +16,7 @@ const MOST_INPUT: usize = 65536;
 fn main(rt: HostRuntime) -> io::Result<()> {
     let mut input = [0u8; MOST_INPUT];
     let n = read_full(&mut rt.reader(), &mut input)?;
-    let mut out = BufWriter::new(rt.alloc(), io::writer(&rt))?;
-    print_lines(&mut out, &input[..n])?;
-    out.flush()
+    print_lines(&mut io::writer(&rt), &input[..n])
 }
 
 // Prints each line with its answer.

@@ -1,4 +1,4 @@
--- What is left of the path, written behind what is written, gives the whole path written (Written: written-cons, written-nil).
+-- What is left of the path, written behind what is written, gives the whole path written (Written: written_cons, written_nil).
 use Rattle.std.proofs.Common.{◌≡◌, ◌+◌, ◌-◌, ◌≤◌, length, drop}
 use Rattle.paths_numbers.specs.meaning.Text.{written}
 use Rattle.paths_numbers.specs.meaning.Path.{joined}
