@@ -85,13 +85,22 @@ pub fn check_log(words: &[u32], bytes: &[u8]) -> Soundness
     if log_count(words) as usize <= FEW_RECORDS {
         return check_few(words, bytes);
     }
+    check_most(words, bytes)
+}
+
+// The same of a log of any number of records. Neither is inlined: the arrays of both would be on the stack at once.
+#[inline(never)]
+fn check_most(words: &[u32], bytes: &[u8]) -> Soundness
+    requires { wrong_count words.now ≡ false }
+    ensures { told result ≡ soundness words.now bytes.now }
+{
     let mut marks = [UNMET; MOST_RECORDS];
     let mut queue = [0u32; MOST_RECORDS];
     walk(words, &mut marks, &mut queue);
     first_fault(words, bytes, &marks)
 }
 
-// The same of a log of few records. Inlined, its arrays would be on the stack beside the larger ones.
+// The same of a log of few records.
 #[inline(never)]
 fn check_few(words: &[u32], bytes: &[u8]) -> Soundness
     requires { (log_count words.now ≤ few_records) × (wrong_count words.now ≡ false) }

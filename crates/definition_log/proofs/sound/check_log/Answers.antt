@@ -1,11 +1,8 @@
--- By the count of words, then by the marks.
+-- By the count of words.
 use borrow.Author.Tests.{eq-eqb, ne_eqb}
 use mathlib.Core.Path.{refl}
 use native.Mathlib.Omega.{arith}
-use Rattle.definition_log.specs.meaning.Record.{most_records}
 use Rattle.definition_log.specs.meaning.Sound.{soundness}
-use Rattle.definition_log.proofs.Reached.{count_most}
-use Rattle.definition_log.proofs.Checked.{checked}
 use Rattle.definition_log.proofs.sound.check_log.Goals as goal
 
 pub returns-then-words-eq0 : goal.returns-then-words-eq0
@@ -21,11 +18,5 @@ check_few-requires c =
     let i = c in
     (omega (arith, c.log_count.ensures), rw (ne_eqb _ _ i.if-words-eq0.false, eq-eqb _ _ i.if-words-ne0.false) refl)
 
-pub returns : goal.returns
-returns c =
-    let v = c in
-    let i = v in
-    let a = i.args in
-    checked most_records a.words.now a.bytes.now _ _ _ _ v.walk.ensures c.first_fault.ensures refl refl
-    (count_most a.words.now)
-    (rw (ne_eqb _ _ i.if-words-eq0.false, eq-eqb _ _ i.if-words-ne0.false) refl)
+pub check_most-requires : goal.check_most-requires
+check_most-requires c = rw (ne_eqb _ _ c.if-words-eq0.false, eq-eqb _ _ c.if-words-ne0.false) refl
