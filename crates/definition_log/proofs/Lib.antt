@@ -20,3 +20,4 @@ pub mod Walked
 pub mod Search
 pub mod Checked
 pub mod Answers
+pub mod ChainLeft

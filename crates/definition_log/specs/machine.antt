@@ -3,3 +3,4 @@ pub mod Good
 pub mod Limits
 pub mod Walk
 pub mod Parts
+pub mod ChainLeft

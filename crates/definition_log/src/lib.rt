@@ -2,6 +2,7 @@
 #![tactic(auto)]
 
 pub mod answer;
+pub mod chain;
 pub mod kinds;
 pub mod layout;
 pub mod limits;
