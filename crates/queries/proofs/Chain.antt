@@ -1,12 +1,13 @@
 -- A chain as it is walked: the record in hand and what is left behind it.
 use Prim.Native.Nat.{ℕ, zero, suc, ◌-◌, ◌≤◌, ◌<◌}
-use mathlib.Core.Path.{◌≡◌, refl, sym, ◌∙◌}
-use mathlib.Core.Bool.{Bool, true, false}
+use mathlib.Core.Path.{◌≡◌, refl, sym, ap, ◌∙◌}
+use mathlib.Core.Bool.{Bool, true, false, cond, ◌||◌}
 use mathlib.Core.List.{List, [], ◌∷◌, map}
 use native.Mathlib.Omega.{arith}
 use borrow.Author.Tests.{eqb-false, ne_eqb}
 use lib.Dec.{eqb}
 use lib.ListN.{length}
+use Rattle.std.specs.List.{list_any}
 use Rattle.paths_numbers.proofs.Texts.{by_test, not_both}
 use Rattle.definition_log.specs.meaning.Record.{next_of, leads, log_count, most_records}
 use Rattle.definition_log.specs.meaning.ReadBack.{chain_from, chain_of}
@@ -79,3 +80,13 @@ module _ {A : Type 0} (def : ℕ → A) (test : A → Bool) (words : List ℕ) (
   pub any_end : goes_on words r left ≡ false → false ≡ w
   unfolding any
   any_end g = sym (inv ∙ rw (stops words r left g) refl)
+
+-- a test of some element, as the library has it and as our definitions have it
+or_cond : (a b : Bool) → (a || b) ≡ cond a true b
+or_cond true b = refl
+or_cond false b = refl
+
+pub any_map : {A B : Type 0} (f : B → Bool) (g : A → B) (xs : List A) → list_any (λ x. f (g x)) xs ≡ any f (map g xs)
+unfolding any
+any_map f g [] = refl
+any_map f g (x ∷ xs) = or_cond (f (g x)) (list_any (λ x. f (g x)) xs) ∙ ap (cond (f (g x)) true) (any_map f g xs)

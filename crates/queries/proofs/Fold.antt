@@ -174,17 +174,16 @@ module _ {path : List ℕ} {test : Def → Bool} (nodes : OfNodes path test) (d 
   pub after_none : found ≡ false → test d ≡ found_after (test d) (deletes path d) found
   after_none f = rw f (sym (found_first (test d) (deletes path d)))
 
--- w is what the whole chain gives, and the invariant says that what is left gives it too
-module _ {A : Type 0} (def : ℕ → A) (sets clears : A → Bool) (words : List ℕ) (r left : ℕ) (found w : Bool)
-    (inv : w ≡ found_from sets clears found (map def (chain_from left words r))) where
+-- w is what the whole list gives, and the invariant says that what is left of it gives it too
+module _ {A : Type 0} (def : ℕ → A) (sets clears : A → Bool) (found : Bool) {w : Bool} {xs : List ℕ}
+    (inv : w ≡ found_from sets clears found (map def xs)) where
   -- one record
-  pub found_step : goes_on words r left ≡ true → (after : Bool) → after ≡ found_after (sets (def r)) (clears (def r)) found → (next : ℕ)
-      → next ≡ next_of words r
-      → w ≡ found_from sets clears after (map def (chain_from (left - 1) words next))
+  pub found_step : {r : ℕ} {ys : List ℕ} → xs ≡ r ∷ ys → {after : Bool} → after ≡ found_after (sets (def r)) (clears (def r)) found
+      → w ≡ found_from sets clears after (map def ys)
   unfolding found_from
-  found_step g after e next n = inv ∙ rw (goes words r left g, e, n) refl
+  found_step g e = inv ∙ rw (g, e) refl
 
   -- there are no more
-  pub found_end : goes_on words r left ≡ false → found ≡ w
+  pub found_end : xs ≡ [] → found ≡ w
   unfolding found_from
-  found_end g = sym (inv ∙ rw (stops words r left g) refl)
+  found_end g = sym (inv ∙ rw g refl)

@@ -10,8 +10,9 @@ ghost use Rattle.queries.specs.meaning.Labels.{has_label_at};
 ghost use Rattle.queries.specs.machine.Table.{deleted_at};
 ghost use Rattle.queries.specs.machine.Pass.{goes_on};
 
+use definition_log::chain::chain;
 use definition_log::kinds::{DELETED_NODE, DELETED_PROPERTY, NODE, PROPERTY};
-use definition_log::record::{child_of, first_text, kind_of, leads_to, log_count, next_of};
+use definition_log::record::{child_of, first_text, kind_of, leads_to};
 use paths_numbers::dt_node::{is_path, path_lies_under};
 use paths_numbers::mir::lies_under;
 use paths_numbers::text::equals;
@@ -120,16 +121,7 @@ pub fn has_label_at(words: &[u32], bytes: &[u8], r: u32, label: &[u8], path: &[u
 pub fn has_label(words: &[u32], bytes: &[u8], first: u32, label: &[u8]) -> bool
     ensures { result ≡ any (same label.now) (read_labels words.now bytes.now first) }
 {
-    let mut r = first;
-    let mut left = log_count(words);
-    while goes_on(words, r, left) {
-        if equals(label, first_text(words, bytes, r)) {
-            return true;
-        }
-        r = next_of(words, r);
-        left -= 1;
-    }
-    false
+    chain(words, first).any(|r| equals(label, first_text(words, bytes, r)))
 }
 
 // Whether a chain of which so many records may be left has one at r.

@@ -7,10 +7,11 @@ ghost use Rattle.queries.specs.machine.Lists.{history_in};
 ghost use Rattle.queries.specs.machine.Pass.{is_listed, defined_after};
 ghost use Rattle.queries.specs.machine.Table.{few_heads, Listed};
 
-use crate::definition::{defined_by, deletes_above, goes_on};
+use crate::definition::{defined_by, deletes_above};
 use crate::list::fit;
+use definition_log::chain::chain;
 use definition_log::limits::{FEW_RECORDS, MOST_RECORDS};
-use definition_log::record::{first_text, log_count, next_of};
+use definition_log::record::{first_text, log_count};
 use paths_numbers::text::equals;
 
 // How many definitions of a chain a path's history has. Their record numbers are written to the
@@ -66,17 +67,13 @@ fn history_of(words: &[u32], bytes: &[u8], first: u32, path: &[u8], found: &mut 
 {
     let mut count = 0;
     let mut defined = false;
-    let mut r = first;
-    let mut left = log_count(words);
-    while goes_on(words, r, left) {
+    for r in chain(words, first) {
         let passed = history_at(words, bytes, r, path, defined);
         if passed.listed {
             found[count] = r;
             count += 1;
         }
         defined = passed.defined;
-        r = next_of(words, r);
-        left -= 1;
     }
     count
 }

@@ -17,9 +17,5 @@ fn copy(list: &mut [u32], numbers: &[u32])
     requires { length numbers.now ≤ length list.old }
     ensures { list.new ≡ written list.old 0 numbers.now }
 {
-    let mut i = 0;
-    while i < numbers.len() {
-        list[i] = numbers[i];
-        i += 1;
-    }
+    list[..numbers.len()].copy_from_slice(numbers);
 }

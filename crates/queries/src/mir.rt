@@ -10,10 +10,11 @@ ghost use Rattle.queries.specs.meaning.Labels.{has_label_at};
 ghost use Rattle.queries.specs.machine.Pass.{node_found, label_found};
 
 use crate::definition::{
-    deletes_above, deletes_above_path, goes_on, has_label_at, is_node_at, is_node_at_path,
+    deletes_above, deletes_above_path, has_label_at, is_node_at, is_node_at_path,
 };
+use definition_log::chain::chain;
 use definition_log::kinds::PLUGIN;
-use definition_log::record::{kind_of, log_count, next_of};
+use definition_log::record::kind_of;
 use paths_numbers::dt_node::lies_under_path;
 use paths_numbers::mir::lies_under;
 
@@ -22,12 +23,8 @@ pub fn contains_node_in(words: &[u32], bytes: &[u8], first: u32, path: &[u8]) ->
     ensures { result ≡ contains_node path.now (read_defs words.now bytes.now first) }
 {
     let mut found = false;
-    let mut r = first;
-    let mut left = log_count(words);
-    while goes_on(words, r, left) {
+    for r in chain(words, first) {
         found = contains_node_after(words, bytes, r, path, found);
-        r = next_of(words, r);
-        left -= 1;
     }
     found
 }
@@ -45,12 +42,8 @@ pub fn contains_node_path(
         (read_defs words.now bytes.now first) }
 {
     let mut found = false;
-    let mut r = first;
-    let mut left = log_count(words);
-    while goes_on(words, r, left) {
+    for r in chain(words, first) {
         found = contains_node_path_after(words, bytes, r, parent, name, unit, found);
-        r = next_of(words, r);
-        left -= 1;
     }
     found
 }
@@ -59,16 +52,7 @@ pub fn contains_node_path(
 pub fn sets_overlay_in(words: &[u32], first: u32) -> bool
     ensures { (bytes : List ℕ) → result ≡ sets_overlay (read_defs words.now bytes first) }
 {
-    let mut r = first;
-    let mut left = log_count(words);
-    while goes_on(words, r, left) {
-        if kind_of(words, r) == PLUGIN {
-            return true;
-        }
-        r = next_of(words, r);
-        left -= 1;
-    }
-    false
+    chain(words, first).any(|r| kind_of(words, r) == PLUGIN)
 }
 
 // Whether a chain has a node with a label at a path, live under a base.
@@ -116,12 +100,8 @@ fn unbinds_in(words: &[u32], bytes: &[u8], first: u32, label: &[u8], path: &[u8]
         (live path.now (read_defs words.now bytes.now first)) }
 {
     let mut found = false;
-    let mut r = first;
-    let mut left = log_count(words);
-    while goes_on(words, r, left) {
+    for r in chain(words, first) {
         found = unbinds_after(words, bytes, r, label, path, found);
-        r = next_of(words, r);
-        left -= 1;
     }
     found
 }

@@ -1,14 +1,12 @@
 -- Loop invariant: what is left of the chain gives what the whole gives (Fold: live_found_at).
 use mathlib.Core.Path.{◌≡◌}
 use mathlib.Core.List.{map}
-use Rattle.definition_log.specs.meaning.ReadBack.{chain_from, def_at, read_defs}
+use Rattle.definition_log.specs.meaning.ReadBack.{def_at, read_defs}
+use Rattle.definition_log.specs.machine.ChainLeft.{chain_left}
 use Rattle.queries.specs.meaning.Live.{deletes, node_at, contains_node}
 use Rattle.queries.proofs.Fold.{found_from}
 use Rattle.queries.proofs.mir.contains_node_in.Given as goal
 
-abbrev pub invariant-loop-found : goal.invariant-loop-found
-invariant-loop-found l = contains_node l.path (read_defs l.words l.bytes l.first) ≡ found_from (node_at l.path)
-    (deletes l.path) l.found (map (def_at l.words l.bytes) (chain_from l.left l.words l.r))
-
-abbrev pub decreases-loop-found : goal.decreases-loop-found
-decreases-loop-found l = l.left
+abbrev pub invariant-loop-r : goal.invariant-loop-r
+invariant-loop-r l = contains_node l.path (read_defs l.words l.bytes l.first) ≡ found_from (node_at l.path) (deletes l.path) l.found
+    (map (def_at l.words l.bytes) (chain_left l.r-iterator))
