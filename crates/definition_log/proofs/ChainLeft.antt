@@ -32,6 +32,10 @@ goes words r (suc left) t =
     let l : leads words r ≡ true = sym (some_left words r (suc left) (λ z. omega arith)) ∙ t in
     rw (e, l) refl
 
+pub goes_left : (words : List ℕ) (r left : ℕ) → goes_on words r left ≡ true → 0 < left
+goes_left words r zero t = absurd (not_both t (none_left words r 0 refl))
+goes_left words r (suc left) t = omega arith
+
 -- one that does not go on is at its end
 pub stops : (words : List ℕ) (r left : ℕ) → goes_on words r left ≡ false → chain_from left words r ≡ []
 unfolding chain_from

@@ -1,6 +1,7 @@
 // The records of a chain, by their numbers.
 ghost use Rattle.std.specs.Prelude.{◌≡◌, ⊤, MatchOption};
 ghost use Rattle.std.specs.Iterator.{YieldsFirst, item_count};
+ghost use Rattle.definition_log.specs.meaning.Record.{log_count};
 ghost use Rattle.definition_log.specs.meaning.ReadBack.{chain_from, chain_of};
 ghost use Rattle.definition_log.specs.machine.ChainLeft.{chain_left, walk_left, Stopped, Stepped};
 
@@ -16,7 +17,7 @@ pub struct Walk {
 impl Walk {
     // A whole chain from its first record on.
     pub fn new(words: &[u32], first: u32) -> Walk
-        ensures { walk_left words.now result ≡ chain_of words.now first }
+        ensures { result ≡ record { next = first; left = log_count words.now } }
     {
         Walk {
             next: first,

@@ -14,8 +14,9 @@ use Rattle.making.specs.meaning.State.{State, emit, diags_bytes}
 use Rattle.making.specs.machine.Represents.{Context, Represents, Steps}
 use Rattle.making.specs.machine.Kept.{Still, All, all_none, all_more, Kept, Keeps}
 use Rattle.making.proofs.Keeping.{kept_none, kept_then, still_kept}
-use Rattle.queries.specs.machine.Pass.{goes_on}
-use Rattle.queries.proofs.Chain.{goes, goes_left, stops}
+use Rattle.definition_log.specs.declared.chain.Walk as chain
+use Rattle.definition_log.specs.machine.ChainLeft.{goes_on, Stopped, Stepped}
+use Rattle.definition_log.proofs.ChainLeft.{goes, goes_left, stops}
 use Rattle.resolving.specs.machine.Lowers.{Lowers}
 use Rattle.post_checks.specs.machine.Checks.{Reports}
 use Rattle.resolving.proofs.Lowers.{emit_grows, stays_over}
@@ -224,7 +225,7 @@ module _ {c d : LowerCtx} {words bytes w b : List ℕ} {rs : List ℕ} {first mo
   -- one record on: f's diagnostics are added, and what is left to report is what was left but for these
   pub walks_step : {f : LowerCtx} {v u : List ℕ} {qs : List ℕ} {ds : List Diag} (rest' : List ℕ → List ℕ → List Diag)
       → goes_on w r left ≡ true → Reports d f w b v u qs ds
-      → (next : ℕ) → next ≡ next_of v r
+      → (next : ℕ) → next ≡ next_of w r
       → (All (Still words c.records) rs → All (Still words c.records) (chain_from most words first))
       → ((k : Context) (s : State) → Represents k c words bytes s → c.short ≡ false → Kept c d words bytes w b
       → All (Still words c.records) rs → Still words c.records r → (passed : List ℕ)
@@ -254,7 +255,7 @@ module _ {c d : LowerCtx} {words bytes w b : List ℕ} {rs : List ℕ} {first mo
           (subst (λ (l : List ℕ). All (Still words c.records) l) ch (sub a))) in
           let i = each k s q z x.kept a st x.passed ch x.steps in
           let kp : Kept c f words bytes v u = kept_then x.kept (h.keeps k (emit x.done s) x.says (λ n. i.0)) in
-          let ne : next ≡ next_of words r = en ∙ kp.field r 1 st (omega arith) in
+          let ne : next ≡ next_of words r = en ∙ x.kept.field r 1 st (omega arith) in
           record {
             done = x.done ++ ds;
             says = subst (λ (t : State). Represents k f v u t) (emit_then x.done ds s)
@@ -285,3 +286,24 @@ module _ {c d : LowerCtx} {words bytes w b : List ℕ} {rs : List ℕ} {first mo
           ∙ ap (λ (l : List ℕ). x.done ++ rest x.passed l) (stops words r left (goes_alike words w r left x.kept.count ∙ g))
           ∙ ap (λ (l : List Diag). x.done ++ l) (e x.passed)
           ∙ append-nil x.done
+
+-- the same of a walk's step, and at its end
+module _ {c d : LowerCtx} {words bytes w b : List ℕ} {rs : List ℕ} {first most : ℕ} {whole : List Diag}
+    {rest : List ℕ → List ℕ → List Diag} {i j : chain.Walk}
+    (walk : Walks c d words bytes w b rs first most i.next i.left whole rest) where
+  pub walks_stepped : {f : LowerCtx} {v u : List ℕ} {qs : List ℕ} {ds : List Diag} {r : ℕ} (rest' : List ℕ → List ℕ → List Diag)
+      → Stepped w i j r → Reports d f w b v u qs ds
+      → (All (Still words c.records) rs → All (Still words c.records) (chain_from most words first))
+      → ((k : Context) (s : State) → Represents k c words bytes s → c.short ≡ false → Kept c d words bytes w b
+      → All (Still words c.records) rs → Still words c.records r → (passed : List ℕ)
+      → chain_from most words first ≡ passed ++ r ∷ chain_from (i.left - 1) words (next_of words r) → length passed + i.left ≡ most
+      → All (Still w d.records) qs × (rest passed (r ∷ chain_from (i.left - 1) words (next_of words r)) ≡ ds ++ rest' (passed ++ r ∷ [])
+      (chain_from (i.left - 1) words (next_of words r))))
+      → Walks c f words bytes v u rs first most j.next j.left whole rest'
+  walks_stepped {f} {v} {u} {r = r} rest' p h sub each =
+      subst (λ (n : ℕ). Walks c f words bytes v u rs first most j.next n whole rest') (sym p.left)
+      (walks_step (subst (λ (n : ℕ). Walks c d words bytes w b rs first most n i.left whole rest) p.here walk)
+      rest' p.going h j.next p.next sub each)
+
+  pub walks_stopped : Stopped w i j → ((passed : List ℕ) → rest passed [] ≡ []) → Reports c d words bytes w b rs whole
+  walks_stopped p = walks_end walk p.stops

@@ -1,7 +1,8 @@
 // The post checks (check_mir_post.rs). They report while they walk through the log; what is reported
 // is added behind it and keeps what they walk through.
 ghost use Rattle.std.specs.Prelude.{◌≡◌, [], ◌∷◌, map};
-ghost use Rattle.definition_log.specs.meaning.Record.{kind_of, next_of};
+ghost use Rattle.definition_log.specs.meaning.Record.{kind_of};
+ghost use Rattle.definition_log.specs.machine.ChainLeft.{walk_left};
 ghost use Rattle.definition_log.specs.meaning.ReadBack.{chain_from, name_span_at, binding_at};
 ghost use Rattle.making.specs.meaning.State.{State, emit};
 ghost use Rattle.paths_numbers.specs.meaning.Lists.{any};
@@ -11,15 +12,14 @@ ghost use Rattle.post_checks.specs.machine.Checks.{Reports, is_plain, headers_of
 ghost use Rattle.post_checks.specs.machine.Checks.{is_reported, binding_report, label_reports};
 
 use crate::check_phandles::check_phandles;
+use definition_log::chain::{Walk, chain_of_most};
 use definition_log::kinds::{DELETED_PROPERTY, PLUGIN};
-use definition_log::layout;
 use definition_log::parts::{Span, name_span_of, span_of};
-use definition_log::record::{first_text, kind_of, log_count, next_of, out_field, second_text};
+use definition_log::record::{first_text, kind_of, second_text};
 use making::ctx::LowerCtx;
 use making::place::{PathAt, first_place};
 use paths_numbers::codes::{BEFORE_VERSION, DUPLICATE_LABEL, PLUGIN_MISPLACED, VERSION_LATE};
 use paths_numbers::text::equals;
-use queries::definition::goes_on;
 
 // Directive order: whether all definitions so far are headers, whether a plugin directive may follow,
 // and whether a version directive or the report of its lack came before.
@@ -45,20 +45,18 @@ pub fn check_duplicate_labels(out: &mut [u32], bytes: &mut [u8], ctx: LowerCtx) 
     ensures { Lowers ctx result out.old bytes.old out.new bytes.new
         (λ (s : State). emit (duplicate_labels [] s.binds) s) }
 {
-    let most = log_count(out);
     let first = ctx.binds.first;
     let mut made = ctx;
-    let mut r = first;
-    let mut left = most;
-    while goes_on(out, r, left) {
-        made = check_label(out, bytes, made, first, most - left, r, left - 1);
-        r = next_of(out, r);
-        left -= 1;
+    let mut passed = 0;
+    let mut walk = Walk::new(out, first);
+    while let Some(r) = walk.step(out) {
+        made = check_label(out, bytes, made, first, passed, r, walk);
+        passed += 1;
     }
     made
 }
 
-// The reports on the label of binding `r`, which `passed` bindings precede and at most `left` follow:
+// The reports on the label of binding `r`, which `passed` bindings precede and the rest of a walk follows:
 // none where one of those before it has the label.
 fn check_label(
     out: &mut [u32],
@@ -67,42 +65,40 @@ fn check_label(
     first: u32,
     passed: u32,
     r: u32,
-    left: u32,
+    rest: Walk,
 ) -> LowerCtx
     ensures { Reports ctx result out.old bytes.old out.new bytes.new
-        (r ∷ chain_from left out.old (next_of out.old r))
+        (r ∷ walk_left out.old rest)
         (label_reports (binding_at out.old bytes.old r)
         (map (binding_at out.old bytes.old) (chain_from passed out.old first))
-        (map (binding_at out.old bytes.old) (chain_from left out.old (next_of out.old r)))) }
+        (map (binding_at out.old bytes.old) (walk_left out.old rest))) }
 {
     if binds_again(out, bytes, first, passed, r, false) {
         return ctx;
     }
-    check_bindings(out, bytes, ctx, r, left)
+    check_bindings(out, bytes, ctx, r, rest)
 }
 
-// The reports on the bindings behind a label's first one, of which there are at most `most`.
+// The reports on the bindings behind a label's first one, which are the rest of a walk.
 fn check_bindings(
     out: &mut [u32],
     bytes: &mut [u8],
     ctx: LowerCtx,
     first: u32,
-    most: u32,
+    rest: Walk,
 ) -> LowerCtx
     ensures { Reports ctx result out.old bytes.old out.new bytes.new
-        (first ∷ chain_from most out.old (next_of out.old first))
+        (first ∷ walk_left out.old rest)
         (duplicates_of (binding_at out.old bytes.old first)
         ((binding_at out.old bytes.old first).path ∷ [])
-        (map (binding_at out.old bytes.old) (chain_from most out.old (next_of out.old first)))) }
+        (map (binding_at out.old bytes.old) (walk_left out.old rest))) }
 {
-    let after = next_of(out, first);
     let mut made = ctx;
-    let mut r = after;
-    let mut left = most;
-    while goes_on(out, r, left) {
-        made = check_binding(out, bytes, made, first, after, most - left, r);
-        r = next_of(out, r);
-        left -= 1;
+    let mut passed = 0;
+    let mut walk = rest;
+    while let Some(r) = walk.step(out) {
+        made = check_binding(out, bytes, made, first, rest.next, passed, r);
+        passed += 1;
     }
     made
 }
@@ -152,16 +148,7 @@ fn binds_again(out: &[u32], bytes: &[u8], first: u32, most: u32, r: u32, by_path
     ensures { result ≡ any (again (binding_at out.now bytes.now r) by_path)
         (map (binding_at out.now bytes.now) (chain_from most out.now first)) }
 {
-    let mut x = first;
-    let mut left = most;
-    while goes_on(out, x, left) {
-        if binds_as(out, bytes, x, r, by_path) {
-            return true;
-        }
-        x = next_of(out, x);
-        left -= 1;
-    }
-    false
+    chain_of_most(out, first, most).any(|x| binds_as(out, bytes, x, r, by_path))
 }
 
 // Whether binding `x` has the label of binding `r`, and its path where that is asked.
@@ -189,14 +176,11 @@ pub fn check_directives(out: &mut [u32], bytes: &mut [u8], ctx: LowerCtx) -> Low
         allowed: false,
         seen: false,
     };
-    let mut r = ctx.defs.first;
-    let mut left = log_count(out);
-    while goes_on(out, r, left) {
+    let mut walk = Walk::new(out, ctx.defs.first);
+    while let Some(r) = walk.step(out) {
         let kind = kind_of(out, r);
         made = check_directive(out, bytes, made, r, headers);
         headers = next_headers(kind, headers);
-        r = next_of(out, r);
-        left -= 1;
     }
     made
 }

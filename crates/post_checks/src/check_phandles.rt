@@ -10,18 +10,18 @@ ghost use Rattle.post_checks.specs.meaning.Post.{check_references};
 ghost use Rattle.resolving.specs.machine.Lowers.{Lowers};
 ghost use Rattle.post_checks.specs.machine.Checks.{Reports, ReportsLive, ReportsParts, said, target_place};
 
+use definition_log::chain::Walk;
 use definition_log::kinds::{CELL_LIST, PROPERTY, REFERENCE};
 use definition_log::layout;
 use definition_log::limits::{FEW_RECORDS, LEAST_RECORDS, MOST_RECORDS};
 use definition_log::parts::{Span, name_span_of};
 use definition_log::record::{
-    child_of, first_text, kind_of, log_count, next_of, out_field, second_text,
+    child_of, kind_of, log_count, out_field,
 };
 use input::record::no_text;
 use making::ctx::LowerCtx;
 use making::place::{PathAt, first_place, second_place};
 use paths_numbers::codes::LABEL_NOT_FOUND;
-use queries::definition::goes_on;
 use queries::live::live_list;
 use queries::mir::sets_overlay_in;
 use resolving::resolve::{Resolved, resolve_target};
@@ -34,34 +34,23 @@ pub fn check_phandles(out: &mut [u32], bytes: &mut [u8], ctx: LowerCtx) -> Lower
     if sets_overlay_in(out, ctx.defs.first) {
         return ctx;
     }
-    if log_count(out) as usize <= LEAST_RECORDS {
-        return check_least(out, bytes, ctx);
+    let records = log_count(out) as usize;
+    if records <= LEAST_RECORDS {
+        return check_within::<LEAST_RECORDS>(out, bytes, ctx);
     }
-    if log_count(out) as usize <= FEW_RECORDS {
-        return check_few(out, bytes, ctx);
+    if records <= FEW_RECORDS {
+        return check_within::<FEW_RECORDS>(out, bytes, ctx);
     }
-    let mut list = [0u32; MOST_RECORDS];
-    check_live(out, bytes, ctx, &mut list)
+    check_within::<MOST_RECORDS>(out, bytes, ctx)
 }
 
-// The reports on all live definitions of a log of few records, not inlined, so that its list is not on the
-// stack beside the larger one.
+// The reports on all live definitions of a log of at most N records. It is not inlined: the lists of all sizes would be on the stack at once.
 #[inline(never)]
-fn check_few(out: &mut [u32], bytes: &mut [u8], ctx: LowerCtx) -> LowerCtx
-    requires { log_count out.old ≤ 8192 }
+fn check_within<const N: usize>(out: &mut [u32], bytes: &mut [u8], ctx: LowerCtx) -> LowerCtx
+    requires { log_count out.old ≤ N }
     ensures { ReportsLive ctx result out.old bytes.old out.new bytes.new }
 {
-    let mut list = [0u32; FEW_RECORDS];
-    check_live(out, bytes, ctx, &mut list)
-}
-
-// The reports on all live definitions of a log of the fewest records, not inlined either.
-#[inline(never)]
-fn check_least(out: &mut [u32], bytes: &mut [u8], ctx: LowerCtx) -> LowerCtx
-    requires { log_count out.old ≤ 1024 }
-    ensures { ReportsLive ctx result out.old bytes.old out.new bytes.new }
-{
-    let mut list = [0u32; LEAST_RECORDS];
+    let mut list = [0u32; N];
     check_live(out, bytes, ctx, &mut list)
 }
 
@@ -81,10 +70,8 @@ fn check_definitions(out: &mut [u32], bytes: &mut [u8], ctx: LowerCtx, list: &[u
         (map (def_at out.old bytes.old) list.now)) }
 {
     let mut made = ctx;
-    let mut i = 0;
-    while i < list.len() {
-        made = check_definition(out, bytes, made, list[i]);
-        i += 1;
+    for r in list {
+        made = check_definition(out, bytes, made, *r);
     }
     made
 }
@@ -115,12 +102,9 @@ fn check_values(
         bytes.new }
 {
     let mut made = ctx;
-    let mut r = first;
-    let mut left = log_count(out);
-    while goes_on(out, r, left) {
+    let mut walk = Walk::new(out, first);
+    while let Some(r) = walk.step(out) {
         made = check_value(out, bytes, made, span, r);
-        r = next_of(out, r);
-        left -= 1;
     }
     made
 }
@@ -147,12 +131,9 @@ fn check_cells(out: &mut [u32], bytes: &mut [u8], ctx: LowerCtx, span: Span, fir
         bytes.new }
 {
     let mut made = ctx;
-    let mut r = first;
-    let mut left = log_count(out);
-    while goes_on(out, r, left) {
+    let mut walk = Walk::new(out, first);
+    while let Some(r) = walk.step(out) {
         made = check_cell(out, bytes, made, span, r);
-        r = next_of(out, r);
-        left -= 1;
     }
     made
 }

@@ -1,7 +1,7 @@
 use mathlib.Core.Path.{refl}
 use Rattle.definition_log.specs.meaning.ReadBack.{chain_of}
-use Rattle.definition_log.proofs.chain.Walk.new.Goals as goal
+use Rattle.definition_log.proofs.chain.chain.Goals as goal
 
 pub returns : goal.returns
 unfolding chain_of
-returns c = rw c.log_count.ensures refl
+returns c = rw c.new.ensures refl
