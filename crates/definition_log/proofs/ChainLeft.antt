@@ -1,12 +1,14 @@
 -- What a walk along a chain has still to come.
 use Prim.Native.Nat.{ℕ, zero, suc, ◌-◌, ◌<◌}
 use mathlib.Core.Path.{◌≡◌, refl, sym, ap, ◌∙◌}
-use mathlib.Core.Bool.{true, false}
-use mathlib.Core.List.{List, [], ◌∷◌}
+use mathlib.Core.Bool.{Bool, true, false, cond, ◌||◌}
+use mathlib.Core.List.{List, [], ◌∷◌, map}
 use native.Mathlib.Omega.{arith}
 use borrow.Author.Tests.{eqb-false, ne_eqb}
 use lib.Dec.{eqb}
 use Rattle.std.specs.Prelude.{Option, Some, None, MatchOption}
+use Rattle.std.specs.List.{list_any}
+use Rattle.paths_numbers.specs.meaning.Lists.{any}
 use Rattle.paths_numbers.proofs.Texts.{not_both}
 use Rattle.definition_log.specs.meaning.Record.{leads, next_of}
 use Rattle.definition_log.specs.meaning.ReadBack.{chain_from}
@@ -59,3 +61,16 @@ pub yielded : (words : List ℕ) (s t : Walk) (o : Option ℕ) → MatchOption o
     → MatchOption o ((walk_left words s ≡ []) × (walk_left words t ≡ [])) (λ x. walk_left words s ≡ x ∷ walk_left words t)
 yielded words s t None p = stopped words s t p
 yielded words s t (Some r) p = stepped words s t r p
+
+pub step_nearer : {words : List ℕ} {s t : Walk} {r : ℕ} → Stepped words s t r → t.left < s.left
+step_nearer {words} {s} {t} {r} p = omega (arith, p.left, goes_left words r s.left p.going)
+
+-- a test of some element, as the library has it and as our definitions have it
+or_cond : (a b : Bool) → (a || b) ≡ cond a true b
+or_cond true b = refl
+or_cond false b = refl
+
+pub any_map : {A B : Type 0} (f : B → Bool) (g : A → B) (xs : List A) → list_any (λ x. f (g x)) xs ≡ any f (map g xs)
+unfolding any
+any_map f g [] = refl
+any_map f g (x ∷ xs) = or_cond (f (g x)) (list_any (λ x. f (g x)) xs) ∙ ap (cond (f (g x)) true) (any_map f g xs)

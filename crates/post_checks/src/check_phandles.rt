@@ -47,7 +47,8 @@ pub fn check_phandles(out: &mut [u32], bytes: &mut [u8], ctx: LowerCtx) -> Lower
 // The reports on all live definitions of a log of at most N records. It is not inlined: the lists of all sizes would be on the stack at once.
 #[inline(never)]
 fn check_within<const N: usize>(out: &mut [u32], bytes: &mut [u8], ctx: LowerCtx) -> LowerCtx
-    requires { log_count out.old ≤ N }
+    requires room { log_count out.old ≤ N }
+    requires bound { N ≤ 65536 }
     ensures { ReportsLive ctx result out.old bytes.old out.new bytes.new }
 {
     let mut list = [0u32; N];

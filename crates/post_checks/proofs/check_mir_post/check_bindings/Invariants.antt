@@ -1,25 +1,27 @@
 -- The chain behind the first binding is walked (Checks), with the paths seen (Duplicates).
-use Prim.Native.Nat.{ℕ, ◌≤◌}
+use Prim.Native.Nat.{ℕ, ◌+◌}
 use mathlib.Core.Path.{◌≡◌}
 use mathlib.Core.List.{List, [], ◌∷◌, map}
 use lib.ListN.{length}
-use Rattle.definition_log.specs.meaning.Record.{next_of}
 use Rattle.definition_log.specs.meaning.ReadBack.{chain_from, binding_at}
+use Rattle.definition_log.specs.machine.ChainLeft.{walk_left}
 use Rattle.post_checks.specs.meaning.Post.{duplicates_of}
 use Rattle.post_checks.proofs.Checks.{Walks}
 use Rattle.post_checks.proofs.Duplicates.{paths_seen}
 use Rattle.post_checks.proofs.check_mir_post.check_bindings.Given as goal
 
-abbrev pub invariant-loop-out : goal.invariant-loop-out
-invariant-loop-out l =
+abbrev pub invariant-loop-r : goal.invariant-loop-r
+invariant-loop-r l =
     (length l.out ≡ length l.initial.out)
     × (length l.bytes ≡ length l.initial.bytes)
-    × (l.left ≤ l.most)
-    × Walks l.initial.made l.made l.initial.out l.initial.bytes l.out l.bytes (l.first ∷ chain_from l.most l.initial.out (next_of l.initial.out l.first)) (next_of l.initial.out l.first) l.most l.r l.left
+    × (l.passed + l.walk.left ≡ l.rest.left)
+    × Walks l.initial.made l.made l.initial.out l.initial.bytes l.out l.bytes (l.first ∷ walk_left l.initial.out l.rest)
+    l.rest.next l.rest.left l.walk.next l.walk.left
     (duplicates_of (binding_at l.initial.out l.initial.bytes l.first) ((binding_at l.initial.out l.initial.bytes l.first).path ∷ [])
-    (map (binding_at l.initial.out l.initial.bytes) (chain_from l.most l.initial.out (next_of l.initial.out l.first))))
+    (map (binding_at l.initial.out l.initial.bytes) (walk_left l.initial.out l.rest)))
     (λ (passed later : List ℕ). duplicates_of (binding_at l.initial.out l.initial.bytes l.first)
-    (paths_seen (binding_at l.initial.out l.initial.bytes l.first) (map (binding_at l.initial.out l.initial.bytes) passed)) (map (binding_at l.initial.out l.initial.bytes) later))
+    (paths_seen (binding_at l.initial.out l.initial.bytes l.first) (map (binding_at l.initial.out l.initial.bytes) passed))
+    (map (binding_at l.initial.out l.initial.bytes) later))
 
-abbrev pub decreases-loop-out : goal.decreases-loop-out
-decreases-loop-out l = l.left
+abbrev pub decreases-loop-r : goal.decreases-loop-r
+decreases-loop-r l = l.walk.left

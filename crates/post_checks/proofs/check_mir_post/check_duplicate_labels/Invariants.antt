@@ -1,5 +1,5 @@
 -- The chain of bindings is walked (Checks), with the labels seen (Duplicates).
-use Prim.Native.Nat.{ℕ, ◌≤◌}
+use Prim.Native.Nat.{ℕ, ◌+◌}
 use mathlib.Core.Path.{◌≡◌}
 use mathlib.Core.List.{List, [], map}
 use lib.ListN.{length}
@@ -10,14 +10,16 @@ use Rattle.post_checks.proofs.Checks.{Walks}
 use Rattle.post_checks.proofs.Duplicates.{labels_seen}
 use Rattle.post_checks.proofs.check_mir_post.check_duplicate_labels.Given as goal
 
-abbrev pub invariant-loop-out : goal.invariant-loop-out
-invariant-loop-out l =
+abbrev pub invariant-loop-r : goal.invariant-loop-r
+invariant-loop-r l =
     (length l.out ≡ length l.initial.out)
     × (length l.bytes ≡ length l.initial.bytes)
-    × (l.left ≤ l.most)
-    × Walks l.initial.made l.made l.initial.out l.initial.bytes l.out l.bytes (chain_from (log_count l.initial.out) l.initial.out l.first) l.first (log_count l.initial.out) l.r l.left
+    × (l.passed + l.walk.left ≡ log_count l.initial.out)
+    × Walks l.initial.made l.made l.initial.out l.initial.bytes l.out l.bytes
+    (chain_from (log_count l.initial.out) l.initial.out l.first) l.first (log_count l.initial.out) l.walk.next l.walk.left
     (duplicate_labels [] (map (binding_at l.initial.out l.initial.bytes) (chain_from (log_count l.initial.out) l.initial.out l.first)))
-    (λ (passed later : List ℕ). duplicate_labels (labels_seen (map (binding_at l.initial.out l.initial.bytes) passed)) (map (binding_at l.initial.out l.initial.bytes) later))
+    (λ (passed later : List ℕ). duplicate_labels (labels_seen (map (binding_at l.initial.out l.initial.bytes) passed))
+    (map (binding_at l.initial.out l.initial.bytes) later))
 
-abbrev pub decreases-loop-out : goal.decreases-loop-out
-decreases-loop-out l = l.left
+abbrev pub decreases-loop-r : goal.decreases-loop-r
+decreases-loop-r l = l.walk.left

@@ -1,5 +1,4 @@
 -- What is reported on the definitions so far (References).
-use Prim.Native.Nat.{◌-◌, ◌≤◌}
 use mathlib.Core.Path.{◌≡◌}
 use mathlib.Core.List.{map}
 use lib.ListN.{length, take}
@@ -8,11 +7,8 @@ use Rattle.post_checks.specs.meaning.Post.{check_defs}
 use Rattle.post_checks.specs.machine.Checks.{Reports, said}
 use Rattle.post_checks.proofs.check_phandles.check_definitions.Given as goal
 
-abbrev pub invariant-loop-i : goal.invariant-loop-i
-invariant-loop-i l = (length l.out ≡ length l.initial.out)
+abbrev pub invariant-loop-r : goal.invariant-loop-r
+invariant-loop-r l = (length l.out ≡ length l.initial.out)
     × (length l.bytes ≡ length l.initial.bytes)
-    × (l.i ≤ length l.list)
-    × Reports l.initial.made l.made l.initial.out l.initial.bytes l.out l.bytes l.list (check_defs (said l.initial.made l.initial.out l.initial.bytes) (map (def_at l.initial.out l.initial.bytes) (take l.i l.list)))
-
-abbrev pub decreases-loop-i : goal.decreases-loop-i
-decreases-loop-i l = length l.list - l.i
+    × Reports l.initial.made l.made l.initial.out l.initial.bytes l.out l.bytes l.list
+    (check_defs (said l.initial.made l.initial.out l.initial.bytes) (map (def_at l.initial.out l.initial.bytes) (take l.r-index l.list)))

@@ -1,44 +1,29 @@
-use mathlib.Core.Path.{refl, sym, ◌∙◌}
+use mathlib.Core.Path.{refl, ap}
 use native.Mathlib.Omega.{arith}
+use Rattle.definition_log.specs.declared.chain.Walk.{Walk}
 use Rattle.definition_log.specs.meaning.ReadBack.{value_at, read_values}
 use Rattle.definition_log.specs.machine.Parts.{meant}
-use Rattle.queries.proofs.Chain.{goes_left}
+use Rattle.definition_log.proofs.ChainLeft.{step_nearer}
 use Rattle.post_checks.specs.meaning.Post.{check_value, check_values}
 use Rattle.post_checks.proofs.PartsChecked.{parts_start, parts_step, parts_end}
 use Rattle.post_checks.proofs.References.{values_next}
 use Rattle.post_checks.proofs.check_phandles.check_values.Goals as goal
 
-pub loop-span-init : goal.loop-span-init
-loop-span-init c = let a = c.args in
-    parts_start check_values value_at (meant a.span) a.ctx a.out.now a.bytes.now a.first _ c.log_count-left.ensures
+pub loop-r-init : goal.loop-r-init
+loop-r-init c = let a = c.args in
+    parts_start check_values value_at (meant a.span) a.ctx a.out.now a.bytes.now a.first _
+    (ap (λ (w : Walk). w.next) c.new-walk.ensures) (ap (λ (w : Walk). w.left) c.new-walk.ensures)
 
-pub overflow_sub-left : goal.overflow_sub-left
-overflow_sub-left c = let l = c.loop-span in goes_left
-    l.out l.r l.left (sym c.goes_on.ensures
-    ∙ c.loop-span-test.true)
+pub loop-r-smaller : goal.loop-r-smaller
+loop-r-smaller c = step_nearer c.in-Some.ensures
 
-pub loop-span-smaller : goal.loop-span-smaller
-loop-span-smaller c = let l = c.loop-span in omega (
-  arith,
-  goes_left l.out l.r l.left (sym
-      c.goes_on.ensures
-      ∙ c.loop-span-test.true),
-)
-
-pub loop-span-preserved : goal.loop-span-preserved
-loop-span-preserved c =
-    let l = c.loop-span in
-    let a = c.args in
+pub loop-r-preserved : goal.loop-r-preserved
+loop-r-preserved c =
     let x = c.check_value-made in
-    parts_step check_values value_at (meant a.span) l.invariant check_value
-    (λ k s rep z kept later st. values_next rep z kept (meant a.span) l.r later st)
-    (sym c.goes_on.ensures
-    ∙ c.loop-span-test.true) x.auto.out x.auto.bytes x.ensures
-    c.next_of-r.ensures
+    parts_step check_values value_at (meant c.args.span) c.loop-r.invariant check_value
+    (λ k s rep z kept later st. values_next rep z kept (meant c.args.span) c.in-Some.r later st)
+    c.in-Some.ensures x.auto.out x.auto.bytes x.ensures
 
 pub returns : goal.returns
 unfolding read_values check_values
-returns c =
-    let l = c.loop-span in
-    let a = c.args in
-    parts_end check_values value_at (meant a.span) l.invariant (sym c.goes_on.ensures ∙ c.loop-span-test.false) refl
+returns c = parts_end check_values value_at (meant c.args.span) c.loop-r.invariant c.in_default.ensures refl

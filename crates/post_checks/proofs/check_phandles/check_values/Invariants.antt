@@ -5,9 +5,9 @@ use Rattle.post_checks.specs.meaning.Post.{check_values}
 use Rattle.post_checks.proofs.PartsChecked.{PartsWalk}
 use Rattle.post_checks.proofs.check_phandles.check_values.Given as goal
 
-abbrev pub invariant-loop-span : goal.invariant-loop-span
-invariant-loop-span l =
-    PartsWalk check_values value_at (meant l.span) l.initial.made l.made l.initial.out l.initial.bytes l.out l.bytes l.first l.r l.left
+abbrev pub invariant-loop-r : goal.invariant-loop-r
+invariant-loop-r l =
+    PartsWalk check_values value_at (meant l.span) l.initial.made l.made l.initial.out l.initial.bytes l.out l.bytes l.first l.walk
 
-abbrev pub decreases-loop-span : goal.decreases-loop-span
-decreases-loop-span l = l.left
+abbrev pub decreases-loop-r : goal.decreases-loop-r
+decreases-loop-r l = l.walk.left
