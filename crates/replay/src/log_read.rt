@@ -1,62 +1,46 @@
 // A recorded log against the one that lowering left.
 use crate::chains::chain;
-use crate::records::{BINDINGS, DEFINITIONS, DIAGNOSTICS, EXTENSIONS};
+use crate::records::ChainOf;
 use crate::tally::Tally;
 use definition_log::layout;
 use definition_log::record::out_field;
 use std::io;
 
-// The whole log: record 0's counts and what its chains have.
-pub fn whole_log<R: Print>(
-    sample: &[u8],
-    out: &[u32],
-    bytes: &[u8],
-    t: &mut Tally<R>,
-) -> io::Result<()> {
-    let records = out_field(out, 0, layout::RECORDS_USED);
-    t.number(sample, records, "records used")?;
-    let size = out_field(out, 0, layout::BYTES_USED);
-    t.number(sample, size, "bytes used")?;
-    let defs = out_field(out, 0, layout::FIRST_DEFINITION);
-    chain(
-        sample,
-        out,
-        bytes,
-        DEFINITIONS,
-        defs,
+// The chains of a log in the order in which they are recorded: where record 0 has the first record, what the chain has, and what is compared.
+const CHAINS: [(u32, ChainOf, &str); 5] = [
+    (
+        layout::FIRST_DEFINITION,
+        ChainOf::Definitions,
         "number of definitions",
-        t,
-    )?;
-    let exts = out_field(out, 0, layout::FIRST_EXTENSION);
-    chain(
-        sample,
-        out,
-        bytes,
-        EXTENSIONS,
-        exts,
+    ),
+    (
+        layout::FIRST_EXTENSION,
+        ChainOf::Extensions,
         "number of extensions",
-        t,
-    )?;
-    let binds = out_field(out, 0, layout::FIRST_BINDING);
-    chain(sample, out, bytes, BINDINGS, binds, "number of bindings", t)?;
-    let diags = out_field(out, 0, layout::FIRST_DIAGNOSTIC);
-    chain(
-        sample,
-        out,
-        bytes,
-        DIAGNOSTICS,
-        diags,
+    ),
+    (
+        layout::FIRST_BINDING,
+        ChainOf::Bindings,
+        "number of bindings",
+    ),
+    (
+        layout::FIRST_DIAGNOSTIC,
+        ChainOf::Diagnostics,
         "number of diagnostics",
-        t,
-    )?;
-    let post = out_field(out, 0, layout::FIRST_POST);
-    chain(
-        sample,
-        out,
-        bytes,
-        DIAGNOSTICS,
-        post,
+    ),
+    (
+        layout::FIRST_POST,
+        ChainOf::Diagnostics,
         "number of diagnostics",
-        t,
-    )
+    ),
+];
+
+// The whole log: record 0's counts and what its chains have.
+pub fn whole_log<R: Print>(out: &[u32], bytes: &[u8], t: &mut Tally<R>) -> io::Result<()> {
+    t.number(out_field(out, 0, layout::RECORDS_USED), "records used")?;
+    t.number(out_field(out, 0, layout::BYTES_USED), "bytes used")?;
+    for (place, has, what) in &CHAINS {
+        chain(out, bytes, *has, out_field(out, 0, *place), *what, t)?;
+    }
+    Ok(())
 }

@@ -1,107 +1,85 @@
-// Numbers and texts of the sample. Every function answers for any bytes and any place: what lies
-// behind the end reads as 0, a text ends where the bytes do, and no place answered lies behind it.
+// Numbers and texts of the sample. Every method answers for any bytes: what lies behind the end reads as 0, and a text ends where the bytes
+// do.
 ghost use Rattle.std.specs.Prelude.{◌≤◌, length};
 
 // The byte that a number of five bytes starts with.
-const LONG: u32 = 255;
+const LONG: u8 = 255;
 
-// The number at a place.
-pub fn number_at(sample: &[u8], at: usize) -> u32 {
-    let first = byte_at(sample, at, 0);
-    if first != LONG {
-        return first;
+// What is left of the sample.
+#[derive(Clone, Copy)]
+pub struct Sample<'a> {
+    rest: &'a [u8],
+}
+
+impl<'a> Sample<'a> {
+    // The whole sample.
+    pub fn new(bytes: &'a [u8]) -> Sample<'a> {
+        Sample { rest: bytes }
     }
-    byte_at(sample, at, 1)
-        + byte_at(sample, at, 2) * 256
-        + byte_at(sample, at, 3) * 65536
-        + byte_at(sample, at, 4) * 16777216
-}
 
-// The place behind it.
-pub fn after_number(sample: &[u8], at: usize) -> usize
-    ensures { result ≤ length sample.now }
-{
-    if byte_at(sample, at, 0) == LONG {
-        return moved(sample, at, 5);
+    // Whether nothing is left.
+    pub fn is_at_end(&self) -> bool {
+        self.rest.is_empty()
     }
-    moved(sample, at, 1)
-}
 
-// The text at a place.
-pub fn text_at(sample: &[u8], at: usize) -> &[u8] {
-    let from = after_number(sample, at);
-    let to = moved(sample, from, number_at(sample, at));
-    &sample[from..to]
-}
+    // The next number, which is left where it is.
+    pub fn peek(&self) -> u32 {
+        split_number(self.rest).0
+    }
 
-// The place behind it.
-pub fn after_text(sample: &[u8], at: usize) -> usize
-    ensures { result ≤ length sample.now }
-{
-    moved(sample, after_number(sample, at), number_at(sample, at))
-}
+    // The next number.
+    pub fn number(&mut self) -> u32 {
+        let (number, rest) = split_number(self.rest);
+        self.rest = rest;
+        number
+    }
 
-// Puts the list of numbers at a place at the start of `words`, as far as they reach, and answers how
-// many of them it put there.
-pub fn read_numbers(sample: &[u8], at: usize, words: &mut [u32]) -> usize
-    ensures { result ≤ length words.new }
-{
-    let mut place = after_number(sample, at);
-    let mut left = number_at(sample, at);
-    let mut n = 0;
-    while 0 < left {
-        if words.len() <= n {
-            return n;
+    // The next text.
+    pub fn text(&mut self) -> &'a [u8] {
+        let size = self.number() as usize;
+        let (text, rest) = split_up_to(self.rest, size);
+        self.rest = rest;
+        text
+    }
+
+    // Puts the next list of numbers at the start of `words`, as far as they reach, and answers how many of them it put there.
+    pub fn numbers(&mut self, words: &mut [u32]) -> usize
+        ensures { result ≤ length words.new }
+    {
+        let mut n = 0;
+        for _ in 0..self.number() {
+            let number = self.number();
+            if n < words.len() {
+                words[n] = number;
+                n += 1;
+            }
         }
-        words[n] = number_at(sample, place);
-        place = after_number(sample, place);
-        n += 1;
-        left -= 1;
+        n
     }
-    n
 }
 
-// The place behind a list of numbers.
-pub fn after_numbers(sample: &[u8], at: usize) -> usize
-    ensures { result ≤ length sample.now }
-{
-    let mut place = after_number(sample, at);
-    let mut left = number_at(sample, at);
-    while 0 < left {
-        place = after_number(sample, place);
-        left -= 1;
+// A number at the start of bytes, and what is behind it.
+fn split_number(bytes: &[u8]) -> (u32, &[u8]) {
+    match bytes {
+        [] => (0, bytes),
+        [LONG, behind @ ..] => {
+            let (word, rest) = split_up_to(behind, 4);
+            (word_of(word), rest)
+        }
+        [number, rest @ ..] => (*number as u32, rest),
     }
-    place
 }
 
-// The byte so many behind a place.
-fn byte_at(sample: &[u8], at: usize, i: usize) -> u32
-    ensures { result ≤ 255 }
-{
-    if sample.len() <= at {
-        return 0;
+// The number of four bytes, low byte first; bytes that are missing are 0.
+fn word_of(bytes: &[u8]) -> u32 {
+    let mut word = [0; 4];
+    for (place, byte) in word.iter_mut().zip(bytes) {
+        *place = *byte;
     }
-    if sample.len() - at <= i {
-        return 0;
-    }
-    wide(sample[at + i])
+    u32::from_le_bytes(word)
 }
 
-fn wide(b: u8) -> u32
-    ensures { result ≤ 255 }
-{
-    b as u32
-}
-
-// The place so many behind one, or the end.
-fn moved(sample: &[u8], at: usize, by: u32) -> usize
-    ensures { (result ≤ length sample.now) × (at ≤ length sample.now → at ≤ result) }
-{
-    if sample.len() <= at {
-        return sample.len();
-    }
-    if sample.len() - at <= by as usize {
-        return sample.len();
-    }
-    at + (by as usize)
+// The first bytes, as many as are asked for or there are, and the rest.
+fn split_up_to(bytes: &[u8], size: usize) -> (&[u8], &[u8]) {
+    bytes.split_at(size.min(bytes.len()))
 }

@@ -1,62 +1,44 @@
-// Where the sample is read, and what came of the comparison so far.
-use crate::recorded::{after_number, after_text, number_at, text_at};
-use paths_numbers::text::equals;
+// The sample as it is read, and what came of the comparison so far.
+use crate::recorded::Sample;
 use std::io;
 
-// What differences are printed by, the place in the sample, the number of the case, from 1, and how many
-// fields were compared and were different.
+// What differences are printed by, what is left of the sample, the number of the case, from 1, and how many fields were compared and were
+// different.
 #[derive(Drop)]
 pub struct Tally<'a, R: Print> {
     pub rt: &'a R,
-    pub at: usize,
+    pub sample: Sample<'a>,
     pub case: u64,
     pub compared: u64,
     pub different: u64,
 }
 
-// Nothing compared, at a place.
-pub fn new_tally<R: Print>(rt: &R, at: usize) -> Tally<'_, R> {
-    Tally {
-        rt: rt,
-        at: at,
-        case: 0,
-        compared: 0,
-        different: 0,
+impl<'a, R: Print> Tally<'a, R> {
+    // Nothing compared yet.
+    pub fn new(rt: &'a R, sample: Sample<'a>) -> Tally<'a, R> {
+        Tally {
+            rt,
+            sample,
+            case: 0,
+            compared: 0,
+            different: 0,
+        }
     }
-}
 
-impl<R: Print> Tally<'_, R> {
     // The next case.
     pub fn next_case(&mut self) {
-        self.case = more(self.case);
+        self.case = self.case.saturating_add(1);
     }
 
-    // The same, at another place.
-    pub fn moved(&mut self, at: usize) {
-        self.at = at;
-    }
-
-    // The number that is recorded here.
-    pub fn recorded(&self, sample: &[u8]) -> u32 {
-        number_at(sample, self.at)
-    }
-
-    // Past the number that is recorded here.
-    pub fn skipped(&mut self, sample: &[u8]) {
-        self.moved(after_number(sample, self.at));
-    }
-
-    // Compares a number with the one that is recorded here.
-    pub fn number(&mut self, sample: &[u8], ours: u32, what: &str) -> io::Result<()> {
-        let same = self.recorded(sample) == ours;
-        self.skipped(sample);
+    // Compares a number with the next one that is recorded.
+    pub fn number(&mut self, ours: u32, what: &str) -> io::Result<()> {
+        let same = self.sample.number() == ours;
         self.noted(same, what)
     }
 
-    // Compares a text with the one that is recorded here.
-    pub fn text(&mut self, sample: &[u8], ours: &[u8], what: &str) -> io::Result<()> {
-        let same = equals(text_at(sample, self.at), ours);
-        self.moved(after_text(sample, self.at));
+    // Compares a text with the next one that is recorded.
+    pub fn text(&mut self, ours: &[u8], what: &str) -> io::Result<()> {
+        let same = self.sample.text() == ours;
         self.noted(same, what)
     }
 
@@ -64,9 +46,9 @@ impl<R: Print> Tally<'_, R> {
     pub fn noted(&mut self, same: bool, what: &str) -> io::Result<()> {
         if !same {
             print_difference(self.rt, self.case, what)?;
-            self.different = more(self.different);
+            self.different = self.different.saturating_add(1);
         }
-        self.compared = more(self.compared);
+        self.compared = self.compared.saturating_add(1);
         Ok(())
     }
 
@@ -83,9 +65,4 @@ impl<R: Print> Tally<'_, R> {
 // Prints what is different, and in which case.
 fn print_difference<R: Print>(rt: &R, case: u64, what: &str) -> io::Result<()> {
     println!(rt; "case {case}: {what}")
-}
-
-// One more, or the largest number.
-fn more(n: u64) -> u64 {
-    n.saturating_add(1)
 }
