@@ -6,12 +6,12 @@ ghost use Rattle.definition_log.specs.meaning.Record.{out_field, span_start, spa
 ghost use Rattle.definition_log.specs.meaning.Sound.{below, kinds_in, link_to, links_of, head_links, heads_out, links_out, text_out, texts_out};
 ghost use Rattle.definition_log.specs.meaning.Sound.{spans_reversed, nonempty_path, path_wrong, wrong_count, soundness};
 ghost use Rattle.definition_log.specs.meaning.SoundAnswer.{told};
-ghost use Rattle.definition_log.specs.meaning.Answer.{told as answered, passed, sound_answer};
+ghost use Rattle.definition_log.specs.declared.answer.Refusal.TheVariants.{Log};
+ghost use Rattle.definition_log.specs.meaning.Answer.{told_done, passed, sound_answer};
 ghost use Rattle.definition_log.specs.machine.Walk.{chains, place_of, link_in, link_of, first_mark, stored, held, follow_all, all_marks, record_wrong};
 ghost use Rattle.definition_log.specs.machine.Walk.{fault_by, first_by};
-ghost use Rattle.definition_log.specs.machine.Limits.{few_records};
 
-use crate::answer::{Answer, REFUSED_LOG, SUCCESS};
+use crate::answer::Refusal;
 use crate::limits::{FEW_RECORDS, MOST_RECORDS};
 use crate::lists::one_of;
 use crate::record::{
@@ -49,82 +49,72 @@ const MET: u8 = 1;
 
 const WRONG: u8 = 2;
 
-// The output rules kept, or the lowest record that breaks one.
-#[derive(Clone, Copy)]
-pub enum Soundness {
-    Sound,
-    Broken(u32),
+// The lowest record that breaks an output rule.
+#[derive(Clone, Copy, Debug, PartialEq, Eq)]
+pub struct Broken {
+    pub record: u32,
 }
 
-// Row 8 as an answer: number 8 with the lowest record that breaks a rule, else number 0.
-pub fn log_refused(words: &[u32], bytes: &[u8]) -> Answer
-    ensures { answered result ≡ sound_answer (soundness words.now bytes.now) passed }
-{
-    match check_log(words, bytes) {
-        Soundness::Broken(r) => Answer {
-            number: REFUSED_LOG,
-            returned: r,
-        },
-        Soundness::Sound => Answer {
-            number: SUCCESS,
-            returned: 0,
-        },
+impl From<Broken> for Refusal {
+    ghost from_gives = { λ b e. e ≡ Log b.record };
+
+    fn from(broken: Broken) -> Refusal {
+        Refusal::Log(broken.record)
     }
+}
+
+// Row 8 as an answer: refused with the lowest record that breaks a rule.
+pub fn log_refused(words: &[u32], bytes: &[u8]) -> Result<(), Refusal>
+    ensures { told_done result ≡ sound_answer (soundness words.now bytes.now) passed }
+{
+    check_log(words, bytes)?;
+    Ok(())
 }
 
 // Row 8's test of any words and bytes.
-pub fn check_log(words: &[u32], bytes: &[u8]) -> Soundness
+pub fn check_log(words: &[u32], bytes: &[u8]) -> Result<(), Broken>
     ensures { told result ≡ soundness words.now bytes.now }
 {
-    if words.len() == 0 {
-        return Soundness::Broken(0);
-    }
-    if words.len() % layout::RECORD_WORDS != 0 {
-        return Soundness::Broken(0);
+    if wrong_count(words) {
+        return Err(Broken { record: 0 });
     }
     if log_count(words) as usize <= FEW_RECORDS {
-        return check_few(words, bytes);
+        return check_within::<FEW_RECORDS>(words, bytes);
     }
-    check_most(words, bytes)
+    check_within::<MOST_RECORDS>(words, bytes)
 }
 
-// The same of a log of any number of records. Neither is inlined: the arrays of both would be on the stack at once.
-#[inline(never)]
-fn check_most(words: &[u32], bytes: &[u8]) -> Soundness
-    requires { wrong_count words.now ≡ false }
-    ensures { told result ≡ soundness words.now bytes.now }
+// Whether there are no words, or no whole records.
+fn wrong_count(words: &[u32]) -> bool
+    ensures { result ≡ wrong_count words.now }
 {
-    let mut marks = [UNMET; MOST_RECORDS];
-    let mut queue = [0u32; MOST_RECORDS];
-    walk(words, &mut marks, &mut queue);
-    first_fault(words, bytes, &marks)
+    words.is_empty() || words.len() % layout::RECORD_WORDS != 0
 }
 
-// The same of a log of few records.
+// The same of a log of at most N records. It is not inlined: the arrays of both calls would be on the stack at once.
 #[inline(never)]
-fn check_few(words: &[u32], bytes: &[u8]) -> Soundness
-    requires { (log_count words.now ≤ few_records) × (wrong_count words.now ≡ false) }
+fn check_within<const N: usize>(words: &[u32], bytes: &[u8]) -> Result<(), Broken>
+    requires small { N ≤ MOST_RECORDS }
+    requires room { log_count words.now ≤ N }
+    requires whole { wrong_count words.now ≡ false }
     ensures { told result ≡ soundness words.now bytes.now }
 {
-    let mut marks = [UNMET; FEW_RECORDS];
-    let mut queue = [0u32; FEW_RECORDS];
+    let mut marks = [UNMET; N];
+    let mut queue = [0u32; N];
     walk(words, &mut marks, &mut queue);
     first_fault(words, bytes, &marks)
 }
 
 // The lowest record at fault, by the marks.
-fn first_fault(words: &[u32], bytes: &[u8], marks: &[u8]) -> Soundness
+fn first_fault(words: &[u32], bytes: &[u8], marks: &[u8]) -> Result<(), Broken>
     ensures { told result ≡ first_by (log_count words.now) words.now bytes.now marks.now 0 }
 {
-    let n = log_count(words);
-    let mut r: u32 = 0;
-    while r < n {
+    for r in 0..log_count(words) {
         if at_fault(words, bytes, mark_at(marks, r), r) {
-            return Soundness::Broken(r);
+            return Err(Broken { record: r });
         }
-        r += 1;
     }
-    Soundness::Sound
+    Ok(())
 }
 
 // Whether a record is at fault, by its mark: record 0 for its links alone, another only if it is reached.
