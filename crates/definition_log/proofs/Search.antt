@@ -3,7 +3,6 @@ use Prim.Native.Nat.{ℕ, suc, ◌+◌, ◌-◌, ◌≤◌, ◌<◌}
 use mathlib.Core.Path.{◌≡◌, refl, sym, ap, ◌∙◌}
 use mathlib.Core.Bool.{true, false}
 use mathlib.Core.List.{List, map}
-use native.Mathlib.Nat.{sub-zero}
 use native.Mathlib.Omega.{arith}
 use borrow.Author.Tests.{le-ltb, lt-ltb}
 use lib.Dec.{ltb}
@@ -30,10 +29,6 @@ held_test m q n i h k = lt-ltb _ _ (met_within q n i h k)
 held_link : (m q : List ℕ) (n i : ℕ) → i < n → get_or (held m q n).met i (link_of 0) ≡ link_of (get_or q i 0)
 unfolding held
 held_link m q n i h = met_at q n i h
-
--- all records are left at first
-pub walk_starts : (w m q : List ℕ) (n : ℕ) → (expand (length q) w 0 (held m q n)).marks ≡ (expand (length q - 0) w 0 (held m q n)).marks
-walk_starts w m q n = rw sub-zero refl
 
 -- those that record 0's links lead to
 pub walk_all : (w m q m' q' : List ℕ) (n : ℕ) → length q' ≡ length q → held m' q' n ≡ follow_all w (head_links w) (held m q 0)

@@ -88,7 +88,10 @@ impl From<Result<u32, Refusal>> for Numbers {
 
     fn from(answer: Result<u32, Refusal>) -> Numbers {
         match answer {
-            Ok(returned) => Numbers { number: 0, returned },
+            Ok(returned) => Numbers {
+                number: 0,
+                returned,
+            },
             Err(refusal) => Numbers {
                 number: refusal.number(),
                 returned: refusal.returned(),

@@ -137,16 +137,10 @@ fn at_fault(words: &[u32], bytes: &[u8], mark: u8, r: u32) -> bool
 fn record_wrong(words: &[u32], bytes: &[u8], r: u32) -> bool
     ensures { result ≡ record_wrong words.now bytes.now r }
 {
-    if links_out(words, r) {
-        return true;
-    }
-    if texts_out(words, bytes, r) {
-        return true;
-    }
-    if spans_reversed(words, r) {
-        return true;
-    }
-    path_wrong(words, bytes, r)
+    links_out(words, r)
+        || texts_out(words, bytes, r)
+        || spans_reversed(words, r)
+        || path_wrong(words, bytes, r)
 }
 
 // All links followed: those of record 0, then those of each record that was met, in order. The queue holds the records that were met.
@@ -154,13 +148,11 @@ fn walk(words: &[u32], marks: &mut [u8], queue: &mut [u32])
     ensures { marks.new ≡ all_marks words.now marks.old queue.old }
 {
     let mut n = walk_heads(words, marks, queue);
-    let mut i = 0;
-    while i < queue.len() {
+    for i in 0..queue.len() {
         if n <= i {
             return;
         }
         n = walk_record(words, queue[i], marks, queue, n);
-        i += 1;
     }
 }
 
@@ -339,41 +331,28 @@ fn body_link(words: &[u32], r: u32) -> u32
     ensures { result ≡ cond (eqb (kind_of words.now r) extension_kind) (m_of words.now r) 0 }
 {
     if kind_of(words, r) == kinds::EXTENSION {
-        return out_field(words, r, layout::M);
+        out_field(words, r, layout::M)
+    } else {
+        0
     }
-    0
 }
 
 // Whether one of record 0's links leads out of the log.
 fn heads_out(words: &[u32]) -> bool
     ensures { result ≡ heads_out words.now }
 {
-    if leads_out(words, 0, layout::FIRST_DEFINITION) {
-        return true;
-    }
-    if leads_out(words, 0, layout::FIRST_EXTENSION) {
-        return true;
-    }
-    if leads_out(words, 0, layout::FIRST_BINDING) {
-        return true;
-    }
-    if leads_out(words, 0, layout::FIRST_DIAGNOSTIC) {
-        return true;
-    }
-    leads_out(words, 0, layout::FIRST_POST)
+    leads_out(words, 0, layout::FIRST_DEFINITION)
+        || leads_out(words, 0, layout::FIRST_EXTENSION)
+        || leads_out(words, 0, layout::FIRST_BINDING)
+        || leads_out(words, 0, layout::FIRST_DIAGNOSTIC)
+        || leads_out(words, 0, layout::FIRST_POST)
 }
 
 // Whether one of a record's links leads out of the log.
 fn links_out(words: &[u32], r: u32) -> bool
     ensures { result ≡ links_out words.now r }
 {
-    if leads_out(words, r, layout::NEXT) {
-        return true;
-    }
-    if links_out_child(words, r) {
-        return true;
-    }
-    links_out_body(words, r)
+    leads_out(words, r, layout::NEXT) || links_out_child(words, r) || links_out_body(words, r)
 }
 
 // Whether its child does, or is there where its kind has no children.
@@ -382,9 +361,10 @@ fn links_out_child(words: &[u32], r: u32) -> bool
         (not (eqb (child_of words.now r) 0)) }
 {
     if has_children(kind_of(words, r)) {
-        return leads_out(words, r, layout::CHILD);
+        leads_out(words, r, layout::CHILD)
+    } else {
+        child_of(words, r) != 0
     }
-    child_of(words, r) != 0
 }
 
 // Whether an extension's body does.
@@ -392,10 +372,7 @@ fn links_out_body(words: &[u32], r: u32) -> bool
     ensures { result ≡ cond (eqb (kind_of words.now r) extension_kind)
         (leads_out words.now (m_of words.now r)) false }
 {
-    if kind_of(words, r) == kinds::EXTENSION {
-        return leads_out(words, r, layout::M);
-    }
-    false
+    kind_of(words, r) == kinds::EXTENSION && leads_out(words, r, layout::M)
 }
 
 // Whether the link that is word i of a record leads out of the log.
@@ -409,14 +386,11 @@ fn leads_out(words: &[u32], r: u32, i: u32) -> bool
 fn texts_out(words: &[u32], bytes: &[u8], r: u32) -> bool
     ensures { result ≡ texts_out words.now bytes.now r }
 {
-    if text_out(
+    text_out(
         bytes,
         out_field(words, r, layout::TEXT_START),
         out_field(words, r, layout::TEXT_LENGTH),
-    ) {
-        return true;
-    }
-    text_out(
+    ) || text_out(
         bytes,
         out_field(words, r, layout::SECOND_START),
         out_field(words, r, layout::SECOND_LENGTH),
@@ -434,10 +408,7 @@ fn text_out(bytes: &[u8], start: u32, size: u32) -> bool
 fn spans_reversed(words: &[u32], r: u32) -> bool
     ensures { result ≡ spans_reversed words.now r }
 {
-    if spans_reversed_whole(words, r) {
-        return true;
-    }
-    spans_reversed_name(words, r)
+    spans_reversed_whole(words, r) || spans_reversed_name(words, r)
 }
 
 // Whether the record has a span that does.
@@ -445,10 +416,8 @@ fn spans_reversed_whole(words: &[u32], r: u32) -> bool
     ensures { result ≡ cond (has_span (kind_of words.now r))
         (ltb (span_end words.now r) (span_start words.now r)) false }
 {
-    if has_span(kind_of(words, r)) {
-        return out_field(words, r, layout::SPAN_END) < out_field(words, r, layout::SPAN_START);
-    }
-    false
+    has_span(kind_of(words, r))
+        && out_field(words, r, layout::SPAN_END) < out_field(words, r, layout::SPAN_START)
 }
 
 // Whether it has a name span that does.
@@ -456,10 +425,8 @@ fn spans_reversed_name(words: &[u32], r: u32) -> bool
     ensures { result ≡ cond (has_name_span (kind_of words.now r))
         (ltb (name_end words.now r) (name_start words.now r)) false }
 {
-    if has_name_span(kind_of(words, r)) {
-        return out_field(words, r, layout::NAME_END) < out_field(words, r, layout::NAME_START);
-    }
-    false
+    has_name_span(kind_of(words, r))
+        && out_field(words, r, layout::NAME_END) < out_field(words, r, layout::NAME_START)
 }
 
 // Whether a record's path lacks the form that its kind asks for.
@@ -483,10 +450,7 @@ fn path_wrong(words: &[u32], bytes: &[u8], r: u32) -> bool
 fn nonempty_path(path: &[u8]) -> bool
     ensures { result ≡ nonempty_path path.now }
 {
-    if path.len() == 0 {
-        return false;
-    }
-    good_path(path)
+    !path.is_empty() && good_path(path)
 }
 
 // Whether a kind is one of definitions.
@@ -525,18 +489,12 @@ fn has_children(kind: u32) -> bool
 fn has_span(kind: u32) -> bool
     ensures { result ≡ has_span kind }
 {
-    if is_def(kind) {
-        return true;
-    }
-    one_of(kind, &[kinds::EXTENSION, kinds::BINDING, kinds::DIAGNOSTIC])
+    is_def(kind) || one_of(kind, &[kinds::EXTENSION, kinds::BINDING, kinds::DIAGNOSTIC])
 }
 
 // Whether a kind has a name span.
 fn has_name_span(kind: u32) -> bool
     ensures { result ≡ has_name_span kind }
 {
-    if is_def(kind) {
-        return true;
-    }
-    one_of(kind, &[kinds::EXTENSION, kinds::DIAGNOSTIC])
+    is_def(kind) || one_of(kind, &[kinds::EXTENSION, kinds::DIAGNOSTIC])
 }

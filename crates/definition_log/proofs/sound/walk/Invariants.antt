@@ -1,13 +1,10 @@
 -- The records that are left decide.
-use Prim.Native.Nat.{◌-◌, ◌≤◌}
+use Prim.Native.Nat.{◌-◌}
 use mathlib.Core.Path.{◌≡◌}
 use lib.ListN.{length}
 use Rattle.definition_log.specs.machine.Walk.{held, expand}
 use Rattle.definition_log.proofs.sound.walk.Given as goal
 
 abbrev pub invariant-loop-i : goal.invariant-loop-i
-invariant-loop-i l = (l.i ≤ length l.queue) × (length l.marks ≡ length l.initial.marks) × (length l.queue ≡ length l.initial.queue)
-    × ((expand (length l.initial.queue) l.words 0 (held l.initial.marks l.initial.queue l.initial.n)).marks ≡ (expand (length l.queue - l.i) l.words l.i (held l.marks l.queue l.n)).marks)
-
-abbrev pub decreases-loop-i : goal.decreases-loop-i
-decreases-loop-i l = length l.queue - l.i
+invariant-loop-i l =
+    (expand (length l.initial.queue) l.words 0 (held l.initial.marks l.initial.queue l.initial.n)).marks ≡ (expand (length l.queue - l.i) l.words l.i (held l.marks l.queue l.n)).marks
