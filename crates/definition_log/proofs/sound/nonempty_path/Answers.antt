@@ -1,5 +1,4 @@
 -- By whether there is a byte.
-use mathlib.Core.Path.{refl, ◌∙◌}
 use Rattle.std.proofs.Common.{arith}
 use Rattle.std.proofs.lemmas.Grind.{common_steps}
 use Rattle.paths_numbers.proofs.Texts.{is_empty_lem, not_empty}
