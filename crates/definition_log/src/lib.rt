@@ -5,6 +5,7 @@ pub mod answer;
 pub mod kinds;
 pub mod layout;
 pub mod limits;
+mod links;
 pub mod lists;
 pub mod parts;
 pub mod record;

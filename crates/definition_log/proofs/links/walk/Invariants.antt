@@ -3,7 +3,7 @@ use Prim.Native.Nat.{◌-◌}
 use mathlib.Core.Path.{◌≡◌}
 use lib.ListN.{length}
 use Rattle.definition_log.specs.machine.Walk.{held, expand}
-use Rattle.definition_log.proofs.sound.walk.Given as goal
+use Rattle.definition_log.proofs.links.walk.Given as goal
 
 abbrev pub invariant-loop-i : goal.invariant-loop-i
 invariant-loop-i l =

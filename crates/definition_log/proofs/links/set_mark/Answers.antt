@@ -2,7 +2,7 @@
 use lib.Seq.{set_out}
 use mathlib.Core.Path.{refl, sym}
 use Rattle.definition_log.specs.machine.Walk.{stored}
-use Rattle.definition_log.proofs.sound.set_mark.Goals as goal
+use Rattle.definition_log.proofs.links.set_mark.Goals as goal
 
 pub returns-then-at-marks : goal.returns-then-at-marks
 unfolding stored

@@ -1,7 +1,7 @@
 -- The five links one after the other.
 use mathlib.Core.Path.{◌∙◌}
 use Rattle.definition_log.proofs.Follow.{follow_heads}
-use Rattle.definition_log.proofs.sound.walk_heads.Goals as goal
+use Rattle.definition_log.proofs.links.walk_heads.Goals as goal
 
 pub shape_of-marks : goal.shape_of-marks
 shape_of-marks c =

@@ -1,7 +1,7 @@
 use Rattle.definition_log.proofs.Search.{walk_all, walk_end, walk_done, walk_next}
 use mathlib.Core.Path.{◌∙◌}
 use native.Mathlib.Omega.{arith}
-use Rattle.definition_log.proofs.sound.walk.Goals as goal
+use Rattle.definition_log.proofs.links.walk.Goals as goal
 
 pub returns-then-n-i : goal.returns-then-n-i
 returns-then-n-i c =
