@@ -2,7 +2,7 @@
 use Prim.Native.Nat.{ℕ, zero, suc, ◌+◌, ◌*◌, ◌/◌, ◌%◌, ◌<◌}
 use mathlib.Core.Path.{◌≡◌, refl, sym, ap, ap₂, ◌∙◌, subst}
 use mathlib.Core.Bool.{true}
-use mathlib.Core.Option.{Option, some, none, none-ne-some, some-injective}
+use Rattle.std.specs.Prelude.{Option, Some, None}
 use mathlib.Core.List.{List, [], ◌∷◌, ◌++◌}
 use native.Mathlib.Nat.{mod-lt, div-add-mod', div-lt_iff_lt-mul, div-div-eq-div-mul, mul_comm, div-one, add-mul, mul_assoc}
 use native.Mathlib.Omega.{arith}
@@ -12,9 +12,8 @@ use lib.Dec.{ltb, lit<}
 use lib.ListN.{length, length-append}
 use Rattle.paths_numbers.proofs.Texts.{by_test}
 use Rattle.definition_log.specs.meaning.Answer.{Answered, success, refused_length}
-use Rattle.boxes.specs.declared.box_number.BoxRead.{BoxRead}
 use Rattle.boxes.specs.meaning.Box.{is_packed, two_digits, pack, value_behind, packed_value, hundreds, packed_bytes, is_length}
-use Rattle.boxes.specs.meaning.Box.{read_told, no_box, read_answer, returns0, write_number, write_answer, write_out}
+use Rattle.boxes.specs.meaning.Box.{BoxRead, read_told, no_box, read_answer, returns0, write_number, write_answer, write_out}
 use Rattle.boxes.specs.meaning.Box.{ReadThenWrite, WriteThenRead}
 use Rattle.boxes.proofs.Limits.{two_lt, pack_two, two_pack, packs}
 
@@ -22,11 +21,11 @@ use Rattle.boxes.proofs.Limits.{two_lt, pack_two, two_pack, packs}
 abbrev behind : ℕ → ℕ → ℕ
 behind n b = n * 100 + two_digits b
 
-first_read : (b : ℕ) (s : List ℕ) (n m : ℕ) → value_behind n (b ∷ s) ≡ some m
-    → (is_packed b ≡ true) × (value_behind (behind n b) s ≡ some m)
+first_read : (b : ℕ) (s : List ℕ) (n m : ℕ) → value_behind n (b ∷ s) ≡ Some m
+    → (is_packed b ≡ true) × (value_behind (behind n b) s ≡ Some m)
 unfolding value_behind
 first_read b s n m e =
-    by_test (is_packed b) (λ t. (t, rw t at e)) (λ t. absurd (none-ne-some m (rw t at e)))
+    by_test (is_packed b) (λ t. (t, rw t at e)) (λ t. let h = rw t at e in absurd (cc))
 
 read_first : (b : ℕ) (s : List ℕ) (n : ℕ) → is_packed b ≡ true → value_behind n (b ∷ s) ≡ value_behind (behind n b) s
 unfolding value_behind
@@ -35,22 +34,23 @@ read_first b s n t = rw t refl
 -- ---- writing then reading
 
 -- one byte more at the end
-read_last : (s : List ℕ) (n m b : ℕ) → value_behind n s ≡ some m → is_packed b ≡ true → value_behind n (s ++ b ∷ []) ≡ some (behind m b)
+read_last : (s : List ℕ) (n m b : ℕ) → value_behind n s ≡ Some m → is_packed b ≡ true → value_behind n (s ++ b ∷ []) ≡ Some (behind m b)
 unfolding value_behind
 read_last [] n m b e p =
-    read_first b [] n p ∙ ap (λ (k : ℕ). some (behind k b)) (some-injective n m e)
+    let q : n ≡ m = cc in
+    read_first b [] n p ∙ ap (λ (k : ℕ). Some (behind k b)) q
 read_last (a ∷ s) n m b e p =
     let f = first_read a s n m e in
     read_first a (s ++ b ∷ []) n f.0 ∙ read_last s (behind n a) m b f.1 p
 
-written : (k n : ℕ) → n < hundreds k → value_behind 0 (packed_bytes k n) ≡ some n
+written : (k n : ℕ) → n < hundreds k → value_behind 0 (packed_bytes k n) ≡ Some n
 unfolding packed_bytes hundreds value_behind
-written zero n h = ap some (omega arith)
+written zero n h = ap Some (omega arith)
 written (suc k) n h =
     let l : n % 100 < 100 = mod-lt n {m = 100} (lit< tt) in
     let high = written k (n / 100) ((div-lt_iff_lt-mul {k = 100} (lit< tt)).1 h) in
     read_last (packed_bytes k (n / 100)) 0 (n / 100) (pack (n % 100)) high (packs (n % 100) l)
-    ∙ ap some (ap (λ (d : ℕ). n / 100 * 100 + d) (two_pack (n % 100) l) ∙ div-add-mod' n 100)
+    ∙ ap Some (ap (λ (d : ℕ). n / 100 * 100 + d) (two_pack (n % 100) l) ∙ div-add-mod' n 100)
 
 bytes_length_lem : (k n : ℕ) → length (packed_bytes k n) ≡ k
 unfolding packed_bytes
@@ -76,9 +76,9 @@ regroup n d h r =
     omega (arith, a, b)
 
 -- what is read is what stood before, and a rest that fits the bytes
-high : (s : List ℕ) (n m : ℕ) → value_behind n s ≡ some m → (r : ℕ) × (m ≡ n * hundreds (length s) + r) × (r < hundreds (length s))
+high : (s : List ℕ) (n m : ℕ) → value_behind n s ≡ Some m → (r : ℕ) × (m ≡ n * hundreds (length s) + r) × (r < hundreds (length s))
 unfolding value_behind hundreds
-high [] n m e = let q : n ≡ m = some-injective n m e in (0, omega arith, omega arith)
+high [] n m e = let q : n ≡ m = cc in (0, omega arith, omega arith)
 high (b ∷ s) n m e =
     let f = first_read b s n m e in
     let h = high s (behind n b) m f.1 in
@@ -86,7 +86,7 @@ high (b ∷ s) n m e =
     let w = subst (λ (x : ℕ). two_digits b * p + h.0 < x) (mul_comm 100 p) (digits_lt (two_lt b f.0) h.2) in
     (two_digits b * p + h.0, h.1 ∙ regroup n (two_digits b) p h.0, w)
 
-read_back : (s : List ℕ) (n m : ℕ) → value_behind n s ≡ some m → packed_bytes (length s) m ≡ s
+read_back : (s : List ℕ) (n m : ℕ) → value_behind n s ≡ Some m → packed_bytes (length s) m ≡ s
 unfolding packed_bytes
 read_back [] n m e = refl
 read_back (b ∷ s) n m e =
@@ -101,9 +101,9 @@ read_back (b ∷ s) n m e =
 
 -- ---- the two theorems
 
-of_told : (o : Option ℕ) (n : ℕ) → read_told o ≡ record { number = success; value = n } → o ≡ some n
-of_told (some m) n e = let q : m ≡ n = ap (λ (a : BoxRead). a.value) e in ap some q
-of_told none n e = let q : ◌≡◌ {A = ℕ} 11 0 = ap (λ (a : BoxRead). a.number) e in absurd (omega arith)
+of_told : (o : Option ℕ) (n : ℕ) → read_told o ≡ record { number = success; value = n } → o ≡ Some n
+of_told (Some m) n e = let q : m ≡ n = ap (λ (a : BoxRead). a.value) e in ap Some q
+of_told None n e = let q : ◌≡◌ {A = ℕ} 11 0 = ap (λ (a : BoxRead). a.number) e in absurd (omega arith)
 
 not_read : (n : ℕ) → no_box refused_length ≡ record { number = success; value = n } → ⊥
 not_read n e = let q : ◌≡◌ {A = ℕ} 12 0 = ap (λ (a : BoxRead). a.number) e in omega arith
@@ -112,7 +112,7 @@ not_success : (k : ℕ) → returns0 (suc k) ≡ returns0 success → ⊥
 not_success k e = let q : suc k ≡ 0 = ap (λ (a : Answered). a.number) e in omega arith
 
 -- what was read fits its length
-within : (s : List ℕ) (n : ℕ) → value_behind 0 s ≡ some n → n < hundreds (length s)
+within : (s : List ℕ) (n : ℕ) → value_behind 0 s ≡ Some n → n < hundreds (length s)
 within s n e = let h = high s 0 n e in omega (arith, h.1, h.2)
 
 pub read_then_write : ReadThenWrite

@@ -10,6 +10,8 @@ use lib.ListN.{length, get_or, replicate, length-replicate, get_or-replicate}
 use Rattle.paths_numbers.proofs.Texts.{by_test, not_both}
 use Rattle.definition_log.specs.meaning.Record.{record_words, most_records, out_count, log_count}
 use Rattle.definition_log.specs.meaning.Sound.{Soundness, broken, soundness, lowest_fault, first_fault, followed, heads_out, wrong_count}
+use Rattle.definition_log.specs.declared.links.Mark.{Mark}
+use Rattle.definition_log.specs.declared.links.Mark.TheVariants.{Unmet}
 use Rattle.definition_log.specs.machine.Walk.{all_marks, fault_by, first_by}
 use Rattle.definition_log.proofs.Marks.{marked, first_by_marks}
 use Rattle.definition_log.proofs.Walked.{marks_say}
@@ -29,7 +31,7 @@ count_some w t =
     (λ m. absurd (not_both {t = true} refl (rw (z, m) at t))))
 
 -- the lowest record at fault by marks that are those of the links: record 0 by its own links, the others by the marks
-lowest_by_marks : (w b x : List ℕ) → 1 ≤ log_count w → ((k : ℕ) → k < log_count w → get_or x k 0 ≡ marked w (followed w) k 0)
+lowest_by_marks : (w b : List ℕ) (x : List Mark) → 1 ≤ log_count w → ((k : ℕ) → k < log_count w → get_or x k Unmet ≡ marked w (followed w) k Unmet)
     → first_by (log_count w) w b x 0 ≡ lowest_fault w b
 unfolding lowest_fault first_by fault_by
 lowest_by_marks w b x s h =
@@ -43,7 +45,7 @@ lowest_by_marks w b x s h =
     go n k e rest = rw (e, rest) refl
 
 -- the lowest record at fault, of marks that start as zeros
-pub checked : (n : ℕ) (w b m q x : List ℕ) (f : Soundness) → x ≡ all_marks w m q → f ≡ first_by (log_count w) w b x 0 → m ≡ replicate n 0
+pub checked : (n : ℕ) (w b : List ℕ) (m : List Mark) (q : List ℕ) (x : List Mark) (f : Soundness) → x ≡ all_marks w m q → f ≡ first_by (log_count w) w b x 0 → m ≡ replicate n Unmet
     → q ≡ replicate n 0 → log_count w ≤ n
     → wrong_count w ≡ false → f ≡ soundness w b
 unfolding soundness
@@ -54,7 +56,7 @@ checked n w b m q x f e g a d h t =
     (λ k i.
     rw e
     (marks_say w m q
-    (λ r j. rw a (get_or-replicate n r 0 0 (omega arith)))
+    (λ r j. rw a (get_or-replicate n r Unmet Unmet (omega arith)))
     (rw (a, length-replicate) h)
     (rw (d, length-replicate) h)
     k i)))

@@ -13,21 +13,23 @@ use Rattle.paths_numbers.proofs.Texts.{by_test}
 use Rattle.definition_log.specs.meaning.Record.{one_of, kind_of}
 use Rattle.definition_log.specs.meaning.Sound.{Link, kinds_in, targets, times, times_reached, unfit, any_of, links_out, texts_out, record_fault}
 use Rattle.definition_log.specs.meaning.Sound.{at_fault, first_fault}
+use Rattle.definition_log.specs.declared.links.Mark.{Mark}
+use Rattle.definition_log.specs.declared.links.Mark.TheVariants.{Unmet, Met, Wrong}
 use Rattle.definition_log.specs.machine.Walk.{first_mark, next_mark, record_wrong, fault_by, first_by}
 
 -- the mark of a record after links, from the one it has
-unfoldable pub marked : List ℕ → List Link → ℕ → ℕ → ℕ
+unfoldable pub marked : List ℕ → List Link → ℕ → Mark → Mark
 marked w [] r m = m
 marked w (l ∷ ls) r m = marked w ls r (cond (eqb l.to r) (next_mark w l m) m)
 
 -- a record at fault stays so
-marked_two : (w : List ℕ) (ls : List Link) (r : ℕ) → marked w ls r 2 ≡ 2
+marked_two : (w : List ℕ) (ls : List Link) (r : ℕ) → marked w ls r Wrong ≡ Wrong
 unfolding marked
 marked_two w [] r = refl
 marked_two w (l ∷ ls) r = by_test (eqb l.to r) (λ t. rw t (marked_two w ls r)) (λ t. rw t (marked_two w ls r))
 
 -- one that was reached is at fault if another link leads to it
-marked_one : (w : List ℕ) (ls : List Link) (r : ℕ) → marked w ls r 1 ≡ cond (leb 1 (times_reached ls r)) 2 1
+marked_one : (w : List ℕ) (ls : List Link) (r : ℕ) → marked w ls r Met ≡ cond (leb 1 (times_reached ls r)) Wrong Met
 unfolding marked times targets
 marked_one w [] r = refl
 marked_one w (l ∷ ls) r =
@@ -45,11 +47,11 @@ unfit_none w (l ∷ ls) r z =
     (λ t. rw t (unfit_none w ls r (omega (arith, rw t at z))))
 
 -- the mark in the end, by the number of links and whether all fit
-abbrev pub mark_for : ℕ → Bool → ℕ
-mark_for t u = cond (leb 1 t) (cond (cond (leb 2 t) true u) 2 1) 0
+abbrev pub mark_for : ℕ → Bool → Mark
+mark_for t u = cond (leb 1 t) (cond (cond (leb 2 t) true u) Wrong Met) Unmet
 
 -- of a record that the first link fits
-mark_fits : (t : ℕ) (u : Bool) → (t ≡ 0 → u ≡ false) → cond (leb 1 t) 2 1 ≡ mark_for (1 + t) u
+mark_fits : (t : ℕ) (u : Bool) → (t ≡ 0 → u ≡ false) → cond (leb 1 t) Wrong Met ≡ mark_for (1 + t) u
 mark_fits t u h =
     by_test (leb 1 t)
     (λ e. rw (e, le-leb 1 (1 + t) (omega arith), le-leb 2 (1 + t) (omega (arith, leb-true 1 t e))) refl)
@@ -58,11 +60,11 @@ mark_fits t u h =
     rw (e, le-leb 1 (1 + t) (omega arith), lt-leb 2 (1 + t) (omega arith), h z) refl)
 
 -- and of one that it does not
-mark_unfit : (t : ℕ) → 2 ≡ mark_for (1 + t) true
+mark_unfit : (t : ℕ) → Wrong ≡ mark_for (1 + t) true
 mark_unfit t = by_test (leb 2 (1 + t)) (λ e. rw (le-leb 1 (1 + t) (omega arith), e) refl) (λ e. rw (le-leb 1 (1 + t) (omega arith), e) refl)
 
 -- the mark of a record that was not met before
-pub marked_zero : (w : List ℕ) (ls : List Link) (r : ℕ) → marked w ls r 0 ≡ mark_for (times_reached ls r) (unfit w ls r)
+pub marked_zero : (w : List ℕ) (ls : List Link) (r : ℕ) → marked w ls r Unmet ≡ mark_for (times_reached ls r) (unfit w ls r)
 unfolding marked times targets unfit first_mark
 marked_zero w [] r = refl
 marked_zero w (l ∷ ls) r =
@@ -79,7 +81,7 @@ any_true true = refl
 any_true false = refl
 
 -- by its mark a record other than 0 is at fault as row 8 asks
-pub fault_by_mark : (w b : List ℕ) (ls : List Link) (r : ℕ) → eqb r 0 ≡ false → fault_by w b (marked w ls r 0) r ≡ at_fault w b ls r
+pub fault_by_mark : (w b : List ℕ) (ls : List Link) (r : ℕ) → eqb r 0 ≡ false → fault_by w b (marked w ls r Unmet) r ≡ at_fault w b ls r
 unfolding fault_by at_fault record_fault record_wrong any_of
 fault_by_mark w b ls r z =
     rw (marked_zero w ls r, z)
@@ -94,7 +96,7 @@ fault_by_mark w b ls r z =
     (λ t. rw t refl))
 
 -- and so is the lowest of them found
-pub first_by_marks : (left : ℕ) (w b m : List ℕ) (ls : List Link) (r : ℕ) → 1 ≤ r → ((k : ℕ) → k < r + left → get_or m k 0 ≡ marked w ls k 0)
+pub first_by_marks : (left : ℕ) (w b : List ℕ) (m : List Mark) (ls : List Link) (r : ℕ) → 1 ≤ r → ((k : ℕ) → k < r + left → get_or m k Unmet ≡ marked w ls k Unmet)
     → first_by left w b m r ≡ first_fault left w b ls r
 unfolding first_by first_fault
 first_by_marks zero w b m ls r p h = refl

@@ -3,13 +3,14 @@ use Prim.Native.Nat.{ℕ, suc, ◌+◌, ◌-◌, ◌≤◌, ◌<◌}
 use mathlib.Core.Path.{◌≡◌, refl, sym, ap, ◌∙◌}
 use mathlib.Core.Bool.{true, false}
 use mathlib.Core.List.{List, map}
-use native.Mathlib.Nat.{sub-zero}
 use native.Mathlib.Omega.{arith}
 use borrow.Author.Tests.{le-ltb, lt-ltb}
 use lib.Dec.{ltb}
 use lib.ListN.{length, get_or, take, length-map, length-take, get_or-map}
 use lib.Seq.{get_or-take}
 use Rattle.definition_log.specs.meaning.Sound.{Soundness, sound, broken, links_of, head_links}
+use Rattle.definition_log.specs.declared.links.Mark.{Mark}
+use Rattle.definition_log.specs.declared.links.Mark.TheVariants.{Unmet}
 use Rattle.definition_log.specs.machine.Walk.{held, link_of, follow_all, expand, all_marks, fault_by, first_by}
 use Rattle.definition_log.proofs.Follow.{length_met}
 
@@ -22,27 +23,23 @@ met_at : (q : List ℕ) (n i : ℕ) → i < n → get_or (map link_of (take n q)
 met_at q n i h = get_or-map link_of (take n q) i 0 ∙ ap link_of (get_or-take n q i 0 h)
 
 -- the same of what is held
-held_test : (m q : List ℕ) (n i : ℕ) → i < n → i < length q → ltb i (length (held m q n).met) ≡ true
+held_test : (m : List Mark) (q : List ℕ) (n i : ℕ) → i < n → i < length q → ltb i (length (held m q n).met) ≡ true
 unfolding held
 held_test m q n i h k = lt-ltb _ _ (met_within q n i h k)
 
 -- and its link
-held_link : (m q : List ℕ) (n i : ℕ) → i < n → get_or (held m q n).met i (link_of 0) ≡ link_of (get_or q i 0)
+held_link : (m : List Mark) (q : List ℕ) (n i : ℕ) → i < n → get_or (held m q n).met i (link_of 0) ≡ link_of (get_or q i 0)
 unfolding held
 held_link m q n i h = met_at q n i h
 
--- all records are left at first
-pub walk_starts : (w m q : List ℕ) (n : ℕ) → (expand (length q) w 0 (held m q n)).marks ≡ (expand (length q - 0) w 0 (held m q n)).marks
-walk_starts w m q n = rw sub-zero refl
-
 -- those that record 0's links lead to
-pub walk_all : (w m q m' q' : List ℕ) (n : ℕ) → length q' ≡ length q → held m' q' n ≡ follow_all w (head_links w) (held m q 0)
+pub walk_all : (w : List ℕ) (m : List Mark) (q : List ℕ) (m' : List Mark) (q' : List ℕ) (n : ℕ) → length q' ≡ length q → held m' q' n ≡ follow_all w (head_links w) (held m q 0)
     → (expand (length q') w 0 (held m' q' n)).marks ≡ all_marks w m q
 unfolding all_marks
 walk_all w m q m' q' n l e = rw (l, e) refl
 
 -- x is what the marks are in the end, and the invariant says that it is decided by the records that are left
-module _ (w m q : List ℕ) (n i : ℕ) (x : List ℕ) (inv : x ≡ (expand (length q - i) w i (held m q n)).marks) where
+module _ (w : List ℕ) (m : List Mark) (q : List ℕ) (n i : ℕ) (x : List Mark) (inv : x ≡ (expand (length q - i) w i (held m q n)).marks) where
   -- the queue has no more
   pub walk_end : length q ≤ i → m ≡ x
   unfolding expand held
@@ -56,7 +53,7 @@ module _ (w m q : List ℕ) (n i : ℕ) (x : List ℕ) (inv : x ≡ (expand (len
       sym (inv ∙ rw (e, length_met q n (omega arith), le-ltb i n h) refl)
 
   -- the links of one are followed
-  pub walk_next : (m' q' : List ℕ) (n' : ℕ) → i < n → i < length q → length q' ≡ length q
+  pub walk_next : (m' : List Mark) (q' : List ℕ) (n' : ℕ) → i < n → i < length q → length q' ≡ length q
       → held m' q' n' ≡ follow_all w (links_of w (link_of (get_or q i 0))) (held m q n)
       → x ≡ (expand (length q' - (i + 1)) w (i + 1) (held m' q' n')).marks
   unfolding expand
@@ -71,14 +68,14 @@ module _ (w m q : List ℕ) (n i : ℕ) (x : List ℕ) (inv : x ≡ (expand (len
       met_link = held_link m q n i h
 
 -- x is the answer, and the invariant says that it is decided by the records that are left
-module _ (w b m : List ℕ) (n r : ℕ) (x : Soundness) (inv : x ≡ first_by (n - r) w b m r) where
+module _ (w b : List ℕ) (m : List Mark) (n r : ℕ) (x : Soundness) (inv : x ≡ first_by (n - r) w b m r) where
   -- this one is at fault
-  pub fault_here : r < n → fault_by w b (get_or m r 0) r ≡ true → broken r ≡ x
+  pub fault_here : r < n → fault_by w b (get_or m r Unmet) r ≡ true → broken r ≡ x
   unfolding first_by
   fault_here h t = let e : n - r ≡ suc (n - (r + 1)) = omega arith in sym (inv ∙ rw (e, t) refl)
 
   -- this one is not
-  pub fault_later : r < n → fault_by w b (get_or m r 0) r ≡ false → x ≡ first_by (n - (r + 1)) w b m (r + 1)
+  pub fault_later : r < n → fault_by w b (get_or m r Unmet) r ≡ false → x ≡ first_by (n - (r + 1)) w b m (r + 1)
   unfolding first_by
   fault_later h t = let e : n - r ≡ suc (n - (r + 1)) = omega arith in inv ∙ rw (e, t) refl
 

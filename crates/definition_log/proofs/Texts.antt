@@ -1,29 +1,18 @@
 -- Texts in the bytes of a log, and words outside it.
 use Prim.Native.Nat.{ℕ, suc, ◌+◌, ◌-◌, ◌≤◌, ◌<◌}
-use mathlib.Core.Path.{◌≡◌, refl, sym, ◌∙◌}
+use mathlib.Core.Path.{◌≡◌, refl, ◌∙◌}
 use mathlib.Core.List.{List, [], ◌∷◌, ◌++◌}
 use native.Mathlib.Omega.{arith}
-use lib.ListN.{length, get_or, take, drop, set, drop_of_length-le, length-drop, length-set}
-use lib.Seq.{take_all, take-nil, length-take-le, get_or-take, get_or-drop}
+use lib.ListN.{length, get_or, take, drop, set, length-drop, length-set}
+use lib.Seq.{length-take-le, get_or-take, get_or-drop}
 use Rattle.paths_numbers.specs.meaning.Text.{written}
-use Rattle.paths_numbers.proofs.Texts.{rest, no_rest}
 use Rattle.paths_numbers.proofs.Written.{written_nil, written_cons}
 
--- a text that starts behind the bytes is empty
-pub text_behind : (bytes : List ℕ) (start size : ℕ) → length bytes ≤ start
-    → take (length bytes - length bytes) (drop (length bytes) bytes) ≡ take size (drop start bytes)
-text_behind bytes start size h = no_rest bytes ∙ rw (drop_of_length-le bytes h) (sym (take-nil size))
-
--- one that ends within them
+-- a text that ends within the bytes
 pub text_within : (bytes : List ℕ) (start size : ℕ) → take (start + size - start) (drop start bytes) ≡ take size (drop start bytes)
 text_within bytes start size =
     let e : start + size - start ≡ size = omega arith in
     rw e refl
-
--- one that would end behind them ends with them
-pub text_to_end : (bytes : List ℕ) (start size : ℕ) → length bytes - start ≤ size
-    → take (length bytes - start) (drop start bytes) ≡ take size (drop start bytes)
-text_to_end bytes start size h = rest bytes start ∙ sym (take_all size (drop start bytes) (rw length-drop h))
 
 -- a part of a list
 abbrev pub part : List ℕ → ℕ → ℕ → List ℕ

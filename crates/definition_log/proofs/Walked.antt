@@ -3,7 +3,7 @@
 -- only once, neither the queue nor the bound on links is too small.
 use Prim.Native.Nat.{ℕ, zero, suc, ◌+◌, ◌*◌, ◌≤◌, ◌<◌}
 use mathlib.Core.Path.{◌≡◌, refl, sym, ap, ◌∙◌}
-use mathlib.Core.Bool.{cond}
+use mathlib.Core.Bool.{true, false, cond}
 use mathlib.Core.List.{List, [], ◌∷◌, ◌++◌, append_assoc, append-nil}
 use native.Mathlib.Nat.{zero-add}
 use native.Mathlib.Numerals.{add-one}
@@ -15,57 +15,58 @@ use lib.Seq.{drop-cons, drop-append-le, get_or-set_same, get_or-set_other}
 use Rattle.paths_numbers.proofs.Texts.{by_test}
 use Rattle.definition_log.specs.meaning.Record.{kind_of, one_of, log_count}
 use Rattle.definition_log.specs.meaning.Sound.{kinds_in, Link, links_of, head_links, times, walk, most_links, followed}
-use Rattle.definition_log.specs.machine.Walk.{link_of, stored, first_mark, next_mark, Held, held, follow, follow_all, expand, all_marks}
+use Rattle.definition_log.specs.declared.links.Mark.{Mark}
+use Rattle.definition_log.specs.declared.links.Mark.TheVariants.{Unmet, Met}
+use Rattle.definition_log.specs.machine.Walk.{link_of, stored, unmet, first_mark, next_mark, Held, held, follow, follow_all, expand, all_marks}
 use Rattle.definition_log.proofs.Walk.{Inside, one, inside_of, inside_heads, length_of, length_heads, leads_below}
 use Rattle.definition_log.proofs.Marks.{marked}
 
 -- how many of the first n records are not met yet
-unfoldable unmarked : ℕ → List ℕ → ℕ
+unfoldable unmarked : ℕ → List Mark → ℕ
 unmarked zero m = 0
-unmarked (suc k) m = cond (eqb (get_or m k 0) 0) 1 0 + unmarked k m
+unmarked (suc k) m = cond (unmet (get_or m k Unmet)) 1 0 + unmarked k m
 
 -- they are at most n
-unmarked_most : (n : ℕ) (m : List ℕ) → unmarked n m ≤ n
+unmarked_most : (n : ℕ) (m : List Mark) → unmarked n m ≤ n
 unfolding unmarked
 unmarked_most zero m = omega arith
 unmarked_most (suc k) m =
-    by_test (eqb (get_or m k 0) 0)
+    by_test (unmet (get_or m k Unmet))
     (λ t. rw t (omega (arith, unmarked_most k m)))
     (λ t. rw t (omega (arith, unmarked_most k m)))
 
 -- the mark of another record does not change their number
-unmarked_out : (n : ℕ) (m : List ℕ) (i v : ℕ) → n ≤ i → unmarked n (set m i v) ≡ unmarked n m
+unmarked_out : (n : ℕ) (m : List Mark) (i : ℕ) (v : Mark) → n ≤ i → unmarked n (set m i v) ≡ unmarked n m
 unfolding unmarked
 unmarked_out zero m i v h = refl
-unmarked_out (suc k) m i v h = rw (get_or-set_other m i k v 0 (λ e. omega arith), unmarked_out k m i v (omega arith)) refl
+unmarked_out (suc k) m i v h = rw (get_or-set_other m i k v Unmet (λ e. omega arith), unmarked_out k m i v (omega arith)) refl
 
 -- a mark takes its record out of their number
-module _ (m : List ℕ) (i v : ℕ) (l : i < length m) (nz : v ≡ 0 → ⊥) where
-  unmarked_set : (n : ℕ) → i < n → unmarked n m ≡ cond (eqb (get_or m i 0) 0) 1 0 + unmarked n (set m i v)
+module _ (m : List Mark) (i : ℕ) (v : Mark) (l : i < length m) (nz : unmet v ≡ false) where
+  unmarked_set : (n : ℕ) → i < n → unmarked n m ≡ cond (unmet (get_or m i Unmet)) 1 0 + unmarked n (set m i v)
   unfolding unmarked
   unmarked_set zero h = absurd (omega arith)
   unmarked_set (suc k) h =
       by_test (eqb i k)
       (λ t.
       let e : i ≡ k = eqb-true i k t in
-      rw (← e, get_or-set_same m i v 0 l, ne_eqb v 0 nz, unmarked_out i m i v (omega arith), zero-add) refl)
+      rw (← e, get_or-set_same m i v Unmet l, nz, unmarked_out i m i v (omega arith), zero-add) refl)
       (λ t.
-      let o : get_or (set m i v) k 0 ≡ get_or m k 0 = get_or-set_other m i k v 0 (λ e. eqb-false i k t (sym e)) in
+      let o : get_or (set m i v) k Unmet ≡ get_or m k Unmet = get_or-set_other m i k v Unmet (λ e. eqb-false i k t (sym e)) in
       rw (o, unmarked_set k (omega (arith, eqb-false i k t)))
-      (swap (cond (eqb (get_or m k 0) 0) 1 0) (cond (eqb (get_or m i 0) 0) 1 0) (unmarked k (set m i v))))
+      (swap (cond (unmet (get_or m k Unmet)) 1 0) (cond (unmet (get_or m i Unmet)) 1 0) (unmarked k (set m i v))))
     where
       swap : (a b c : ℕ) → a + (b + c) ≡ b + (a + c)
       swap a b c = omega arith
 
--- a first mark is not 0
-first_not_zero : (w : List ℕ) (l : Link) → first_mark w l ≡ 0 → ⊥
+-- a first mark says that the record was met
+first_met : (w : List ℕ) (l : Link) → unmet (first_mark w l) ≡ false
 unfolding first_mark
-first_not_zero w l e =
-    by_test (one_of (kind_of w l.to) (kinds_in l.place)) (λ t. omega (arith, rw t at e)) (λ t. omega (arith, rw t at e))
+first_met w l = by_test (one_of (kind_of w l.to) (kinds_in l.place)) (λ t. rw t refl) (λ t. rw t refl)
 
--- nor is a later one
-next_not_zero : (w : List ℕ) (l : Link) (m : ℕ) → next_mark w l m ≡ 0 → ⊥
-next_not_zero w l m e = by_test (eqb m 0) (λ t. first_not_zero w l (rw t at e)) (λ t. omega (arith, rw t at e))
+-- and so does a later one
+next_met : (w : List ℕ) (l : Link) (m : Mark) → unmet (next_mark w l m) ≡ false
+next_met w l m = by_test (unmet m) (λ t. rw t (first_met w l)) (λ t. rw t refl)
 
 -- the links of the records that wait
 unfoldable flat : List ℕ → List Link → List Link
@@ -80,7 +81,7 @@ flat_last w (b ∷ a) l = rw (flat_last w a l) (sym (append_assoc (links_of w b)
 
 -- the marks and the queue fit the walk: the same records were met, and there is room in the queue and in the bound for those that were not
 record Ready (w : List ℕ) (head left : ℕ) (s : Held) (met : List ℕ) (ls : List Link) : Type 0 where
-  agree : (r : ℕ) → r < log_count w → eqb (get_or s.marks r 0) 0 ≡ eqb (times r met) 0
+  agree : (r : ℕ) → r < log_count w → unmet (get_or s.marks r Unmet) ≡ eqb (times r met) 0
   inside : log_count w ≤ length s.marks
   room : length s.met + unmarked (log_count w) s.marks ≤ s.room
   begun : head ≤ length s.met
@@ -96,44 +97,44 @@ walk_none (suc left) w met = refl
 module _ (w : List ℕ) (head left : ℕ) (s : Held) (met : List ℕ) (l : Link) (ls : List Link) (ready : Ready w head (suc left) s met (l ∷ ls))
     (lt : l.to < log_count w) where
   -- there is room for a record that is met first
-  room_for : get_or s.marks l.to 0 ≡ 0 → length s.met < s.room
+  room_for : unmet (get_or s.marks l.to Unmet) ≡ true → length s.met < s.room
   room_for z =
       omega (
         arith,
         ready.room,
         ready.inside,
-        rw z at (unmarked_set s.marks l.to 1 (omega (arith, ready.inside)) (λ e. omega arith)
+        rw z at (unmarked_set s.marks l.to Met (omega (arith, ready.inside)) refl
             (log_count w) lt),
       )
 
   -- the queue with it
-  met_new : get_or s.marks l.to 0 ≡ 0 → (follow w l s).met ≡ s.met ++ l ∷ []
+  met_new : unmet (get_or s.marks l.to Unmet) ≡ true → (follow w l s).met ≡ s.met ++ l ∷ []
   unfolding follow
   met_new z = rw (z, lt-ltb _ _ (room_for z)) refl
 
   -- the queue where it was met before
-  met_old : (get_or s.marks l.to 0 ≡ 0 → ⊥) → (follow w l s).met ≡ s.met
+  met_old : unmet (get_or s.marks l.to Unmet) ≡ false → (follow w l s).met ≡ s.met
   unfolding follow
-  met_old n = rw (ne_eqb _ _ n) refl
+  met_old n = rw n refl
 
   -- a record's mark
-  mark_after : (r : ℕ) → r < log_count w → get_or (follow w l s).marks r 0 ≡ cond (eqb l.to r) (next_mark w l (get_or s.marks r 0))
-      (get_or s.marks r 0)
+  mark_after : (r : ℕ) → r < log_count w → get_or (follow w l s).marks r Unmet ≡ cond (eqb l.to r) (next_mark w l (get_or s.marks r Unmet))
+      (get_or s.marks r Unmet)
   unfolding follow stored
   mark_after r h =
       by_test (eqb l.to r)
       (λ t.
       let e : l.to ≡ r = eqb-true l.to r t in
-      rw (t, ← e) (get_or-set_same s.marks l.to _ 0 (omega (arith, ready.inside))))
-      (λ t. rw t (get_or-set_other s.marks l.to r _ 0 (λ e. eqb-false l.to r t (sym e))))
+      rw (t, ← e) (get_or-set_same s.marks l.to _ Unmet (omega (arith, ready.inside))))
+      (λ t. rw t (get_or-set_other s.marks l.to r _ Unmet (λ e. eqb-false l.to r t (sym e))))
 
   -- the records that are not met yet
-  unmarked_after : unmarked (log_count w) s.marks ≡ cond (eqb (get_or s.marks l.to 0) 0) 1 0 + unmarked (log_count w)
+  unmarked_after : unmarked (log_count w) s.marks ≡ cond (unmet (get_or s.marks l.to Unmet)) 1 0 + unmarked (log_count w)
       (follow w l s).marks
   unfolding follow stored
   unmarked_after =
-      unmarked_set s.marks l.to (next_mark w l (get_or s.marks l.to 0)) (omega (arith, ready.inside))
-      (next_not_zero w l (get_or s.marks l.to 0)) (log_count w) lt
+      unmarked_set s.marks l.to (next_mark w l (get_or s.marks l.to Unmet)) (omega (arith, ready.inside))
+      (next_met w l (get_or s.marks l.to Unmet)) (log_count w) lt
 
   -- the number of marks
   length_after : length (follow w l s).marks ≡ length s.marks
@@ -146,7 +147,7 @@ module _ (w : List ℕ) (head left : ℕ) (s : Held) (met : List ℕ) (l : Link)
   room_after = refl
 
   -- the links that wait, of a record that is met first
-  waits_new : get_or s.marks l.to 0 ≡ 0 → flat w (drop head (follow w l s).met) ≡ flat w (drop head s.met) ++ links_of w l
+  waits_new : unmet (get_or s.marks l.to Unmet) ≡ true → flat w (drop head (follow w l s).met) ≡ flat w (drop head s.met) ++ links_of w l
   waits_new z = rw (met_new z, drop-append-le head s.met (l ∷ []) ready.begun) (flat_last w (drop head s.met) l)
 
   -- and of any, as in the walk
@@ -154,24 +155,24 @@ module _ (w : List ℕ) (head left : ℕ) (s : Held) (met : List ℕ) (l : Link)
       (drop head (follow w l s).met)
   waits_after =
       by_test (eqb (times l.to met) 0)
-      (λ t. rw (t, waits_new (eqb-true _ _ (ready.agree l.to lt ∙ t))) (append_assoc ls (flat w (drop head s.met)) (links_of w l)))
-      (λ t. rw (t, met_old (eqb-false _ _ (ready.agree l.to lt ∙ t))) (append-nil (ls ++ flat w (drop head s.met))))
+      (λ t. rw (t, waits_new (ready.agree l.to lt ∙ t)) (append_assoc ls (flat w (drop head s.met)) (links_of w l)))
+      (λ t. rw (t, met_old (ready.agree l.to lt ∙ t)) (append-nil (ls ++ flat w (drop head s.met))))
 
   -- the records that were met
-  agree_after : (r : ℕ) → r < log_count w → eqb (get_or (follow w l s).marks r 0) 0 ≡ eqb (times r (l.to ∷ met)) 0
+  agree_after : (r : ℕ) → r < log_count w → unmet (get_or (follow w l s).marks r Unmet) ≡ eqb (times r (l.to ∷ met)) 0
   unfolding times
   agree_after r h =
       rw (mark_after r h)
       (by_test (eqb l.to r)
-      (λ t. rw (t, ne_eqb _ 0 (next_not_zero w l (get_or s.marks r 0)), ne_eqb (1 + times r met) 0 (λ e. omega arith)) refl)
+      (λ t. rw (t, next_met w l (get_or s.marks r Unmet), ne_eqb (1 + times r met) 0 (λ e. omega arith)) refl)
       (λ t. rw (t, zero-add) (ready.agree r h)))
 
   -- so the marks and the queue fit the walk again
   ready_after : Ready w head left (follow w l s) (l.to ∷ met) ls
   ready_after =
-      by_test (eqb (get_or s.marks l.to 0) 0)
+      by_test (unmet (get_or s.marks l.to Unmet))
       (λ t.
-      let z : get_or s.marks l.to 0 ≡ 0 = eqb-true _ _ t in
+      let z : unmet (get_or s.marks l.to Unmet) ≡ true = t in
       let n : length (follow w l s).met ≡ length s.met + 1 = ap length (met_new z) ∙ length-append s.met (l ∷ []) in
       let f : length (flat w (drop head (follow w l s).met)) ≡ length (flat w (drop head s.met)) + length (links_of w l) =
       ap length (waits_new z) ∙ length-append (flat w (drop head s.met)) (links_of w l) in
@@ -184,9 +185,9 @@ module _ (w : List ℕ) (head left : ℕ) (s : Held) (met : List ℕ) (l : Link)
         fuel = omega (arith, f, u, length_of w l, ready.fuel);
       })
       (λ t.
-      let n : length (follow w l s).met ≡ length s.met = ap length (met_old (eqb-false _ _ t)) in
+      let n : length (follow w l s).met ≡ length s.met = ap length (met_old t) in
       let f : length (flat w (drop head (follow w l s).met)) ≡ length (flat w (drop head s.met)) =
-      ap (λ (x : List Link). length (flat w (drop head x))) (met_old (eqb-false _ _ t)) in
+      ap (λ (x : List Link). length (flat w (drop head x))) (met_old t) in
       let u : unmarked (log_count w) s.marks ≡ 0 + unmarked (log_count w) (follow w l s).marks = rw t at unmarked_after in
       record {
         agree = agree_after;
@@ -197,16 +198,16 @@ module _ (w : List ℕ) (head left : ℕ) (s : Held) (met : List ℕ) (l : Link)
       })
 
 -- a walk in which the records from an index on are still to come, and which gives a record its mark in the end
-record Went (w : List ℕ) (head : ℕ) (s : Held) (r final : ℕ) : Type 0 where
+record Went (w : List ℕ) (head : ℕ) (s : Held) (r : ℕ) (final : Mark) : Type 0 where
   left : ℕ
   met : List ℕ
   ready : Ready w head left s met []
-  same : final ≡ marked w (walk left w met (flat w (drop head s.met))) r (get_or s.marks r 0)
+  same : final ≡ marked w (walk left w met (flat w (drop head s.met))) r (get_or s.marks r Unmet)
 
-module _ (w : List ℕ) (head r final : ℕ) (lt : r < log_count w) where
+module _ (w : List ℕ) (head r : ℕ) (final : Mark) (lt : r < log_count w) where
   -- links followed before them
   went_links : (ls : List Link) (left : ℕ) (s : Held) (met : List ℕ) → Inside w ls → Ready w head left s met ls
-      → final ≡ marked w (walk left w met (ls ++ flat w (drop head s.met))) r (get_or s.marks r 0)
+      → final ≡ marked w (walk left w met (ls ++ flat w (drop head s.met))) r (get_or s.marks r Unmet)
       → Went w head (follow_all w ls s) r final
   unfolding follow_all walk marked
   went_links [] left s met i y e = record { left = left; met = met; ready = y; same = e }
@@ -222,9 +223,9 @@ unfolding follow_all follow
 room_all w [] s = refl
 room_all w (l ∷ ls) s = room_all w ls (follow w l s)
 
-module _ (w : List ℕ) (r final : ℕ) (lt : r < log_count w) where
+module _ (w : List ℕ) (r : ℕ) (final : Mark) (lt : r < log_count w) where
   -- no record to come
-  went_end : (head : ℕ) (s : Held) → Went w head s r final → length s.met ≤ head → get_or s.marks r 0 ≡ final
+  went_end : (head : ℕ) (s : Held) → Went w head s r final → length s.met ≤ head → get_or s.marks r Unmet ≡ final
   unfolding flat marked
   went_end head s g h =
       sym (g.same ∙ rw (drop_of_length-le s.met h, walk_none g.left w g.met) refl)
@@ -245,7 +246,7 @@ module _ (w : List ℕ) (r final : ℕ) (lt : r < log_count w) where
       (g.same ∙ rw e refl)
 
   -- all records to come
-  went_all : (fuel head : ℕ) (s : Held) → Went w head s r final → s.room ≤ head + fuel → get_or (expand fuel w head s).marks r 0 ≡ final
+  went_all : (fuel head : ℕ) (s : Held) → Went w head s r final → s.room ≤ head + fuel → get_or (expand fuel w head s).marks r Unmet ≡ final
   unfolding expand
   went_all zero head s g h = went_end head s g (omega (arith, g.ready.room))
   went_all (suc fuel) head s g h =
@@ -257,7 +258,7 @@ module _ (w : List ℕ) (r final : ℕ) (lt : r < log_count w) where
       (λ t. rw t (went_end head s g (ltb-false _ _ t)))
 
 -- the start: no record is met, and record 0's links wait
-ready_start : (w m q : List ℕ) → ((r : ℕ) → r < log_count w → get_or m r 0 ≡ 0) → log_count w ≤ length m → log_count w ≤ length q
+ready_start : (w : List ℕ) (m : List Mark) (q : List ℕ) → ((r : ℕ) → r < log_count w → get_or m r Unmet ≡ Unmet) → log_count w ≤ length m → log_count w ≤ length q
     → Ready w 0 (most_links w) (held m q 0) [] (head_links w)
 unfolding held flat times
 ready_start w m q z a b =
@@ -270,26 +271,26 @@ ready_start w m q z a b =
     }
 
 -- the links that wait then
-start_waits : (w m q : List ℕ) → head_links w ++ flat w (drop 0 (held m q 0).met) ≡ head_links w
+start_waits : (w : List ℕ) (m : List Mark) (q : List ℕ) → head_links w ++ flat w (drop 0 (held m q 0).met) ≡ head_links w
 unfolding held flat
 start_waits w m q = append-nil (head_links w)
 
 -- the marks then
-start_marks : (m q : List ℕ) → (held m q 0).marks ≡ m
+start_marks : (m : List Mark) (q : List ℕ) → (held m q 0).marks ≡ m
 unfolding held
 start_marks m q = refl
 
 -- the room then
-start_room : (m q : List ℕ) → (held m q 0).room ≡ length q
+start_room : (m : List Mark) (q : List ℕ) → (held m q 0).room ≡ length q
 unfolding held
 start_room m q = refl
 
 -- the marks in the end are those after all links that are followed
-pub marks_say : (w m q : List ℕ) → ((r : ℕ) → r < log_count w → get_or m r 0 ≡ 0) → log_count w ≤ length m → log_count w ≤ length q
-    → (r : ℕ) → r < log_count w → get_or (all_marks w m q) r 0 ≡ marked w (followed w) r 0
+pub marks_say : (w : List ℕ) (m : List Mark) (q : List ℕ) → ((r : ℕ) → r < log_count w → get_or m r Unmet ≡ Unmet) → log_count w ≤ length m → log_count w ≤ length q
+    → (r : ℕ) → r < log_count w → get_or (all_marks w m q) r Unmet ≡ marked w (followed w) r Unmet
 unfolding all_marks followed
 marks_say w m q z a b r h =
-    went_all w r (marked w (followed w) r 0) h (length q) 0 (follow_all w (head_links w) (held m q 0))
-    (went_links w 0 r (marked w (followed w) r 0) h (head_links w) (most_links w) (held m q 0) [] (inside_heads w) (ready_start w m q z a b)
+    went_all w r (marked w (followed w) r Unmet) h (length q) 0 (follow_all w (head_links w) (held m q 0))
+    (went_links w 0 r (marked w (followed w) r Unmet) h (head_links w) (most_links w) (held m q 0) [] (inside_heads w) (ready_start w m q z a b)
     (rw (start_waits w m q, start_marks m q, z r h) refl))
     (omega (arith, room_all w (head_links w) (held m q 0), start_room m q))

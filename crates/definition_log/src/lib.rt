@@ -6,6 +6,7 @@ pub mod chain;
 pub mod kinds;
 pub mod layout;
 pub mod limits;
+mod links;
 pub mod lists;
 pub mod parts;
 pub mod record;

@@ -6,12 +6,5 @@ ghost use Rattle.definition_log.specs.meaning.Record.{one_of};
 pub fn one_of(k: u32, list: &[u32]) -> bool
     ensures { result ≡ one_of k list.now }
 {
-    let mut i = 0;
-    while i < list.len() {
-        if k == list[i] {
-            return true;
-        }
-        i += 1;
-    }
-    false
+    list.contains(&k)
 }

@@ -7,7 +7,7 @@ use crate::layout;
 use crate::record::out_field;
 
 // A span: where it starts and where it ends.
-#[derive(Clone, Copy)]
+#[derive(Clone, Copy, Debug, PartialEq, Eq)]
 pub struct Span {
     pub from: u32,
     pub to: u32,

@@ -11,10 +11,7 @@ pub fn out_field(words: &[u32], r: u32, i: u32) -> u32
     ensures { result ≡ out_field words.now r i }
 {
     let at = (r as usize) * layout::RECORD_WORDS + (i as usize);
-    if at < words.len() {
-        return words[at];
-    }
-    0
+    words.get(at).copied().unwrap_or(0)
 }
 
 // The kind of a record.
@@ -42,38 +39,23 @@ pub fn child_of(words: &[u32], r: u32) -> u32
 pub fn log_count(words: &[u32]) -> u32
     ensures { result ≡ log_count words.now }
 {
-    let n = words.len() / layout::RECORD_WORDS;
-    if n <= MOST_RECORDS {
-        return n as u32;
-    }
-    MOST_RECORDS as u32
+    (words.len() / layout::RECORD_WORDS).min(MOST_RECORDS) as u32
 }
 
 // Whether a link leads to a record of a log of this many records.
 pub fn leads_to(words: &[u32], r: u32) -> bool
     ensures { result ≡ leads words.now r }
 {
-    if r == 0 {
-        return false;
-    }
-    r < log_count(words)
+    r != 0 && r < log_count(words)
 }
 
 // The bytes of a text, as far as there are any.
 pub fn text_in(bytes: &[u8], start: u32, size: u32) -> &[u8]
     ensures { result.now ≡ text_in bytes.now start size }
 {
-    let n = bytes.len();
-    let from = start as usize;
-    if n <= from {
-        return &bytes[n..];
-    }
-    let most = n - from;
-    if (size as usize) < most {
-        let to = from + (size as usize);
-        return &bytes[from..to];
-    }
-    &bytes[from..]
+    let from = bytes.len().min(start as usize);
+    let behind = &bytes[from..];
+    &behind[..behind.len().min(size as usize)]
 }
 
 // A record's first text.

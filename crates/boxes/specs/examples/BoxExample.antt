@@ -1,11 +1,10 @@
 -- 02, request 1, in its smallest cases: the checker computes them.
-use Rattle.std.specs.Prelude.{ℕ, ◌-◌, ◌^◌, ◌≡◌, refl, List, [], ◌∷◌}
-use Rattle.std.proofs.Math.Option.{some}
+use Rattle.std.specs.Prelude.{ℕ, ◌-◌, ◌^◌, ◌≡◌, refl, List, [], ◌∷◌, Some}
 use Rattle.boxes.specs.meaning.Box.{is_packed, two_digits, pack, value_behind, packed_value, packed_bytes, hundreds, is_length}
 use Rattle.boxes.specs.meaning.Box.{no_box, read_answer, returns0, write_number, write_answer, write_out}
 
 -- high digit first, in a byte and along the bytes
-pub digits : (packed_value (0x12 ∷ 0x34 ∷ []) ≡ some 1234) × (packed_value (0x00 ∷ 0x07 ∷ []) ≡ some 7) × (packed_value (0x99 ∷ []) ≡ some 99)
+pub digits : (packed_value (0x12 ∷ 0x34 ∷ []) ≡ Some 1234) × (packed_value (0x00 ∷ 0x07 ∷ []) ≡ Some 7) × (packed_value (0x99 ∷ []) ≡ Some 99)
 unfolding packed_value value_behind is_packed two_digits
 digits = (refl, refl, refl)
 

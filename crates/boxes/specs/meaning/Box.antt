@@ -1,10 +1,8 @@
 -- 02, request 1: "Depots store box numbers as packed decimal, two digits a byte, high digit first."
 use Rattle.std.specs.Prelude.{ℕ, zero, suc, ◌+◌, ◌*◌, ◌/◌, ◌%◌, ◌≡◌, Bool, false, cond, List, [], ◌∷◌, ◌++◌, eqb, leb, ltb, length}
-use Rattle.std.proofs.Math.Option.{Option, some, none}
-use Rattle.definition_log.specs.meaning.Answer.{Answered, success, refused_digit, refused_length, refused_number}
-use Rattle.boxes.specs.declared.box_number.Parsed.{Parsed}
-use Rattle.boxes.specs.declared.box_number.Parsed.TheVariants.{Value, Digit}
-use Rattle.boxes.specs.declared.box_number.BoxRead.{BoxRead}
+use Rattle.std.specs.Prelude.{Option, Some, None, Result, Ok, Err}
+use Rattle.definition_log.specs.declared.answer.Refusal.{Refusal}
+use Rattle.definition_log.specs.meaning.Answer.{Answered, success, refused_digit, refused_length, refused_number, refused}
 
 -- a byte's high digit and its low one, both at most 9; what they stand for; and two digits as a byte
 unfoldable pub is_packed : ℕ → Bool
@@ -18,8 +16,8 @@ pack d = d / 10 * 16 + d % 10
 
 -- what bytes stand for, none where a digit is above 9; n is what the bytes before them stand for
 unfoldable pub value_behind : ℕ → List ℕ → Option ℕ
-value_behind n [] = some n
-value_behind n (b ∷ s) = cond (is_packed b) (value_behind (n * 100 + two_digits b) s) none
+value_behind n [] = Some n
+value_behind n (b ∷ s) = cond (is_packed b) (value_behind (n * 100 + two_digits b) s) None
 
 unfoldable pub packed_value : List ℕ → Option ℕ
 packed_value s = value_behind 0 s
@@ -41,18 +39,23 @@ most_bytes = 8
 unfoldable pub is_length : ℕ → Bool
 is_length k = cond (eqb k 0) false (leb k most_bytes)
 
--- what an answer of the reader within tells
-abbrev pub parsed_told : Parsed → Option ℕ
-parsed_told (Value n) = some n
-parsed_told Digit = none
+-- a box number with number 0, or why there is none, with value 0
+pub record BoxRead : Type 0 where
+  pub number : ℕ
+  pub value : ℕ
 
 -- reading: 12, then 11, each with value 0; or success with the number
 abbrev pub no_box : ℕ → BoxRead
 no_box number = record { number = number; value = 0 }
 
 abbrev pub read_told : Option ℕ → BoxRead
-read_told (some n) = record { number = success; value = n }
-read_told none = no_box refused_digit
+read_told (Some n) = record { number = success; value = n }
+read_told None = no_box refused_digit
+
+-- what an answer of the reader tells
+abbrev pub box_told : Result ℕ Refusal → BoxRead
+box_told (Ok n) = record { number = success; value = n }
+box_told (Err e) = no_box (refused e).number
 
 unfoldable pub read_answer : List ℕ → BoxRead
 read_answer s = cond (is_length (length s)) (read_told (packed_value s)) (no_box refused_length)

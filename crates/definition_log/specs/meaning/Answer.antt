@@ -1,16 +1,13 @@
 -- 01, "Answers": what a call answers, and the numbers of the table.
-use Rattle.std.specs.Prelude.{ℕ}
+use Rattle.std.specs.Prelude.{ℕ, ⊤, Result, Ok, Err}
 use Rattle.definition_log.specs.meaning.Sound.{Soundness, sound, broken}
-use Rattle.definition_log.specs.declared.answer.Answer.{Answer}
+use Rattle.definition_log.specs.declared.answer.Refusal.{Refusal}
+use Rattle.definition_log.specs.declared.answer.Refusal.TheVariants as R
 
 -- 01's number and what is returned
 pub record Answered : Type 0 where
   pub number : ℕ
   pub returned : ℕ
-
--- the answer's two numbers, as code holds them
-abbrev pub told : Answer → Answered
-told a = record { number = a.number; returned = a.returned }
 
 -- "Success is number 0"
 abbrev pub success : ℕ
@@ -67,9 +64,37 @@ refused_files = 14
 abbrev pub refused_level : ℕ
 refused_level = 18
 
+-- a refusal's two numbers
+abbrev pub refused : Refusal → Answered
+refused R.Size = record { number = refused_size; returned = 0 }
+refused (R.Link r) = record { number = refused_link; returned = r }
+refused (R.Text r) = record { number = refused_text; returned = r }
+refused (R.Kind r) = record { number = refused_kind; returned = r }
+refused (R.Name r) = record { number = refused_name; returned = r }
+refused (R.Depth r) = record { number = refused_depth; returned = r }
+refused R.Room = record { number = refused_room; returned = 0 }
+refused (R.Log r) = record { number = refused_log; returned = r }
+refused R.Path = record { number = refused_path; returned = 0 }
+refused (R.List count) = record { number = refused_list; returned = count }
+refused R.Digit = record { number = refused_digit; returned = 0 }
+refused R.Length = record { number = refused_length; returned = 0 }
+refused R.Number = record { number = refused_number; returned = 0 }
+refused R.Files = record { number = refused_files; returned = 0 }
+refused R.Level = record { number = refused_level; returned = 0 }
+
 -- a success that returns 0, also what the rows that are tried first say where none of them refuses
 abbrev pub passed : Answered
 passed = record { number = success; returned = 0 }
+
+-- an answer's two numbers: success with what it returns, or a refusal's
+abbrev pub told : Result ℕ Refusal → Answered
+told (Ok n) = record { number = success; returned = n }
+told (Err e) = refused e
+
+-- of an answer that returns nothing but whether it succeeds
+abbrev pub told_done : Result ⊤ Refusal → Answered
+told_done (Ok n) = passed
+told_done (Err e) = refused e
 
 -- row 8, and what comes after it for a log that keeps the output rules
 abbrev pub sound_answer : Soundness → Answered → Answered

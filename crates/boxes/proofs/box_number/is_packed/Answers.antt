@@ -1,12 +1,13 @@
 -- By the two digits.
-use borrow.Author.Tests.{lt-leb, le-leb}
+use Rattle.std.proofs.Common.{arith}
+use Rattle.std.proofs.lemmas.Grind.{common_steps}
 use Rattle.boxes.specs.meaning.Box.{is_packed}
 use Rattle.boxes.proofs.box_number.is_packed.Goals as goal
 
-pub returns-then-b-gt9 : goal.returns-then-b-gt9
+pub returns-then-b-le9 : goal.returns-then-b-le9
 unfolding is_packed
-returns-then-b-gt9 c = simp (lt-leb _ _ c.if-b-gt9.true)
+returns-then-b-le9 c = grind (arith, common_steps)
 
-pub returns : goal.returns
+pub returns-else-b-le9 : goal.returns-else-b-le9
 unfolding is_packed
-returns c = simp (le-leb _ _ c.if-b-gt9.false)
+returns-else-b-le9 c = grind (arith, common_steps)

@@ -1,5 +1,4 @@
 -- Loop invariant: the bytes of the rest, in front of those that are written, are the bytes of the number.
-use Prim.Native.Nat.{◌≤◌}
 use mathlib.Core.Path.{◌≡◌}
 use mathlib.Core.List.{◌++◌}
 use lib.ListN.{length, drop}
@@ -7,8 +6,4 @@ use Rattle.boxes.specs.meaning.Box.{packed_bytes}
 use Rattle.boxes.proofs.box_number.put.Given as goal
 
 abbrev pub invariant-loop-i : goal.invariant-loop-i
-invariant-loop-i l = (l.i ≤ length l.initial.out) × (length l.out ≡ length l.initial.out)
-    × (packed_bytes (length l.initial.out) l.value ≡ packed_bytes l.i l.rest ++ drop l.i l.out)
-
-abbrev pub decreases-loop-i : goal.decreases-loop-i
-decreases-loop-i l = l.i
+invariant-loop-i l = packed_bytes (length l.initial.out) l.value ≡ packed_bytes l.i l.rest ++ drop l.i l.out

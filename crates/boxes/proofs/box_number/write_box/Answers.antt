@@ -1,25 +1,34 @@
--- The number of the two tests; the bytes are written where it is success.
-use Prim.Native.Nat.{ℕ}
-use mathlib.Core.Path.{sym, ap, ap₂, ◌∙◌}
-use mathlib.Core.Bool.{Bool, cond}
-use borrow.Author.Tests.{eq-eqb, ne_eqb}
-use Rattle.definition_log.specs.meaning.Answer.{success, refused_length, refused_number}
-use Rattle.boxes.specs.meaning.Box.{returns0, write_number, write_answer, write_out}
+-- By the two tests, the length's first.
+use mathlib.Core.Path.{sym, ◌∙◌}
+use Rattle.std.proofs.Common.{arith}
+use Rattle.std.proofs.lemmas.Grind.{common_steps}
+use Rattle.boxes.specs.meaning.Box.{write_number, write_answer, write_out}
+use Rattle.boxes.proofs.Limits.{length_most}
 use Rattle.boxes.proofs.box_number.write_box.Goals as goal
 
-abbrev of-tests : Bool → Bool → ℕ
-of-tests sized small = cond sized (cond small success refused_number) refused_length
+pub returns-then-not-is_length-clause-result_value : goal.returns-then-not-is_length-clause-result_value
+unfolding write_answer write_number
+returns-then-not-is_length-clause-result_value c = grind (arith, common_steps)
 
-pub returns-then-number-eq-SUCCESS : goal.returns-then-number-eq-SUCCESS
-unfolding write_answer write_out write_number
-returns-then-number-eq-SUCCESS c =
-    let w = c in
-    let e = w.write_number-number.ensures ∙ ap₂ of-tests w.is_length-sized.ensures w.fits-small.ensures in
-    let t = eq-eqb _ _ (sym e ∙ w.if-number-eq-SUCCESS.true) in record { result_value = ap returns0 e; out_after = simp t c.put.ensures }
+pub returns-then-not-is_length-clause-out_after : goal.returns-then-not-is_length-clause-out_after
+unfolding write_out write_number
+returns-then-not-is_length-clause-out_after c = grind (arith, common_steps)
 
-pub returns-else-number-eq-SUCCESS : goal.returns-else-number-eq-SUCCESS
-unfolding write_answer write_out write_number
-returns-else-number-eq-SUCCESS c =
-    let w = c in
-    let e = w.write_number-number.ensures ∙ ap₂ of-tests w.is_length-sized.ensures w.fits-small.ensures in
-    let t = ne_eqb _ _ (λ z. w.if-number-eq-SUCCESS.false (e ∙ z)) in record { result_value = ap returns0 e; out_after = simp t }
+pub fits-requires : goal.fits-requires
+fits-requires c = length_most _ (sym c.is_length.ensures ∙ c.if-not-is_length.false)
+
+pub returns-then-not-fits-clause-result_value : goal.returns-then-not-fits-clause-result_value
+unfolding write_answer write_number
+returns-then-not-fits-clause-result_value c = grind (arith, common_steps)
+
+pub returns-then-not-fits-clause-out_after : goal.returns-then-not-fits-clause-out_after
+unfolding write_out write_number
+returns-then-not-fits-clause-out_after c = grind (arith, common_steps)
+
+pub returns-clause-result_value : goal.returns-clause-result_value
+unfolding write_answer write_number
+returns-clause-result_value c = grind (arith, common_steps)
+
+pub returns-clause-out_after : goal.returns-clause-out_after
+unfolding write_out write_number
+returns-clause-out_after c = grind (arith, common_steps)

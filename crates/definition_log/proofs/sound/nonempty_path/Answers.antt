@@ -1,10 +1,11 @@
 -- By whether there is a byte.
-use mathlib.Core.Path.{refl, ◌∙◌}
+use Rattle.std.proofs.Common.{arith}
+use Rattle.std.proofs.lemmas.Grind.{common_steps}
 use Rattle.paths_numbers.proofs.Texts.{is_empty_lem, not_empty}
 use Rattle.definition_log.proofs.sound.nonempty_path.Goals as goal
 
-pub returns-then-path-eq0 : goal.returns-then-path-eq0
-returns-then-path-eq0 c = rw (is_empty_lem _ c.if-path-eq0.true) refl
+pub returns-then-not-is_empty : goal.returns-then-not-is_empty
+returns-then-not-is_empty c = grind (arith, common_steps, not_empty)
 
-pub returns : goal.returns
-returns c = c.good_path.ensures ∙ rw (not_empty _ c.if-path-eq0.false) refl
+pub returns-else-not-is_empty : goal.returns-else-not-is_empty
+returns-else-not-is_empty c = grind (arith, common_steps, is_empty_lem)

@@ -1,0 +1,8 @@
+-- By the marks (Checked: checked).
+use mathlib.Core.Path.{refl}
+use Rattle.definition_log.proofs.Checked.{checked}
+use Rattle.definition_log.proofs.sound.check_within.Goals as goal
+
+pub returns : goal.returns
+returns g c =
+    checked g.row.N c.args.words.now c.args.bytes.now _ _ _ _ c.walk.ensures c.first_fault.ensures refl refl c.requires.room c.requires.whole

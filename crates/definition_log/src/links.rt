@@ -1,0 +1,255 @@
+// The walk of row 8's test: every link that can be reached is followed, and marks the record that it leads to.
+ghost use Rattle.std.specs.Prelude.{◌<◌, cond, ◌≡◌, eqb, get_or};
+ghost use Rattle.definition_log.specs.meaning.Record.{one_of, kind_of, m_of, extension_kind};
+ghost use Rattle.definition_log.specs.meaning.Sound.{below, kinds_in, link_to, links_of, head_links};
+ghost use Rattle.definition_log.specs.machine.Walk.{chains, place_of, place_told, link_of, first_mark, stored, held, follow_all, all_marks};
+ghost use Rattle.definition_log.specs.declared.links.Mark.TheVariants.{Unmet};
+
+use crate::kinds::is_def;
+use crate::lists::one_of;
+use crate::record::{child_of, kind_of, leads_to, next_of, out_field};
+use crate::{kinds, layout};
+
+// A record's mark: no link led to it, one did and its kind fits there, or it is at fault.
+#[derive(Clone, Copy, Debug, PartialEq, Eq)]
+#[repr(u8)]
+pub(crate) enum Mark {
+    Unmet,
+    Met,
+    Wrong,
+}
+
+// The chain that leads to a record.
+#[derive(Clone, Copy, Debug, PartialEq, Eq)]
+pub(crate) enum Chain {
+    Definitions,
+    Extensions,
+    Bindings,
+    Diagnostics,
+    Labels,
+    Values,
+    Cells,
+    References,
+    Nowhere,
+}
+
+// How many there are.
+const CHAINS: u32 = 9;
+
+impl Chain {
+    // Its number; kept: the queue has a record and its chain in one word, for a walk's memory is fixed.
+    fn number(self) -> u32
+        ensures small { result < chains }
+        ensures same { place_of result ≡ place_told self }
+    {
+        self as u32
+    }
+
+    // The chain of a number.
+    fn of(number: u32) -> Chain
+        ensures { place_told result ≡ place_of number }
+    {
+        match number {
+            0 => Chain::Definitions,
+            1 => Chain::Extensions,
+            2 => Chain::Bindings,
+            3 => Chain::Diagnostics,
+            4 => Chain::Labels,
+            5 => Chain::Values,
+            6 => Chain::Cells,
+            7 => Chain::References,
+            _ => Chain::Nowhere,
+        }
+    }
+
+    // The chain below a record of a kind.
+    fn below(kind: u32) -> Chain
+        ensures { place_told result ≡ below kind }
+    {
+        match kind {
+            kinds::NODE => Chain::Labels,
+            kinds::PROPERTY => Chain::Values,
+            kinds::CELL_LIST => Chain::Cells,
+            kinds::EXTENSION => Chain::References,
+            _ => Chain::Nowhere,
+        }
+    }
+
+    // Whether a kind fits there.
+    fn has(self, kind: u32) -> bool
+        ensures { result ≡ one_of kind (kinds_in (place_told self)) }
+    {
+        match self {
+            Chain::Definitions => is_def(kind),
+            Chain::Extensions => kind == kinds::EXTENSION,
+            Chain::Bindings => kind == kinds::BINDING,
+            Chain::Diagnostics => kind == kinds::DIAGNOSTIC,
+            Chain::Labels => kind == kinds::LABEL,
+            Chain::Values => one_of(
+                kind,
+                &[
+                    kinds::STRING,
+                    kinds::CELL_LIST,
+                    kinds::BYTESTRING,
+                    kinds::REFERENCE,
+                ],
+            ),
+            Chain::Cells => one_of(kind, &[kinds::NUMBER, kinds::REFERENCE]),
+            Chain::References => kind == kinds::REFERENCE,
+            Chain::Nowhere => false,
+        }
+    }
+}
+
+// All links followed: those of record 0, then those of each record that was met, in order. The queue holds the records that were met.
+pub(crate) fn walk(words: &[u32], marks: &mut [Mark], queue: &mut [u32])
+    ensures { marks.new ≡ all_marks words.now marks.old queue.old }
+{
+    let mut n = walk_heads(words, marks, queue);
+    for i in 0..queue.len() {
+        if n <= i {
+            return;
+        }
+        n = walk_record(words, queue[i], marks, queue, n);
+    }
+}
+
+// Record 0's links followed.
+fn walk_heads(words: &[u32], marks: &mut [Mark], queue: &mut [u32]) -> usize
+    ensures { held marks.new queue.new result ≡ follow_all words.now (head_links words.now)
+        (held marks.old queue.old 0) }
+{
+    let a = follow(
+        words,
+        out_field(words, 0, layout::FIRST_DEFINITION),
+        Chain::Definitions,
+        marks,
+        queue,
+        0,
+    );
+    let b = follow(
+        words,
+        out_field(words, 0, layout::FIRST_EXTENSION),
+        Chain::Extensions,
+        marks,
+        queue,
+        a,
+    );
+    let c = follow(
+        words,
+        out_field(words, 0, layout::FIRST_BINDING),
+        Chain::Bindings,
+        marks,
+        queue,
+        b,
+    );
+    let d = follow(
+        words,
+        out_field(words, 0, layout::FIRST_DIAGNOSTIC),
+        Chain::Diagnostics,
+        marks,
+        queue,
+        c,
+    );
+    follow(
+        words,
+        out_field(words, 0, layout::FIRST_POST),
+        Chain::Diagnostics,
+        marks,
+        queue,
+        d,
+    )
+}
+
+// The links of a record followed; code has the record and the chain that it was met in.
+fn walk_record(words: &[u32], code: u32, marks: &mut [Mark], queue: &mut [u32], n: usize) -> usize
+    ensures { held marks.new queue.new result ≡ follow_all words.now
+        (links_of words.now (link_of code)) (held marks.old queue.old n) }
+{
+    let r = code / CHAINS;
+    let a = follow(
+        words,
+        next_of(words, r),
+        Chain::of(code % CHAINS),
+        marks,
+        queue,
+        n,
+    );
+    let below = Chain::below(kind_of(words, r));
+    let b = follow(words, child_of(words, r), below, marks, queue, a);
+    follow(
+        words,
+        body_link(words, r),
+        Chain::Definitions,
+        marks,
+        queue,
+        b,
+    )
+}
+
+// A link followed, if it leads to a record: the record is marked, and put in the queue if it was not met before. Returns how many are in
+// it.
+fn follow(
+    words: &[u32],
+    r: u32,
+    chain: Chain,
+    marks: &mut [Mark],
+    queue: &mut [u32],
+    n: usize,
+) -> usize
+    ensures { held marks.new queue.new result ≡ follow_all words.now
+        (link_to words.now r (place_told chain)) (held marks.old queue.old n) }
+{
+    if !leads_to(words, r) {
+        return n;
+    }
+    if mark_at(marks, r) != Mark::Unmet {
+        set_mark(marks, r, Mark::Wrong);
+        return n;
+    }
+    set_mark(marks, r, first_mark(words, r, chain));
+    if queue.len() <= n {
+        return n;
+    }
+    queue[n] = r * CHAINS + chain.number();
+    n + 1
+}
+
+// A record's mark.
+pub(crate) fn mark_at(marks: &[Mark], r: u32) -> Mark
+    ensures { result ≡ get_or marks.now r Unmet }
+{
+    marks.get(r as usize).copied().unwrap_or(Mark::Unmet)
+}
+
+// A record's mark set.
+fn set_mark(marks: &mut [Mark], r: u32, m: Mark)
+    ensures { marks.new ≡ stored marks.old r m }
+{
+    let at = r as usize;
+    if at < marks.len() {
+        marks[at] = m;
+    }
+}
+
+// The mark of a record that a link leads to first.
+fn first_mark(words: &[u32], r: u32, chain: Chain) -> Mark
+    ensures { result ≡ first_mark words.now (record { to = r; place = place_told chain }) }
+{
+    if chain.has(kind_of(words, r)) {
+        Mark::Met
+    } else {
+        Mark::Wrong
+    }
+}
+
+// An extension's link to its body, 0 in other kinds.
+fn body_link(words: &[u32], r: u32) -> u32
+    ensures { result ≡ cond (eqb (kind_of words.now r) extension_kind) (m_of words.now r) 0 }
+{
+    if kind_of(words, r) == kinds::EXTENSION {
+        out_field(words, r, layout::M)
+    } else {
+        0
+    }
+}
