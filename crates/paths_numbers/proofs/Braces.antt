@@ -1,65 +1,66 @@
 -- The braces around a raw reference, and the text between them.
-use Rattle.std.proofs.Common.{◌≡◌, ℕ, suc, ◌+◌, ◌-◌, ◌<◌, ◌≤◌, Bool, true, false, cond, eqb, ltb, List, [], ◌∷◌, ◌++◌, length, get_or, take, drop, sym, refl, ap, ◌∙◌, arith, length-append, length-drop, drop_of_length-le, get_or-drop, take_at, ltb-false, ltb-true, eq-eqb, ne_eqb, eqb-true}
+use Rattle.std.proofs.Common.{◌≡◌, ℕ, suc, ◌+◌, ◌-◌, ◌<◌, ◌≤◌, Bool, true, false, cond, eqb, List, [], ◌∷◌, ◌++◌, length, get_or, take, drop, sym, refl, ap, ◌∙◌, arith, length-append, drop_of_length-le, take_at, eq-eqb, eqb-true}
 use lib.Seq.{get_or_at, split_at}
 use Rattle.paths_numbers.specs.meaning.Byte.{ampersand, opening_brace, closing_brace}
 use Rattle.paths_numbers.specs.meaning.Text.{begins}
 use Rattle.paths_numbers.specs.meaning.Reference.{last_byte, is_braced, inner_text}
-use Rattle.paths_numbers.proofs.Texts.{no_rest}
+use Rattle.paths_numbers.proofs.Texts.{not_both, cond_in}
+use Rattle.paths_numbers.proofs.Compared.{begins_pointwise, ends_pointwise}
+use Rattle.std.specs.Prelude.{Option, Some, None, MatchOption}
+use Rattle.std.specs.Option.{UnwrapsOrElse}
+use denote.Ref.{Bor}
+use lib.Pointwise.{pointwise}
 
--- a test that changes nothing
-cond_same : {A : Type 0} (t : Bool) (x : A) → cond t x x ≡ x
-cond_same true x = refl
-cond_same false x = refl
+-- a text is in braces where it begins with the first two, and the text behind them ends with the third
+pub unopened : (s : List ℕ) → pointwise eqb (take 2 s) (ampersand ∷ opening_brace ∷ []) ≡ false → is_braced s ≡ false
+unfolding is_braced
+unopened s e = rw (sym (begins_pointwise s (ampersand ∷ opening_brace ∷ [])) ∙ e) refl
 
--- the last byte behind the first two is the last byte of all
-last_behind : (s : List ℕ) → 3 ≤ length s → last_byte s ≡ last_byte (drop 2 s)
-last_behind s h =
-    let e : length s - 1 ≡ 2 + (length (drop 2 s) - 1) = omega (arith, length-drop 2 s) in
-    ap (λ (i : ℕ). get_or s i 0) e ∙ sym (get_or-drop 2 s (length (drop 2 s) - 1) 0)
+opened : (s r : List ℕ) → pointwise eqb (take 2 s) (ampersand ∷ opening_brace ∷ []) ≡ true → r ≡ drop 2 s
+    → is_braced s ≡ pointwise eqb (drop (length r - 1) r) (closing_brace ∷ [])
+unfolding is_braced
+opened s r e f =
+    rw (sym (begins_pointwise s (ampersand ∷ opening_brace ∷ [])) ∙ e)
+    (ap (λ (l : List ℕ). eqb (last_byte l) closing_brace) (sym f) ∙ sym (ends_pointwise r closing_brace (omega arith)))
 
--- whether a text is in braces: not if it is too short or has another first or second byte, else as its last byte says
-pub braced_short : (s : List ℕ) → length s < 3 → false ≡ is_braced s
-unfolding is_braced begins
-braced_short [] h = refl
-braced_short (a ∷ []) h = rw (cond_same (eqb a ampersand) false) refl
-braced_short (a ∷ b ∷ []) h = sym (cond_same (cond (eqb a ampersand) (cond (eqb b opening_brace) true false) false) false)
-braced_short (a ∷ b ∷ d ∷ s) h = absurd (omega arith)
+-- what the code finds between the braces
+abbrev pub Found : List ℕ → Option (Bor (List ℕ)) → Type 0
+Found s o = MatchOption o (is_braced s ≡ false) (λ x. (is_braced s ≡ true) × (x.now ≡ inner_text s))
 
-pub braced_first : (s : List ℕ) → (get_or s 0 0 ≡ ampersand → ⊥) → false ≡ is_braced s
-unfolding is_braced begins
-braced_first [] h = refl
-braced_first (a ∷ s) h = simp (ne_eqb _ _ h)
+pub found : (s r : List ℕ) (o : Option (Bor (List ℕ))) → pointwise eqb (take 2 s) (ampersand ∷ opening_brace ∷ []) ≡ true → r ≡ drop 2 s
+    → length r + 2 ≡ length s
+    → MatchOption o (pointwise eqb (drop (length r - 1) r) (closing_brace ∷ []) ≡ false)
+    (λ x. (pointwise eqb (drop (length r - 1) r) (closing_brace ∷ []) ≡ true) × (x.now ≡ take (length r - 1) r) × (length x.now + 1 ≡ length r))
+    → Found s o
+unfolding inner_text
+found s r None e f n h = opened s r e f ∙ h
+found s r (Some x) e f n (h, t, m) =
+    let b = opened s r e f ∙ h in
+    let l : length r - 1 ≡ length s - 3 = omega arith in
+    (b, t ∙ rw (b, l, f) refl)
 
-pub braced_second : (s : List ℕ) → (get_or s 1 0 ≡ opening_brace → ⊥) → false ≡ is_braced s
-unfolding is_braced begins
-braced_second [] h = refl
-braced_second (a ∷ []) h = rw (cond_same (eqb a ampersand) false) refl
-braced_second (a ∷ b ∷ s) h = simp (ne_eqb _ _ h, cond_same)
-
-pub braced_last : (s : List ℕ) → 3 ≤ length s → get_or s 0 0 ≡ ampersand → get_or s 1 0 ≡ opening_brace
-    → eqb (last_byte s) closing_brace ≡ is_braced s
-unfolding is_braced begins
-braced_last [] h e f = absurd (omega arith)
-braced_last (a ∷ []) h e f = absurd (omega arith)
-braced_last (a ∷ b ∷ []) h e f = absurd (omega arith)
-braced_last (a ∷ b ∷ d ∷ s) h e f = simp (eq-eqb _ _ e, eq-eqb _ _ f) (ap (λ (z : ℕ). eqb z closing_brace) (last_behind (a ∷ b ∷ d ∷ s) h))
+-- or nothing, where they are missing
+pub found_or_empty : (s : List ℕ) (o : Option (Bor (List ℕ))) (x : Bor (List ℕ)) → Found s o → UnwrapsOrElse o (λ y. y.now ≡ []) x
+    → x.now ≡ inner_text s
+unfolding inner_text
+found_or_empty s None x b e = e ∙ rw b refl
+found_or_empty s (Some y) x (b, t) e = ap (λ (z : Bor (List ℕ)). z.now) e ∙ t
 
 -- a text in braces has room for them
 pub braced_length : (s : List ℕ) → is_braced s ≡ true → 3 ≤ length s
-braced_length s e = go (ltb (length s) 3) refl
-  where
-    go : (t : Bool) → ltb (length s) 3 ≡ t → 3 ≤ length s
-    go true h = let f : false ≡ true = braced_short s (ltb-true _ _ h) ∙ e in let z : ◌≡◌ {A = ℕ} 0 1 = cc in absurd (omega arith)
-    go false h = ltb-false _ _ h
+unfolding is_braced begins
+braced_length [] e = absurd (not_both e refl)
+braced_length (a ∷ []) e = absurd (not_both e (cond_in (λ (t : Bool). cond t (eqb 0 closing_brace) false ≡ false) (eqb a ampersand) refl refl))
+braced_length (a ∷ b ∷ []) e =
+    absurd (not_both e
+    (cond_in (λ (t : Bool). cond t (eqb 0 closing_brace) false ≡ false) (eqb a ampersand)
+    (cond_in (λ (t : Bool). cond t (eqb 0 closing_brace) false ≡ false) (eqb b opening_brace) refl refl) refl))
+braced_length (a ∷ b ∷ d ∷ s) e = omega arith
 
 -- the text between the braces
-pub inner_braced : (s : List ℕ) → is_braced s ≡ true → take (length s - 1 - 2) (drop 2 s) ≡ inner_text s
+inner_braced : (s : List ℕ) → is_braced s ≡ true → take (length s - 1 - 2) (drop 2 s) ≡ inner_text s
 unfolding inner_text
 inner_braced s e = let f : length s - 1 - 2 ≡ length s - 3 = omega arith in rw (e, f) refl
-
-pub inner_missing : (s : List ℕ) → is_braced s ≡ false → take (length s - length s) (drop (length s) s) ≡ inner_text s
-unfolding inner_text
-inner_missing s e = rw (e, no_rest) refl
 
 -- a text put in braces
 abbrev pub braced : List ℕ → List ℕ

@@ -1,11 +1,15 @@
 -- Lengths that are cut at a largest number: `at_most m n` is n, or m where n is larger.
-use Rattle.std.proofs.Common.{◌≡◌, ℕ, ◌+◌, ◌<◌, ◌≤◌, Bool, true, false, eqb, leb, sym, refl, ◌∙◌, arith, ne_eqb, le-leb, leb-false, leb-true}
+use Rattle.std.proofs.Common.{◌≡◌, ℕ, ◌+◌, ◌<◌, ◌≤◌, Bool, true, false, eqb, leb, sym, refl, ◌∙◌, arith, ne_eqb, le-leb, leb-false, leb-true, min}
 use Rattle.paths_numbers.specs.meaning.Path.{at_most}
 use Rattle.paths_numbers.proofs.Texts.{by_test}
 
 -- what is not larger is kept
 pub kept : (m n : ℕ) → n ≤ m → at_most m n ≡ n
 kept m n h = simp (le-leb n m h)
+
+-- the smaller of the two
+pub cut_min : (m n : ℕ) → min n m ≡ at_most m n
+cut_min m n = by_test (leb n m) (λ e. let h = leb-true n m e in rw e (omega arith)) (λ e. let h = leb-false n m e in rw e (omega arith))
 
 -- what is as large or larger is cut
 pub cut : (m n : ℕ) → m ≤ n → at_most m n ≡ m

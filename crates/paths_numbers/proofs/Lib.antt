@@ -1,5 +1,6 @@
 -- Laws by subject: texts and paths, numbers, operators, cells, bytestrings, references.
 pub mod Texts
+pub mod Compared
 pub mod Written
 pub mod Lengths
 pub mod Strip

@@ -1,27 +1,28 @@
 -- What a raw reference names: what the place of the first "/" between its braces tells, and what the answer tells of the text.
-use Rattle.std.proofs.Common.{◌≡◌, ℕ, ◌+◌, ◌-◌, Bool, true, false, eqb, List, [], ◌∷◌, ◌++◌, length, take, drop, sym, refl, ap, ◌∙◌, subst, add-one, arith, eqb-true}
+use Rattle.std.proofs.Common.{◌≡◌, ℕ, ◌+◌, Bool, true, false, eqb, List, [], ◌∷◌, ◌++◌, length, take, drop, sym, refl, ap, ◌∙◌, subst, add-one, arith, eqb-true}
 use borrow.Author.Tests.{eqb-false}
 use lib.Seq.{take-length}
 use Rattle.paths_numbers.specs.meaning.Byte.{slash}
 use Rattle.paths_numbers.specs.meaning.Text.{starts_with}
 use Rattle.paths_numbers.specs.meaning.Reference.{Target, label, label_path, path, unreadable, before_slash, has_slash, in_braces}
 use Rattle.paths_numbers.specs.meaning.Reference.{is_braced, inner_text, target, label_of, path_of}
-use Rattle.paths_numbers.proofs.Texts.{rest, no_rest}
 use Rattle.paths_numbers.proofs.Braces.{braced, braced_is, braced_inner, braced_text}
 use Rattle.paths_numbers.proofs.Slashes.{take_before, drop_behind, before_length, slash_found, slash_missing, slash_first}
-use Rattle.paths_numbers.proofs.Slashes.{slash_inside, slash_split, before_none, before_some}
+use Rattle.paths_numbers.proofs.Slashes.{slash_inside, slash_split, before_none, before_some, place_or, next_before, next_inside}
+use Rattle.slashes.specs.meaning.Slash.{next_slash}
+use Rattle.std.specs.Prelude.{Some, None}
 
 -- what stands between the braces, by the place k of its first "/"
 module _ (s : List ℕ) (k : ℕ) (e : k ≡ length (before_slash s)) where
-  pub place_none : k ≡ length s → in_braces s ≡ label s
+  place_none : k ≡ length s → in_braces s ≡ label s
   unfolding in_braces
   place_none h = simp (slash_inside s (λ p z. omega arith), slash_missing s (omega arith))
 
-  pub place_first : (k ≡ length s → ⊥) → k ≡ 0 → in_braces s ≡ path s
+  place_first : (k ≡ length s → ⊥) → k ≡ 0 → in_braces s ≡ path s
   unfolding in_braces
   place_first h z = simp (slash_first s (omega (arith, before_length s)) (sym e ∙ z))
 
-  pub place_inside : (k ≡ length s → ⊥) → (k ≡ 0 → ⊥) → in_braces s ≡ label_path (take k s) (drop (k + 1) s)
+  place_inside : (k ≡ length s → ⊥) → (k ≡ 0 → ⊥) → in_braces s ≡ label_path (take k s) (drop (k + 1) s)
   unfolding in_braces
   place_inside h z =
       let a = slash_inside s (λ p y. z (e ∙ y)) in
@@ -58,14 +59,27 @@ module _ (raw s : List ℕ) (i : s ≡ inner_text raw) (k : ℕ) (e : k ≡ leng
       go false t true f = let z = eqb-true k 0 f in rw (place_first s k e (eqb-false _ _ t) z, z) refl
       go false t false f = rw (place_inside s k e (eqb-false _ _ t) (eqb-false _ _ f)) refl
 
-  pub path_none : k ≡ length s → take (length s - k) (drop k s) ≡ path_of (target raw)
-  path_none h = rw (h, no_rest) (sym (ap path_of (place_none s k e h)) ∙ (target_parts raw s i).1)
+-- the same by what the search for a "/" answers
+module _ (s : List ℕ) where
+  pub found_none : None ≡ next_slash s 0 → in_braces s ≡ label s
+  found_none h = place_none s (length s) (ap (place_or (length s)) h ∙ next_before s) refl
 
-  pub path_first : (k ≡ length s → ⊥) → k ≡ 0 → s ≡ path_of (target raw)
-  path_first h z = sym (ap path_of (place_first s k e h z)) ∙ (target_parts raw s i).1
+  module _ (k : ℕ) (h : Some k ≡ next_slash s 0) where
+    at : k ≡ length (before_slash s)
+    at = ap (place_or (length s)) h ∙ next_before s
 
-  pub path_inside : (k ≡ length s → ⊥) → (k ≡ 0 → ⊥) → take (length s - (k + 1)) (drop (k + 1) s) ≡ path_of (target raw)
-  path_inside h z = rest s (k + 1) ∙ sym (ap path_of (place_inside s k e h z)) ∙ (target_parts raw s i).1
+    inside : k ≡ length s → ⊥
+    inside e = omega (arith, next_inside s k h)
+
+    pub found_first : k ≡ 0 → in_braces s ≡ path s
+    found_first z = place_first s k at inside z
+
+    pub found_inside : (k ≡ 0 → ⊥) → in_braces s ≡ label_path (take k s) (drop (k + 1) s)
+    found_inside z = place_inside s k at inside z
+
+-- a label that is all between the braces has no path
+pub path_of_inner : (raw s : List ℕ) (t : Target) → s ≡ inner_text raw → in_braces s ≡ t → path_of t ≡ path_of (target raw)
+path_of_inner raw s t i e = sym (ap path_of e) ∙ (target_parts raw s i).1
 
 -- what a target says of the text that it was read from
 abbrev pub Says : List ℕ → Target → Type 0

@@ -1,16 +1,17 @@
 -- The first "/" of a text: where it stands, and the texts before and behind it.
-use Rattle.std.proofs.Common.{◌≡◌, ℕ, suc, ◌+◌, ◌<◌, ◌≤◌, Bool, true, false, eqb, List, [], ◌∷◌, ◌++◌, length, take, drop, refl, ap, ◌∙◌, arith, length-take, eqb-true}
-use mathlib.Core.Option.{Option, some, none}
+use Rattle.std.proofs.Common.{◌≡◌, ℕ, suc, ◌+◌, ◌<◌, ◌≤◌, Bool, true, false, eqb, List, [], ◌∷◌, ◌++◌, length, take, drop, refl, sym, subst, ap, ◌∙◌, arith, length-take, eqb-true}
+use Rattle.std.specs.Prelude.{Option, Some, None}
 use native.Mathlib.Nat.{min-le_right}
-use Rattle.slashes.specs.meaning.Slash.{first_from, next_slash}
+use Rattle.slashes.specs.meaning.Slash.{first_from, next_slash, Stands, FirstOrNone}
+use Rattle.slashes.proofs.First.{first_or_none}
 use Rattle.paths_numbers.specs.meaning.Byte.{slash}
 use Rattle.paths_numbers.specs.meaning.Text.{starts_with}
 use Rattle.paths_numbers.specs.meaning.Reference.{before_slash, behind_slash, has_slash}
 
 -- where the search finds it, or n
 abbrev pub place_or : ℕ → Option ℕ → ℕ
-place_or n (some k) = k
-place_or n none = n
+place_or n (Some k) = k
+place_or n None = n
 
 -- the search finds it behind the text before it, and nothing where that is the whole
 first_before : (s : List ℕ) (i : ℕ) → place_or (i + length s) (first_from i s) ≡ i + length (before_slash s)
@@ -26,6 +27,11 @@ first_before (b ∷ s) i = go (first_before s (suc i)) (eqb b slash) refl
 pub next_before : (s : List ℕ) → place_or (length s) (next_slash s 0) ≡ length (before_slash s)
 unfolding next_slash
 next_before s = ap (λ (n : ℕ). place_or n (first_from 0 s)) (omega arith) ∙ first_before s 0 ∙ omega arith
+
+-- what it finds is inside the text
+pub next_inside : (s : List ℕ) (k : ℕ) → Some k ≡ next_slash s 0 → k < length s
+unfolding Stands FirstOrNone
+next_inside s k e = (subst (Stands s 0) (sym e) (first_or_none s 0)).inside
 
 -- the texts before and behind the first "/" are the parts around its place
 pub take_before : (s : List ℕ) → take (length (before_slash s)) s ≡ before_slash s

@@ -1,5 +1,5 @@
 -- What stripping a base from a path comes to by the tests that the code makes.
-use Rattle.std.proofs.Common.{◌≡◌, ℕ, ◌<◌, Bool, true, false, cond, eqb, List, [], ◌∷◌, length, get_or, drop, sym, refl, ap, ◌∙◌, arith, eqb-true}
+use Rattle.std.proofs.Common.{◌≡◌, ℕ, ◌<◌, ◌≤◌, Bool, true, false, cond, eqb, List, [], ◌∷◌, length, get_or, drop, sym, refl, ap, ◌∙◌, arith, eqb-true, eq-eqb, ne_eqb}
 use borrow.Author.Tests.{eqb-false}
 use Rattle.paths_numbers.specs.meaning.Byte.{slash}
 use Rattle.paths_numbers.specs.meaning.Text.{begins, same, starts_with}
@@ -86,13 +86,21 @@ pub under_tests : (p b : List ℕ)
 unfolding at_or_under
 under_tests p b = ap is_found (strip_case p b _ _ _ refl refl refl) ∙ found_by (begins p b) _ _ _ _ _
 
--- where the base is "/", that the path begins with it decides
-pub root_tests : (p b : List ℕ) → same b root ≡ true → at_or_under p b ≡ begins p b
-root_tests p b r =
-    under_tests p b
-    ∙ by_test (begins p b)
-    (λ e. by_test (eqb (length p) (length b)) (λ l. simp (e, l)) (λ l. simp (e, l, r)))
-    (λ e. simp e)
+-- so does the code: where the path does not begin with the base, and where it ends there or a byte follows
+module _ (p b : List ℕ) where
+  pub under_no : begins p b ≡ false → at_or_under p b ≡ false
+  under_no e = under_tests p b ∙ simp e
+
+  module _ (e : begins p b ≡ true) where
+    pub under_whole : length p ≤ length b → at_or_under p b ≡ true
+    under_whole h = let l : length p ≡ length b = omega (arith, begins_length p b e) in under_tests p b ∙ simp (e, eq-eqb _ _ l)
+
+    module _ (h : length b < length p) where
+      pub under_root : same b root ≡ true → at_or_under p b ≡ true
+      under_root r = let l : length p ≡ length b → ⊥ = λ q. omega arith in under_tests p b ∙ simp (e, ne_eqb _ _ l, r)
+
+      pub under_next : same b root ≡ false → at_or_under p b ≡ eqb (get_or p (length b) 0) slash
+      under_next r = let l : length p ≡ length b → ⊥ = λ q. omega arith in under_tests p b ∙ simp (e, ne_eqb _ _ l, r)
 
 -- what is then left of the path
 pub stripped_tests : (p b : List ℕ)

@@ -1,6 +1,6 @@
 -- What writing a text into a buffer byte by byte comes to, and what is answered where a path does not fit.
 use Rattle.std.proofs.Common.{◌≡◌, ℕ, suc, ◌+◌, ◌<◌, ◌≤◌, List, [], ◌∷◌, ◌++◌, length, get_or, take, drop, set, sym, refl, ap, ◌∙◌, append-nil, add-zero, add-one, arith, length-append, length-drop, take-append-drop, drop_of_length-le, length-take-le, drop-cons, take-suc-set, drop-set-lt, le-leb}
-use mathlib.Core.Option.{some, none}
+use Rattle.std.specs.Prelude.{Some, None}
 use borrow.Author.Tests.{lt-leb}
 use lib.Seq.{append_snoc}
 use Rattle.paths_numbers.specs.meaning.Text.{written}
@@ -40,12 +40,12 @@ written_length d at s h =
 
 module _ (p out : List ℕ) (at : ℕ) where
   -- what is answered and held where a path does not fit
-  pub no_room_lem : length out < at + length p → (none ≡ built_answer p (length out) at) × (out ≡ built_out p out at)
+  pub no_room_lem : length out < at + length p → (None ≡ built_answer p (length out) at) × (out ≡ built_out p out at)
   unfolding built_answer built_out
   no_room_lem h = (simp (lt-leb _ _ h), simp (lt-leb _ _ h))
 
   -- and where it does
   pub room : (n : ℕ) (o : List ℕ) → n ≡ length p → o ≡ written out at p → at + length p ≤ length out
-      → (some n ≡ built_answer p (length out) at) × (o ≡ built_out p out at)
+      → (Some n ≡ built_answer p (length out) at) × (o ≡ built_out p out at)
   unfolding built_answer built_out
   room n o e w h = (rw e (simp (le-leb _ _ h)), rw w (simp (le-leb _ _ h)))

@@ -2,18 +2,11 @@
 // is none.
 ghost use Rattle.std.specs.Prelude.{◌≡◌, ◌+◌, ◌≤◌, length, slice_index};
 ghost use Rattle.paths_numbers.specs.meaning.Path.{root, with_unit, joined, joined_len, at_most, largest_usize, built_answer};
-ghost use Rattle.paths_numbers.specs.meaning.Path.{built_out, built_told, at_or_under};
+ghost use Rattle.paths_numbers.specs.meaning.Path.{built_out, at_or_under};
 ghost use Rattle.paths_numbers.specs.machine.Limits.{stem};
 ghost use Rattle.paths_numbers.specs.meaning.Text.{same, begins, written};
 
 use crate::mir::is_root;
-
-// What became of a path that was to be written.
-#[derive(Clone, Copy)]
-pub enum Built {
-    Bytes(usize),
-    NoRoom,
-}
 
 // The length of the path of a parent and a name, or the largest usize where it is longer.
 pub fn path_len(parent: &[u8], name: &[u8], unit: &[u8]) -> usize
@@ -22,8 +15,9 @@ pub fn path_len(parent: &[u8], name: &[u8], unit: &[u8]) -> usize
     if name_is_root(name, unit) {
         return 1;
     }
-    let before = before_slash(parent);
-    add_lens(add_lens(before, 1), name_len(name, unit))
+    before_slash(parent)
+        .saturating_add(1)
+        .saturating_add(name_len(name, unit))
 }
 
 // The bytes of a parent's path that stand before the "/" in front of a name.
@@ -40,30 +34,17 @@ fn before_slash(parent: &[u8]) -> usize
 fn name_is_root(name: &[u8], unit: &[u8]) -> bool
     ensures { result ≡ same (with_unit name.now unit.now) root }
 {
-    if unit.len() != 0 {
-        return false;
-    }
-    is_root(name)
+    unit.is_empty() && is_root(name)
 }
 
 // The length of a name with its unit address, or the largest usize where it is longer.
 fn name_len(name: &[u8], unit: &[u8]) -> usize
     ensures { result ≡ at_most largest_usize (length (with_unit name.now unit.now)) }
 {
-    if unit.len() == 0 {
+    if unit.is_empty() {
         return name.len();
     }
-    add_lens(add_lens(name.len(), 1), unit.len())
-}
-
-// A sum, or the largest usize where it is larger.
-fn add_lens(a: usize, b: usize) -> usize
-    ensures { result ≡ at_most largest_usize (a + b) }
-{
-    if 18446744073709551615 - b < a {
-        return 18446744073709551615;
-    }
-    a + b
+    name.len().saturating_add(1).saturating_add(unit.len())
 }
 
 // The byte of the path of a parent and a name at an index, 0 behind its end.
@@ -71,10 +52,7 @@ pub fn path_byte(parent: &[u8], name: &[u8], unit: &[u8], i: usize) -> u8
     ensures { result ≡ slice_index (joined parent.now name.now unit.now) i }
 {
     if name_is_root(name, unit) {
-        if i == 0 {
-            return b'/';
-        }
-        return 0;
+        return if i == 0 { b'/' } else { 0 };
     }
     let k = before_slash(parent);
     if i < k {
@@ -107,21 +85,24 @@ fn name_byte(name: &[u8], unit: &[u8], i: usize) -> u8
 }
 
 // Writes the path of a parent and a name into `out` from `at` on.
-pub fn build_path(parent: &[u8], name: &[u8], unit: &[u8], out: &mut [u8], at: usize) -> Built
-    ensures result_value { built_told result ≡ built_answer (joined parent.now name.now unit.now)
-        (length out.old) at }
+pub fn build_path(
+    parent: &[u8],
+    name: &[u8],
+    unit: &[u8],
+    out: &mut [u8],
+    at: usize,
+) -> Option<usize>
+    ensures result_value { result ≡ built_answer (joined parent.now name.now unit.now) (length out.old) at }
     ensures out_after { out.new ≡ built_out (joined parent.now name.now unit.now) out.old
         at }
 {
     let n = path_len(parent, name, unit);
-    if out.len() < at {
-        return Built::NoRoom;
-    }
-    if out.len() - at < n {
-        return Built::NoRoom;
+    let room = out.len().checked_sub(at)?;
+    if room < n {
+        return None;
     }
     write_path(parent, name, unit, out, at, n);
-    Built::Bytes(n)
+    Some(n)
 }
 
 // Writes the first `n` bytes of the path of a parent and a name.
@@ -131,10 +112,8 @@ fn write_path(parent: &[u8], name: &[u8], unit: &[u8], out: &mut [u8], at: usize
     ensures { out.new ≡ written out.old at
         (joined parent.now name.now unit.now) }
 {
-    let mut i = 0;
-    while i < n {
+    for i in 0..n {
         out[at + i] = path_byte(parent, name, unit, i);
-        i += 1;
     }
 }
 
@@ -142,10 +121,7 @@ fn write_path(parent: &[u8], name: &[u8], unit: &[u8], out: &mut [u8], at: usize
 pub fn is_path(this: &[u8], parent: &[u8], name: &[u8], unit: &[u8]) -> bool
     ensures { result ≡ same this.now (joined parent.now name.now unit.now) }
 {
-    if this.len() != path_len(parent, name, unit) {
-        return false;
-    }
-    begins_with_path(this, parent, name, unit)
+    this.len() == path_len(parent, name, unit) && begins_with_path(this, parent, name, unit)
 }
 
 // Whether a path lies at or under that of a parent and a name.
@@ -155,14 +131,10 @@ pub fn lies_under_path(this: &[u8], parent: &[u8], name: &[u8], unit: &[u8]) -> 
     if !begins_with_path(this, parent, name, unit) {
         return false;
     }
-    let n = path_len(parent, name, unit);
-    if this.len() == n {
-        return true;
+    match this.get(path_len(parent, name, unit)) {
+        None => true,
+        Some(next) => path_is_root(parent, name, unit) || *next == b'/',
     }
-    if path_is_root(parent, name, unit) {
-        return true;
-    }
-    this[n] == b'/'
 }
 
 // Whether the path of a parent and a name lies at or under another.
@@ -176,10 +148,7 @@ pub fn path_lies_under(parent: &[u8], name: &[u8], unit: &[u8], base: &[u8]) -> 
     if path_len(parent, name, unit) == n {
         return true;
     }
-    if is_root(base) {
-        return true;
-    }
-    path_byte(parent, name, unit, n) == b'/'
+    is_root(base) || path_byte(parent, name, unit, n) == b'/'
 }
 
 // Whether the path of a parent and a name is "/".
@@ -197,12 +166,10 @@ fn begins_with_path(this: &[u8], parent: &[u8], name: &[u8], unit: &[u8]) -> boo
     if this.len() < n {
         return false;
     }
-    let mut i = 0;
-    while i < n {
+    for i in 0..n {
         if this[i] != path_byte(parent, name, unit, i) {
             return false;
         }
-        i += 1;
     }
     true
 }
@@ -214,12 +181,10 @@ fn path_begins_with(parent: &[u8], name: &[u8], unit: &[u8], base: &[u8]) -> boo
     if path_len(parent, name, unit) < base.len() {
         return false;
     }
-    let mut i = 0;
-    while i < base.len() {
-        if path_byte(parent, name, unit, i) != base[i] {
+    for (i, b) in base.iter().enumerate() {
+        if path_byte(parent, name, unit, i) != *b {
             return false;
         }
-        i += 1;
     }
     true
 }

@@ -10,61 +10,43 @@ use crate::text::starts_with;
 pub fn lies_under(this: &[u8], base: &[u8]) -> bool
     ensures { result ≡ at_or_under this.now base.now }
 {
-    if is_root(base) {
-        return starts_with(this, base);
-    }
     if !starts_with(this, base) {
         return false;
     }
-    let n = base.len();
-    if this.len() == n {
-        return true;
+    match this.get(base.len()) {
+        None => true,
+        Some(next) => is_root(base) || *next == b'/',
     }
-    this[n] == b'/'
 }
 
-// The end of `this` behind `base`, or its empty end where `this` does not lie at or under `base`.
-pub fn strip_base<'a, 'b>(this: &'a [u8], base: &'b [u8]) -> &'a [u8]
+// The end of `this` behind `base`, empty where `this` does not lie at or under `base`.
+pub fn strip_base<'a>(this: &'a [u8], base: &[u8]) -> &'a [u8]
     ensures { result.now ≡ stripped this.now base.now }
 {
-    let end = this.len();
-    if !lies_under(this, base) {
-        return &this[end..];
-    }
-    if end == base.len() {
-        return &this[end..];
+    if !lies_under(this, base) || this.len() == base.len() {
+        return &[];
     }
     if is_root(base) {
         return this;
     }
-    let n = base.len();
-    &this[n..]
+    &this[base.len()..]
 }
 
 // Whether a path is "/".
 pub fn is_root(path: &[u8]) -> bool
     ensures { result ≡ same path.now root }
 {
-    if path.len() != 1 {
-        return false;
-    }
-    path[0] == b'/'
+    path == b"/".as_slice()
 }
 
 // Whether a path has row 9's form: empty, "/", or "/" before each of its nonempty components.
 pub fn good_path(path: &[u8]) -> bool
     ensures { result ≡ good_path path.now }
 {
-    if path.len() == 0 {
-        return true;
+    match path.first() {
+        None => true,
+        Some(first) => is_root(path) || *first == b'/' && has_components(path),
     }
-    if is_root(path) {
-        return true;
-    }
-    if path[0] != b'/' {
-        return false;
-    }
-    has_components(path)
 }
 
 // Whether nonempty components follow each other, each behind a "/". The loop has no way out of its

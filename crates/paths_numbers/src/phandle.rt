@@ -1,54 +1,55 @@
 // What lower_phandle of lowering/mod.rs makes of a raw reference text, `&{..}`.
-ghost use Rattle.std.specs.Prelude.{◌≡◌, length};
+ghost use Rattle.std.specs.Prelude.{◌≡◌, true, false, length, MatchOption};
 ghost use Rattle.paths_numbers.specs.meaning.Reference.{is_braced, inner_text, before_slash, target, number_of, label_of, path_of};
-ghost use Rattle.paths_numbers.specs.meaning.Reference.{target_number};
+ghost use Rattle.paths_numbers.specs.meaning.Reference.{kind_number, target_number};
 
-use slashes::slash::{Found, next_slash};
+use slashes::slash::next_slash;
 
-// What a raw reference names, by the names of the Rust's MirPhandleTarget; or that it cannot be read.
-#[derive(Clone, Copy)]
+// What a raw reference names, by the names of the Rust's MirPhandleTarget.
+#[derive(Clone, Copy, Debug, PartialEq, Eq)]
 pub enum MirPhandleTarget {
     Label,
     LabelPath,
     Path,
-    Unreadable,
+}
+
+impl MirPhandleTarget {
+    // 01's N of it.
+    pub fn number(self) -> u32
+        ensures { result ≡ kind_number self }
+    {
+        match self {
+            MirPhandleTarget::Label => 1,
+            MirPhandleTarget::LabelPath => 2,
+            MirPhandleTarget::Path => 3,
+        }
+    }
 }
 
 // 01's N of what a reference names, 0 where it cannot be read.
-pub fn target_number(target: MirPhandleTarget) -> u32
+pub fn target_number(target: Option<MirPhandleTarget>) -> u32
     ensures { result ≡ target_number target }
 {
-    match target {
-        MirPhandleTarget::Label => 1,
-        MirPhandleTarget::LabelPath => 2,
-        MirPhandleTarget::Path => 3,
-        MirPhandleTarget::Unreadable => 0,
-    }
+    target.map_or(0, MirPhandleTarget::number)
 }
 
-// What a raw reference names.
-pub fn lower_phandle(raw: &[u8]) -> MirPhandleTarget
+// What a raw reference names; nothing where it cannot be read.
+pub fn lower_phandle(raw: &[u8]) -> Option<MirPhandleTarget>
     ensures { target_number result ≡ number_of (target raw.now) }
 {
-    if !is_braced(raw) {
-        return MirPhandleTarget::Unreadable;
+    let inner = inner_text(raw)?;
+    match next_slash(inner, 0) {
+        None => Some(MirPhandleTarget::Label),
+        Some(0) => Some(MirPhandleTarget::Path),
+        Some(_) => Some(MirPhandleTarget::LabelPath),
     }
-    let inner = inner_text(raw);
-    let k = first_slash(inner);
-    if k == inner.len() {
-        return MirPhandleTarget::Label;
-    }
-    if k == 0 {
-        return MirPhandleTarget::Path;
-    }
-    MirPhandleTarget::LabelPath
 }
 
 // The label that a raw reference names, empty where there is none.
 pub fn phandle_label(raw: &[u8]) -> &[u8]
     ensures { result.now ≡ label_of (target raw.now) }
 {
-    let inner = inner_text(raw);
+    let inner = inner_text(raw).unwrap_or_default();
     let k = first_slash(inner);
     &inner[..k]
 }
@@ -57,53 +58,24 @@ pub fn phandle_label(raw: &[u8]) -> &[u8]
 pub fn phandle_path(raw: &[u8]) -> &[u8]
     ensures { result.now ≡ path_of (target raw.now) }
 {
-    let inner = inner_text(raw);
-    let k = first_slash(inner);
-    if k == inner.len() {
-        return &inner[k..];
+    let inner = inner_text(raw).unwrap_or_default();
+    match next_slash(inner, 0) {
+        None => &[],
+        Some(0) => inner,
+        Some(k) => &inner[k + 1..],
     }
-    if k == 0 {
-        return inner;
-    }
-    &inner[k + 1..]
 }
 
-// Whether a text has `&{` in front and, behind that, `}` at its end.
-fn is_braced(raw: &[u8]) -> bool
-    ensures { result ≡ is_braced raw.now }
+// The text between `&{` and `}`; nothing where they are missing.
+fn inner_text(raw: &[u8]) -> Option<&[u8]>
+    ensures { MatchOption result (is_braced raw.now ≡ false) (λ s. (is_braced raw.now ≡ true) × (s.now ≡ inner_text raw.now)) }
 {
-    let n = raw.len();
-    if n < 3 {
-        return false;
-    }
-    if raw[0] != b'&' {
-        return false;
-    }
-    if raw[1] != b'{' {
-        return false;
-    }
-    raw[n - 1] == b'}'
-}
-
-// The text between the braces, empty where they are missing.
-fn inner_text(raw: &[u8]) -> &[u8]
-    ensures { result.now ≡ inner_text raw.now }
-{
-    if is_braced(raw) {
-        let n = raw.len() - 1;
-        return &raw[2..n];
-    }
-    let n = raw.len();
-    &raw[n..]
+    raw.strip_prefix(b"&{")?.strip_suffix(b"}")
 }
 
 // The index of the first "/", the length where there is none.
 pub fn first_slash(s: &[u8]) -> usize
     ensures { result ≡ length (before_slash s.now) }
 {
-    let found = next_slash(s, 0);
-    match found {
-        Found::At(k) => k,
-        Found::Nothing => s.len(),
-    }
+    next_slash(s, 0).unwrap_or(s.len())
 }

@@ -2,7 +2,7 @@
 use Prim.Native.Nat.{ℕ, zero, suc, ◌+◌, ◌-◌, ◌≤◌, ◌<◌}
 use mathlib.Core.Path.{◌≡◌, refl, sym, ap, ◌∙◌}
 use mathlib.Core.Bool.{Bool, true, false, cond}
-use mathlib.Core.Option.{Option, some, none}
+use Rattle.std.specs.Prelude.{Option, Some, None}
 use mathlib.Core.List.{List, [], ◌∷◌}
 use native.Mathlib.Omega.{arith}
 use borrow.Author.Tests.{eqb-true, eqb-false}
@@ -13,19 +13,19 @@ use Rattle.slashes.specs.meaning.Slash.{slash, first_from, next_slash, NoSlash, 
 
 -- the same of a text whose first byte stands at i
 Fact : ℕ → List ℕ → Option ℕ → Type 0
-Fact i t (some k) = (i ≤ k) × (k - i < length t) × (get_or t (k - i) 0 ≡ slash) × ((j : ℕ) → i + j < k → get_or t j 0 ≡ slash → ⊥)
-Fact i t none = (j : ℕ) → j < length t → get_or t j 0 ≡ slash → ⊥
+Fact i t (Some k) = (i ≤ k) × (k - i < length t) × (get_or t (k - i) 0 ≡ slash) × ((j : ℕ) → i + j < k → get_or t j 0 ≡ slash → ⊥)
+Fact i t None = (j : ℕ) → j < length t → get_or t j 0 ≡ slash → ⊥
 
 step : (i b : ℕ) (s : List ℕ) → (b ≡ slash → ⊥) → (f : Option ℕ) → Fact (suc i) s f → Fact i (b ∷ s) f
 unfolding Fact
-step i b s n (some k) (l, m, e, g) =
+step i b s n (Some k) (l, m, e, g) =
     let d : k - i ≡ suc (k - suc i) = omega arith in
     (omega arith, rw d (omega arith), rw d e, λ j. go j)
   where
     go : (j : ℕ) → i + j < k → get_or (b ∷ s) j 0 ≡ slash → ⊥
     go zero h q = n q
     go (suc j) h q = g j (omega arith) q
-step i b s n none g = λ j. go j
+step i b s n None g = λ j. go j
   where
     go : (j : ℕ) → j < suc (length s) → get_or (b ∷ s) j 0 ≡ slash → ⊥
     go zero h q = n q
@@ -37,7 +37,7 @@ fact [] i = λ j h. absurd (omega arith)
 fact (b ∷ s) i = go (fact s (suc i)) (eqb b slash) refl
   where
     go : Fact (suc i) s (first_from (suc i) s) → (x : Bool) → eqb b slash ≡ x
-        → Fact i (b ∷ s) (cond (eqb b slash) (some i) (first_from (suc i) s))
+        → Fact i (b ∷ s) (cond (eqb b slash) (Some i) (first_from (suc i) s))
     go f true e =
         let z : i - i ≡ 0 = omega arith in
         rw e (omega arith, rw z (omega arith), rw z (eqb-true _ _ e), λ j h. absurd (omega arith))
@@ -48,13 +48,13 @@ same_byte s from j h = get_or-drop from s (j - from) 0 ∙ ap (λ (n : ℕ). get
 
 whole : (s : List ℕ) (from : ℕ) (f : Option ℕ) → Fact from (drop from s) f → Stands s from f
 unfolding Fact Stands NoSlash
-whole s from (some k) (l, m, e, g) = record {
+whole s from (Some k) (l, m, e, g) = record {
   behind = l;
   inside = omega (arith, length-drop from s);
   slashed = sym (same_byte s from k l) ∙ e;
   before = λ j h q r. g (j - from) (omega arith) (same_byte s from j h ∙ r);
 }
-whole s from none g = λ j h q r. g (j - from) (omega (arith, length-drop from s)) (same_byte s from j h ∙ r)
+whole s from None g = λ j h q r. g (j - from) (omega (arith, length-drop from s)) (same_byte s from j h ∙ r)
 
 pub first_or_none : FirstOrNone
 unfolding FirstOrNone next_slash

@@ -1,14 +1,7 @@
 // The next "/" of a path: eight bytes are looked at as one word, and the last ones singly.
-ghost use Rattle.std.specs.Prelude.{◌≡◌, ◌+◌, ◌≤◌, length, take, drop};
-ghost use Rattle.slashes.specs.meaning.Slash.{next_slash, found_told};
-ghost use Rattle.slashes.specs.machine.Word.{Loaded, Marked};
-
-// Where a "/" stands, or that there is none.
-#[derive(Clone, Copy)]
-pub enum Found {
-    At(usize),
-    Nothing,
-}
+ghost use Rattle.std.specs.Prelude.{◌≡◌, ◌==◌, position};
+ghost use Rattle.slashes.specs.meaning.Slash.{slash, next_slash};
+ghost use Rattle.slashes.specs.machine.Word.{Marked};
 
 // How many bytes a word has.
 const WORD: usize = 8;
@@ -19,36 +12,27 @@ const SLASHES: u64 = 0x2f2f_2f2f_2f2f_2f2f;
 const LOW_BITS: u64 = 0x7f7f_7f7f_7f7f_7f7f;
 
 // The first "/" at or behind a place.
-pub fn next_slash(path: &[u8], from: usize) -> Found
-    ensures { found_told result ≡ next_slash path.now from }
+pub fn next_slash(path: &[u8], from: usize) -> Option<usize>
+    ensures { result ≡ next_slash path.now from }
 {
-    if path.len() <= from {
-        return Found::Nothing;
-    }
-    let mut i = from;
-    while WORD <= path.len() - i {
-        let marks = slash_marks(load_eight(path, i));
-        let k = (u64::trailing_zeros(marks) / 8) as usize;
+    let mut rest = path.get(from..)?;
+    while let Some((word, behind)) = rest.split_first_chunk::<WORD>() {
+        let marks = slash_marks(u64::from_le_bytes(*word));
+        let k = (marks.trailing_zeros() / 8) as usize;
         if k < WORD {
-            return Found::At(i + k);
+            return Some(path.len() - rest.len() + k);
         }
-        i += WORD;
+        rest = behind;
     }
-    last_slash(path, i)
+    let k = first_slash(rest)?;
+    Some(path.len() - rest.len() + k)
 }
 
-// The same, a byte at a time.
-fn last_slash(path: &[u8], from: usize) -> Found
-    ensures { found_told result ≡ next_slash path.now from }
+// The same of a whole text, a byte at a time.
+fn first_slash(s: &[u8]) -> Option<usize>
+    ensures { result ≡ position (λ b. b == slash) s.now }
 {
-    let mut i = from;
-    while i < path.len() {
-        if path[i] == b'/' {
-            return Found::At(i);
-        }
-        i += 1;
-    }
-    Found::Nothing
+    s.iter().position(|b| *b == b'/')
 }
 
 // The mark of each byte of a word: bit 7 where it is "/", and no other bit. The sum stays within each byte.
@@ -57,32 +41,4 @@ fn slash_marks(w: u64) -> u64
 {
     let x = w ^ SLASHES;
     !(((x & LOW_BITS) + LOW_BITS) | x | LOW_BITS)
-}
-
-// Eight bytes as one word, low byte first.
-fn load_eight(s: &[u8], at: usize) -> u64
-    requires { at + 8 ≤ length s.now }
-    ensures { Loaded (take 8 (drop at s.now)) result }
-{
-    load_four(s, at) | load_four(s, at + 4) << 32
-}
-
-fn load_four(s: &[u8], at: usize) -> u64
-    requires { at + 4 ≤ length s.now }
-    ensures { Loaded (take 4 (drop at s.now)) result }
-{
-    load_two(s, at) | load_two(s, at + 2) << 16
-}
-
-fn load_two(s: &[u8], at: usize) -> u64
-    requires { at + 2 ≤ length s.now }
-    ensures { Loaded (take 2 (drop at s.now)) result }
-{
-    wide(s[at]) | wide(s[at + 1]) << 8
-}
-
-fn wide(b: u8) -> u64
-    ensures { result ≡ b }
-{
-    b as u64
 }

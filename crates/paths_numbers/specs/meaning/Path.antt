@@ -1,10 +1,7 @@
 -- 01, "Paths": stripping a base from a path, joining a parent and a name, and row 9's form of a path.
-use Rattle.std.specs.Prelude.{ℕ, ◌+◌, ◌-◌, ◌^◌, Bool, true, false, cond, not, List, [], ◌∷◌, ◌++◌, length, drop, ◌==◌, nat_le}
-use Rattle.std.proofs.Math.Option.{Option, some, none}
+use Rattle.std.specs.Prelude.{ℕ, ◌+◌, ◌-◌, ◌^◌, Bool, true, false, cond, not, List, [], ◌∷◌, ◌++◌, length, drop, ◌==◌, nat_le, Option, Some, None}
 use Rattle.paths_numbers.specs.meaning.Byte.{slash, at_sign}
 use Rattle.paths_numbers.specs.meaning.Text.{begins, same, is_empty, starts_with, written}
-use Rattle.paths_numbers.specs.declared.dt_node.Built.{Built}
-use Rattle.paths_numbers.specs.declared.dt_node.Built.TheVariants.{Bytes, NoRoom}
 
 -- the path "/"
 abbrev pub root : List ℕ
@@ -68,14 +65,10 @@ joined parent name unit = join parent (with_unit name unit)
 abbrev pub joined_len : List ℕ → List ℕ → List ℕ → ℕ
 joined_len parent name unit = at_most largest_usize (length (joined parent name unit))
 
--- what an answer to the writing of a path tells: how many bytes, none where there is no room, which has no number
-abbrev pub built_told : Built → Option ℕ
-built_told (Bytes n) = some n
-built_told NoRoom = none
-
--- what writing a path at a place answers, and what the buffer then holds: without room it is left
+-- what writing a path at a place answers: how many bytes, none where there is no room, which has no number; and what the buffer then
+-- holds: without room it is left
 unfoldable pub built_answer : List ℕ → ℕ → ℕ → Option ℕ
-built_answer p room at = cond (nat_le (at + length p) room) (some (length p)) none
+built_answer p room at = cond (nat_le (at + length p) room) (Some (length p)) None
 
 unfoldable pub built_out : List ℕ → List ℕ → ℕ → List ℕ
 built_out p out at = cond (nat_le (at + length p) (length out)) (written out at p) out

@@ -1,5 +1,5 @@
 -- 01, "Records", kind 8 with W 1: a raw reference, `&{..}`, taken apart: a path, a label and a path, or a label; N of output kind 12.
-use Rattle.std.specs.Prelude.{ℕ, ◌-◌, Bool, true, false, cond, List, [], ◌∷◌, length, take, drop, ◌==◌, slice_index}
+use Rattle.std.specs.Prelude.{ℕ, ◌-◌, Bool, true, false, cond, List, [], ◌∷◌, length, take, drop, ◌==◌, slice_index, Option, Some, None}
 use Rattle.paths_numbers.specs.meaning.Byte.{slash, ampersand, opening_brace, closing_brace}
 use Rattle.paths_numbers.specs.meaning.Text.{begins, starts_with}
 use Rattle.paths_numbers.specs.declared.phandle.MirPhandleTarget.{MirPhandleTarget}
@@ -70,9 +70,12 @@ path_of (label_path l p) = p
 path_of (path p) = p
 path_of unreadable = []
 
--- what an answer tells, by the same numbers
-abbrev pub target_number : MirPhandleTarget → ℕ
-target_number K.Label = 1
-target_number K.LabelPath = 2
-target_number K.Path = 3
-target_number K.Unreadable = 0
+-- 01's N of a kind that the code names, and what its answer tells, by the same numbers
+abbrev pub kind_number : MirPhandleTarget → ℕ
+kind_number K.Label = 1
+kind_number K.LabelPath = 2
+kind_number K.Path = 3
+
+abbrev pub target_number : Option MirPhandleTarget → ℕ
+target_number (Some k) = kind_number k
+target_number None = 0

@@ -1,6 +1,5 @@
 -- 02, request 8, in its smallest cases: the checker computes them.
-use Rattle.std.specs.Prelude.{ℕ, ◌≡◌, refl, List, [], ◌∷◌}
-use Rattle.std.proofs.Math.Option.{some, none}
+use Rattle.std.specs.Prelude.{ℕ, ◌≡◌, refl, List, [], ◌∷◌, Some, None}
 use Rattle.slashes.specs.meaning.Slash.{slash, first_from, next_slash}
 use Rattle.slashes.specs.machine.Word.{word, mark_of}
 
@@ -8,9 +7,9 @@ use Rattle.slashes.specs.machine.Word.{word, mark_of}
 abbrev three_components : List ℕ
 three_components = 97 ∷ slash ∷ 98 ∷ slash ∷ 99 ∷ []
 
-pub places : (next_slash three_components 0 ≡ some 1) × (next_slash three_components 1 ≡ some 1) × (next_slash three_components 2 ≡ some 3)
-    × (next_slash three_components 4 ≡ none) × (next_slash three_components 5 ≡ none) × (next_slash three_components 9 ≡ none)
-    × (next_slash three_components 0xffff_ffff_ffff_ffff ≡ none)
+pub places : (next_slash three_components 0 ≡ Some 1) × (next_slash three_components 1 ≡ Some 1) × (next_slash three_components 2 ≡ Some 3)
+    × (next_slash three_components 4 ≡ None) × (next_slash three_components 5 ≡ None) × (next_slash three_components 9 ≡ None)
+    × (next_slash three_components 0xffff_ffff_ffff_ffff ≡ None)
 unfolding next_slash first_from
 places = (refl, refl, refl, refl, refl, refl, refl)
 
@@ -18,7 +17,7 @@ places = (refl, refl, refl, refl, refl, refl, refl)
 abbrev neighbours : List ℕ
 neighbours = 0x2e ∷ 0x30 ∷ 0xaf ∷ 0x00 ∷ 0xff ∷ 0x2e ∷ 0x30 ∷ 0xaf ∷ slash ∷ slash ∷ []
 
-pub none_of_these : (next_slash neighbours 0 ≡ some 8) × (next_slash neighbours 9 ≡ some 9)
+pub none_of_these : (next_slash neighbours 0 ≡ Some 8) × (next_slash neighbours 9 ≡ Some 9)
 unfolding next_slash first_from
 none_of_these = (refl, refl)
 

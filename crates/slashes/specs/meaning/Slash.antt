@@ -1,8 +1,5 @@
 -- 02, request 8: "It gives the first "/" from any given place on, and none only if there is none."
-use Rattle.std.specs.Prelude.{ℕ, suc, ◌≤◌, ◌<◌, ◌≡◌, cond, List, [], ◌∷◌, eqb, length, drop, get_or}
-use Rattle.std.proofs.Math.Option.{Option, some, none}
-use Rattle.slashes.specs.declared.slash.Found.{Found}
-use Rattle.slashes.specs.declared.slash.Found.TheVariants.{At, Nothing}
+use Rattle.std.specs.Prelude.{ℕ, suc, ◌≤◌, ◌<◌, ◌≡◌, cond, List, [], ◌∷◌, eqb, length, drop, get_or, Option, Some, None}
 
 -- "/"
 abbrev pub slash : ℕ
@@ -10,17 +7,12 @@ slash = 47
 
 -- the place of the first "/" of a text whose first byte stands at i
 unfoldable pub first_from : ℕ → List ℕ → Option ℕ
-first_from i [] = none
-first_from i (b ∷ s) = cond (eqb b slash) (some i) (first_from (suc i) s)
+first_from i [] = None
+first_from i (b ∷ s) = cond (eqb b slash) (Some i) (first_from (suc i) s)
 
 -- the place of the first "/" at or behind a place, counted from the path's start
 unfoldable pub next_slash : List ℕ → ℕ → Option ℕ
 next_slash path from = first_from from (drop from path)
-
--- what an answer tells
-abbrev pub found_told : Found → Option ℕ
-found_told (At k) = some k
-found_told Nothing = none
 
 -- the same in plain words: k is the first "/" at or behind a place, or there is none
 pub record First (path : List ℕ) (from k : ℕ) : Type 0 where
@@ -33,8 +25,8 @@ unfoldable pub NoSlash : List ℕ → ℕ → Type 0
 NoSlash path from = (j : ℕ) → from ≤ j → j < length path → get_or path j 0 ≡ slash → ⊥
 
 unfoldable pub Stands : List ℕ → ℕ → Option ℕ → Type 0
-Stands path from (some k) = First path from k
-Stands path from none = NoSlash path from
+Stands path from (Some k) = First path from k
+Stands path from None = NoSlash path from
 
 -- the theorem, for every path and place
 unfoldable pub FirstOrNone : Type 0

@@ -1,4 +1,5 @@
-use Rattle.std.proofs.Common.{length, sym, refl, ◌∙◌, arith, rules}
+-- A slice is shorter than a length that is cut, so that its bytes are compared with all of the path (Lengths: cut_le, uncut).
+use Rattle.std.proofs.Common.{length, sym, ◌∙◌, arith}
 use Rattle.paths_numbers.specs.meaning.Path.{joined, largest_usize}
 use Rattle.paths_numbers.proofs.Texts.{begins_short, differs, agrees, agreed}
 use Rattle.paths_numbers.proofs.Lengths.{cut_le, uncut}
@@ -10,33 +11,26 @@ returns-then-this-n c =
     let p = joined a.parent.now a.name.now a.unit.now in
     sym (begins_short a.this.now p (omega (arith, cut_le largest_usize (length p) _ c.path_len-n.ensures)))
 
-pub loop-i-init : goal.loop-i-init
-loop-i-init c =
-    let a = c.args in
-    let p = joined a.parent.now a.name.now a.unit.now in
-    (search rules, omega arith, uncut largest_usize (length p) _ c.path_len-n.ensures (omega arith), refl)
-
 pub returns-then-this-i : goal.returns-then-this-i
 returns-then-this-i c =
     let a = c.args in
     let l = c.loop-i in
     let p = joined a.parent.now a.name.now a.unit.now in
-    differs a.this.now p l.i _ l.invariant.3 (omega arith) (omega arith) (λ e. c.if-this-i.true (e ∙ sym c.path_byte.ensures))
+    let n = uncut largest_usize (length p) _ c.path_len-n.ensures (omega arith) in
+    differs a.this.now p l.i _ l.invariant (omega arith) (omega arith) (λ e. c.if-this-i.true (e ∙ sym c.path_byte.ensures))
 
 pub loop-i-preserved : goal.loop-i-preserved
 loop-i-preserved c =
     let a = c.args in
     let l = c.loop-i in
-    let p = joined a.parent.now a.name.now a.unit.now in (
-      omega arith,
-      omega arith,
-      l.invariant.2,
-      agrees a.this.now p l.i _ l.invariant.3 (omega arith) (omega arith)
-          (c.if-this-i.false ∙ c.path_byte.ensures),
-    )
+    let p = joined a.parent.now a.name.now a.unit.now in
+    let n = uncut largest_usize (length p) _ c.path_len-n.ensures (omega arith) in
+    agrees a.this.now p l.i _ l.invariant (omega arith) (omega arith) (c.if-this-i.false ∙ c.path_byte.ensures)
 
 pub returns : goal.returns
 returns c =
     let a = c.args in
     let l = c.loop-i in
-    agreed a.this.now (joined a.parent.now a.name.now a.unit.now) l.i _ l.invariant.3 (omega arith)
+    let p = joined a.parent.now a.name.now a.unit.now in
+    let n = uncut largest_usize (length p) _ c.path_len-n.ensures (omega arith) in
+    agreed a.this.now p l.i _ l.invariant (omega arith)

@@ -1,5 +1,5 @@
 -- As text::equals, with a length that may be cut (Texts: same_lengths, begins_same; Lengths: uncut, other).
-use Rattle.std.proofs.Common.{length, sym, ◌∙◌, arith}
+use Rattle.std.proofs.Common.{length, sym, ◌∙◌, arith, ne_eqb}
 use Rattle.paths_numbers.specs.meaning.Path.{joined, largest_usize}
 use Rattle.paths_numbers.proofs.Texts.{same_lengths, begins_same}
 use Rattle.paths_numbers.proofs.Lengths.{uncut, other}
@@ -9,13 +9,13 @@ pub returns-then-this-path_len : goal.returns-then-this-path_len
 returns-then-this-path_len c =
     let a = c.args in
     let p = joined a.parent.now a.name.now a.unit.now in
-    let n = other largest_usize (length p) _ (length a.this.now) c.path_len.ensures (omega arith)
-    (λ e. c.if-this-path_len.true (sym e)) in
-    sym (same_lengths a.this.now p (λ e. n (sym e)))
+    let n = uncut largest_usize (length p) _ c.path_len.ensures (omega arith) in
+    c.begins_with_path.ensures ∙ begins_same a.this.now p (c.if-this-path_len.true ∙ n)
 
-pub returns : goal.returns
-returns c =
+pub returns-else-this-path_len : goal.returns-else-this-path_len
+returns-else-this-path_len c =
     let a = c.args in
     let p = joined a.parent.now a.name.now a.unit.now in
-    let n = uncut largest_usize (length p) _ c.path_len.ensures (omega (arith, c.if-this-path_len.false)) in
-    c.begins_with_path.ensures ∙ begins_same a.this.now p (c.if-this-path_len.false ∙ n)
+    let n = other largest_usize (length p) _ (length a.this.now) c.path_len.ensures (omega arith)
+    (λ e. c.if-this-path_len.false (sym e)) in
+    ne_eqb _ _ c.if-this-path_len.false ∙ sym (same_lengths a.this.now p (λ e. n (sym e)))

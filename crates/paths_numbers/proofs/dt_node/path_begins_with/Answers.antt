@@ -1,4 +1,5 @@
-use Rattle.std.proofs.Common.{length, sym, refl, ◌∙◌, arith, rules}
+-- A path that is as long as a slice after the cut is as long before it (Lengths: cut_le, uncut).
+use Rattle.std.proofs.Common.{length, sym, ◌∙◌, arith}
 use Rattle.paths_numbers.specs.meaning.Path.{joined, largest_usize}
 use Rattle.paths_numbers.proofs.Texts.{begins_short, differs, agrees, agreed}
 use Rattle.paths_numbers.proofs.Lengths.{cut_le, uncut}
@@ -10,33 +11,25 @@ returns-then-path_len-base c =
     let p = joined a.parent.now a.name.now a.unit.now in
     sym (begins_short p a.base.now (omega (arith, uncut largest_usize (length p) _ c.path_len.ensures (omega arith))))
 
-pub loop-i-init : goal.loop-i-init
-loop-i-init c =
-    let a = c.args in
-    let p = joined a.parent.now a.name.now a.unit.now in
-    (search rules, omega (arith, cut_le largest_usize (length p) _ c.path_len.ensures), refl)
-
-pub returns-then-path_byte-base : goal.returns-then-path_byte-base
-returns-then-path_byte-base c =
+pub returns-then-path_byte-b : goal.returns-then-path_byte-b
+returns-then-path_byte-b c =
     let a = c.args in
     let l = c.loop-i in
     let p = joined a.parent.now a.name.now a.unit.now in
-    differs p a.base.now l.i _ l.invariant.2 (omega arith) (omega arith)
-    (λ e. c.if-path_byte-base.true (c.path_byte.ensures ∙ e))
+    let n = cut_le largest_usize (length p) _ c.path_len.ensures in
+    differs p a.base.now l.i _ l.invariant (omega arith) (omega arith)
+    (λ e. c.if-path_byte-b.true (c.path_byte.ensures ∙ e))
 
 pub loop-i-preserved : goal.loop-i-preserved
 loop-i-preserved c =
     let a = c.args in
     let l = c.loop-i in
-    let p = joined a.parent.now a.name.now a.unit.now in (
-      omega arith,
-      l.invariant.1,
-      agrees p a.base.now l.i _ l.invariant.2 (omega arith) (omega arith)
-          (sym c.path_byte.ensures ∙ c.if-path_byte-base.false),
-    )
+    let p = joined a.parent.now a.name.now a.unit.now in
+    let n = cut_le largest_usize (length p) _ c.path_len.ensures in
+    agrees p a.base.now l.i _ l.invariant (omega arith) (omega arith) (sym c.path_byte.ensures ∙ c.if-path_byte-b.false)
 
 pub returns : goal.returns
 returns c =
     let a = c.args in
     let l = c.loop-i in
-    agreed (joined a.parent.now a.name.now a.unit.now) a.base.now l.i _ l.invariant.2 (omega arith)
+    agreed (joined a.parent.now a.name.now a.unit.now) a.base.now l.i _ l.invariant (omega arith)

@@ -13,8 +13,8 @@ returns-then-i-eq0 c =
       c.if-i-eq0.true,
     ) refl
 
-pub returns-then-name_is_root : goal.returns-then-name_is_root
-returns-then-name_is_root c =
+pub returns-else-i-eq0 : goal.returns-else-i-eq0
+returns-else-i-eq0 c =
     let a = c.args in
     rw (joined_root a.parent.now a.name.now a.unit.now (sym c.name_is_root.ensures ∙ c.if-name_is_root.true))
     (sym (get_or-eq_default root 0 {n = a.i} (omega arith)))

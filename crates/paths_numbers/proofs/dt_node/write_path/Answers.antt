@@ -1,24 +1,19 @@
-use Rattle.std.proofs.Common.{refl, add-zero, arith, length-set, rules}
+use Rattle.std.proofs.Common.{refl, add-zero, arith}
 use Rattle.paths_numbers.specs.meaning.Path.{joined}
 use Rattle.paths_numbers.proofs.Written.{written_byte, written_all}
 use Rattle.paths_numbers.proofs.dt_node.write_path.Goals as goal
 
 pub loop-i-init : goal.loop-i-init
-loop-i-init c = (search rules, refl, rw add-zero refl)
+loop-i-init c = rw add-zero refl
 
 pub loop-i-preserved : goal.loop-i-preserved
 loop-i-preserved c =
     let a = c.args in
     let l = c.loop-i in
-    let p = joined a.parent.now a.name.now a.unit.now in (
-      omega arith,
-      simp length-set l.invariant.1,
-      written_byte l.out a.at p l.i _ _ l.invariant.2 (omega arith) (omega arith)
-          c.path_byte.ensures,
-    )
+    written_byte l.out a.at (joined a.parent.now a.name.now a.unit.now) l.i _ _ l.invariant (omega arith) (omega arith) c.path_byte.ensures
 
 pub returns : goal.returns
 returns c =
     let a = c.args in
     let l = c.loop-i in
-    written_all l.out a.at (joined a.parent.now a.name.now a.unit.now) l.i _ l.invariant.2 (omega arith)
+    written_all l.out a.at (joined a.parent.now a.name.now a.unit.now) l.i _ l.invariant (omega arith)

@@ -1,10 +1,9 @@
--- A path of one byte is "/" where its byte is (Texts: same_lengths, same_one).
-use Rattle.std.proofs.Common.{sym}
-use Rattle.paths_numbers.proofs.Texts.{same_lengths, same_one}
+-- The library compares as the definition does (Compared: same_pointwise).
+use Rattle.std.proofs.Common.{eqb, ap, ◌∙◌}
+use lib.Pointwise.{pointwise}
+use Rattle.paths_numbers.specs.meaning.Path.{root}
+use Rattle.paths_numbers.proofs.Compared.{same_pointwise}
 use Rattle.paths_numbers.proofs.mir.is_root.Goals as goal
 
-pub returns-then-path-ne1 : goal.returns-then-path-ne1
-returns-then-path-ne1 c = sym (same_lengths _ _ c.if-path-ne1.true)
-
 pub returns : goal.returns
-returns c = same_one _ _ c.if-path-ne1.false
+returns c = c.eq.ensures ∙ ap (pointwise eqb c.args.path.now) c.as_slice.ensures ∙ same_pointwise c.args.path.now root

@@ -1,35 +1,23 @@
--- The code makes the tests that decide (Strip: under_tests, and root_tests under "/").
-use Rattle.std.proofs.Common.{sym, ◌∙◌, arith, eq-eqb, ne_eqb}
-use Rattle.paths_numbers.proofs.Texts.{begins_length}
-use Rattle.paths_numbers.proofs.Strip.{under_tests, root_tests}
+-- The code makes the tests that decide (Strip).
+use Rattle.std.proofs.Common.{ℕ, eqb, sym, ap, ◌∙◌}
+use Rattle.paths_numbers.specs.meaning.Byte.{slash}
+use Rattle.paths_numbers.proofs.Strip.{under_no, under_whole, under_root, under_next}
 use Rattle.paths_numbers.proofs.mir.lies_under.Goals as goal
+
+pub returns-then-not-starts_with : goal.returns-then-not-starts_with
+returns-then-not-starts_with c = let a = c.args in sym (under_no a.this.now a.base.now (sym c.if-not-starts_with.ensures))
+
+pub returns-in-None : goal.returns-in-None
+returns-in-None c = let a = c.args in sym (under_whole a.this.now a.base.now (sym c.if-not-starts_with.ensures) c.in-None.ensures.lookup.3)
 
 pub returns-then-is_root : goal.returns-then-is_root
 returns-then-is_root c =
     let a = c.args in
-    let r = sym c.is_root.ensures ∙ c.if-is_root.true in
-    c.starts_with.ensures ∙ sym (root_tests a.this.now a.base.now r)
+    c.if-is_root.true ∙ sym (under_root a.this.now a.base.now (sym c.if-not-starts_with.ensures) c.in-Some.ensures.lookup.3.0 (sym c.if-is_root.ensures))
 
-pub returns-then-not-starts_with : goal.returns-then-not-starts_with
-returns-then-not-starts_with c =
+pub returns-else-is_root : goal.returns-else-is_root
+returns-else-is_root c =
     let a = c.args in
-    let e = sym c.starts_with-2.ensures ∙ c.if-not-starts_with.true in
-    sym (under_tests a.this.now a.base.now ∙ simp e)
-
-pub returns-then-this-n : goal.returns-then-this-n
-returns-then-this-n c =
-    let a = c.args in
-    let e = sym c.starts_with-2.ensures ∙ c.if-not-starts_with.false in
-    sym (under_tests a.this.now a.base.now ∙ simp (e, eq-eqb _ _ c.if-this-n.true))
-
-pub bounds-this-n : goal.bounds-this-n
-bounds-this-n c =
-    let e = sym c.starts_with-2.ensures ∙ c.if-not-starts_with.false in
-    omega (arith, begins_length _ _ e, c.if-this-n.false)
-
-pub returns : goal.returns
-returns c =
-    let a = c.args in
-    let e = sym c.starts_with-2.ensures ∙ c.if-not-starts_with.false in
-    let r = sym c.is_root.ensures ∙ c.if-is_root.false in
-    sym (under_tests a.this.now a.base.now ∙ simp (e, ne_eqb _ _ c.if-this-n.false, r))
+    let e = c.in-Some.ensures.lookup.3 in
+    ap (λ (b : ℕ). eqb b slash) (e.1 0)
+    ∙ sym (under_next a.this.now a.base.now (sym c.if-not-starts_with.ensures) e.0 (sym c.if-is_root.ensures))

@@ -1,21 +1,14 @@
--- The search from the first byte on, and the length where it finds nothing.
-use Rattle.std.proofs.Common.{◌≡◌, ℕ, List, length, sym, ap, ◌∙◌}
-use Rattle.slashes.specs.declared.slash.Found.{Found}
-use Rattle.slashes.specs.meaning.Slash.{next_slash, found_told}
-use Rattle.paths_numbers.specs.meaning.Reference.{before_slash}
+-- The length stands for no place in both (Slashes: place_or).
+use Rattle.std.proofs.Common.{ℕ, length, ap, ◌∙◌}
+use Rattle.std.specs.Prelude.{Option, Some, None, ◌≡◌, refl, unwrap_or}
 use Rattle.paths_numbers.proofs.Slashes.{place_or, next_before}
 use Rattle.paths_numbers.proofs.phandle.first_slash.Goals as goal
 
--- what the search answers, by its variant
-answered : (s : List ℕ) (f g : Found) → found_told f ≡ next_slash s 0 → f ≡ g → place_or (length s) (found_told g) ≡ length (before_slash s)
-answered s f g h e = ap (λ a. place_or (length s) (found_told a)) (sym e) ∙ ap (place_or (length s)) h ∙ next_before s
+or_place : (n : ℕ) (f : Option ℕ) → unwrap_or f n ≡ place_or n f
+or_place n (Some k) = refl
+or_place n None = refl
 
-pub returns-in-At : goal.returns-in-At
-returns-in-At c =
-    let a = c.args in
-    answered a.s.now _ _ c.next_slash-found.ensures c.in-At.is
-
-pub returns-in-Nothing : goal.returns-in-Nothing
-returns-in-Nothing c =
-    let a = c.args in
-    answered a.s.now _ _ c.next_slash-found.ensures c.in-Nothing.is
+pub returns : goal.returns
+returns c =
+    let s = c.args.s.now in
+    c.unwrap_or.ensures ∙ or_place (length s) c.next_slash.result ∙ ap (place_or (length s)) c.next_slash.ensures ∙ next_before s

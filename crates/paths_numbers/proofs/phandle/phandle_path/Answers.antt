@@ -1,28 +1,31 @@
--- Rests on what the place of the first "/" between the braces tells; without braces there is nothing between them.
-use Rattle.std.proofs.Common.{arith}
-use Rattle.paths_numbers.proofs.Slashes.{before_length}
-use Rattle.paths_numbers.proofs.Reference.{path_none, path_first, path_inside}
+-- What stands between the braces, by the place of its first "/" (Reference: found_none, found_first, found_inside).
+use Rattle.std.proofs.Common.{◌+◌, ◌∙◌, arith}
+use Rattle.paths_numbers.proofs.Texts.{rest}
+use Rattle.paths_numbers.proofs.Braces.{found_or_empty}
+use Rattle.paths_numbers.proofs.Slashes.{next_inside}
+use Rattle.paths_numbers.proofs.Reference.{path_of_inner, found_none, found_first, found_inside}
 use Rattle.paths_numbers.proofs.phandle.phandle_path.Goals as goal
 
-pub returns-then-k-inner : goal.returns-then-k-inner
-returns-then-k-inner c = path_none _ _ c.inner_text-inner.ensures _ c.first_slash-k.ensures
-    c.if-k-inner.true
-
-pub returns-then-k-eq0 : goal.returns-then-k-eq0
-returns-then-k-eq0 c =
-    path_first _ _ c.inner_text-inner.ensures _ c.first_slash-k.ensures c.if-k-inner.false
-    c.if-k-eq0.true
-
 pub overflow_add-result : goal.overflow_add-result
-overflow_add-result c = omega (arith, before_length c.inner_text-inner.result.now)
+overflow_add-result c = omega (arith, next_inside _ _ c.in-Some.ensures)
 
-pub slice_bounds-result-count-2 : goal.slice_bounds-result-count-2
-slice_bounds-result-count-2 c = omega (arith, before_length c.inner_text-inner.result.now)
+pub slice_bounds-result-count : goal.slice_bounds-result-count
+slice_bounds-result-count c = omega (arith, next_inside _ _ c.in-Some.ensures)
 
-pub slice_bounds-result-start-2 : goal.slice_bounds-result-start-2
-slice_bounds-result-start-2 c = omega (arith, before_length c.inner_text-inner.result.now)
+pub slice_bounds-result-start : goal.slice_bounds-result-start
+slice_bounds-result-start c = omega (arith, next_inside _ _ c.in-Some.ensures)
 
-pub returns : goal.returns
-returns c =
-    path_inside _ _ c.inner_text-inner.ensures _ c.first_slash-k.ensures
-    c.if-k-inner.false c.if-k-eq0.false
+pub returns-in-None : goal.returns-in-None
+returns-in-None c =
+    let i = found_or_empty c.args.raw.now _ _ c.inner_text.ensures c.unwrap_or_default-inner.ensures in
+    path_of_inner _ _ _ i (found_none _ c.in-None.ensures)
+
+pub returns-in-Some-eq0 : goal.returns-in-Some-eq0
+returns-in-Some-eq0 c =
+    let i = found_or_empty c.args.raw.now _ _ c.inner_text.ensures c.unwrap_or_default-inner.ensures in
+    path_of_inner _ _ _ i (found_first _ _ c.in-Some-eq0.ensures c.in-Some-eq0.field-0-test)
+
+pub returns-in-Some : goal.returns-in-Some
+returns-in-Some c =
+    let i = found_or_empty c.args.raw.now _ _ c.inner_text.ensures c.unwrap_or_default-inner.ensures in
+    rest c.unwrap_or_default-inner.result.now (c.in-Some.k + 1) ∙ path_of_inner _ _ _ i (found_inside _ _ c.in-Some.ensures c.in-Some.k-test.1)
