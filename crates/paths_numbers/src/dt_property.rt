@@ -1,8 +1,10 @@
 // What dt_property.rs makes of widths, cells and bytestrings.
-ghost use Rattle.std.specs.Prelude.{◌≡◌, ◌+◌, ◌≤◌, length};
+ghost use Rattle.std.specs.Prelude.{◌≡◌, ◌+◌, ◌≤◌, ◌==◌, not, length, count_by, take_while};
+ghost use Rattle.std.specs.Char.{is_digit};
 ghost use Rattle.paths_numbers.specs.declared.dt_property.SizeError.TheVariants.{Int};
 ghost use Rattle.paths_numbers.specs.declared.dt_property.BytesError.TheVariants as B;
-ghost use Rattle.paths_numbers.specs.meaning.Bytestring.{nibbles, bytes_of, count_of, count_code, count_told, written_told, bytes_answer};
+ghost use Rattle.paths_numbers.specs.meaning.Byte.{closing_bracket};
+ghost use Rattle.paths_numbers.specs.meaning.Bytestring.{bytes_of, count_of, count_code, count_told, written_told, bytes_answer};
 ghost use Rattle.paths_numbers.specs.meaning.Bytestring.{bytes_out};
 ghost use Rattle.paths_numbers.specs.meaning.Cell.{bits_of, largest, sized, size_of, size_code, size_told, expr_cell, char_cell, cell_code};
 ghost use Rattle.paths_numbers.specs.meaning.Cell.{cell_told};
@@ -77,6 +79,7 @@ impl BitsSize {
         }
     }
 
+    #[tactic(auto, unfolding(crate::specs::meaning::Cell::size_of, crate::specs::meaning::Text::is_empty))]
     // A width's text, which is empty where there is none.
     pub fn from_token(text: &[u8]) -> Result<BitsSize, SizeError>
         ensures { size_told result ≡ size_of text.now }
@@ -144,6 +147,7 @@ pub fn expr_cell(num: i64, size: BitsSize) -> Result<u64, CellError>
     Err(CellError::ExprOutside)
 }
 
+#[tactic(auto, using(crate::proofs::Cells::char_steps))]
 // What a character is as a cell of a width.
 pub fn char_cell(ch: u32, size: BitsSize) -> Result<u64, CellError>
     ensures { cell_told result ≡ char_cell (bits_of size) ch }
@@ -233,7 +237,7 @@ fn write_nibbles(text: &[u8], out: &mut [u8], at: usize)
 
 // How many hex digits stand before the first `]`.
 fn bytestring_len_digits(text: &[u8]) -> usize
-    ensures { result ≡ length (nibbles text.now) }
+    ensures { result ≡ count_by (λ b. is_digit b 16) (take_while (λ b. not (b == closing_bracket)) text.now) }
 {
     text.iter()
         .take_while(|b| **b != CLOSING_BRACKET)
