@@ -203,7 +203,9 @@ pub fn lower_bytestring(text: &[u8], out: &mut [u8], at: usize) -> Result<usize,
     ensures out_after { out.new ≡ bytes_out text.now out.old at }
 {
     let n = bytestring_len(text)?;
-    let room = out.len().checked_sub(at).ok_or(BytesError::NoRoom)?;
+    let Some(room) = out.len().checked_sub(at) else {
+        return Err(BytesError::NoRoom);
+    };
     if room < n {
         return Err(BytesError::NoRoom);
     }
