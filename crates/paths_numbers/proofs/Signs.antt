@@ -6,7 +6,6 @@ use Rattle.paths_numbers.specs.meaning.Code.{number_empty, not_a_digit, number_t
 use Rattle.paths_numbers.specs.meaning.Reading.{Reading, fails}
 use Rattle.paths_numbers.proofs.Texts.{rest}
 
-
 module _ (base most : ℕ) where
   -- behind a sign: nothing, and digits
   pub behind_none : (over : ℕ) (s : List ℕ) → length s ≡ 0 → behind_sign base most over s ≡ fails not_a_digit

@@ -1,4 +1,5 @@
 // The codes of diagnostics, by 01's numbers.
+// kept: C is told these numbers, and the log's words hold them.
 ghost use Rattle.std.specs.Prelude.{◌≡◌, ℕ};
 
 // A way to fail that has a code.

@@ -11,8 +11,7 @@ ghost use Rattle.paths_numbers.specs.meaning.Cell.{cell_told};
 ghost use Rattle.paths_numbers.specs.meaning.Reading.{value};
 ghost use Rattle.paths_numbers.specs.meaning.Text.{written};
 
-use crate::codes;
-use crate::codes::Code;
+use crate::codes::{self, Code};
 use crate::expr_eval::{IntErrorKind, parse_int_tok};
 
 // The base of the digits of a bytestring, and what ends its text.
@@ -79,8 +78,8 @@ impl BitsSize {
         }
     }
 
-    #[tactic(auto, unfolding(crate::specs::meaning::Cell::size_of, crate::specs::meaning::Text::is_empty))]
     // A width's text, which is empty where there is none.
+    #[tactic(auto, unfolding(crate::specs::meaning::Cell::size_of, crate::specs::meaning::Text::is_empty))]
     pub fn from_token(text: &[u8]) -> Result<BitsSize, SizeError>
         ensures { size_told result ≡ size_of text.now }
     {
@@ -147,8 +146,8 @@ pub fn expr_cell(num: i64, size: BitsSize) -> Result<u64, CellError>
     Err(CellError::ExprOutside)
 }
 
-#[tactic(auto, using(crate::proofs::Cells::char_steps))]
 // What a character is as a cell of a width.
+#[tactic(auto, using(crate::proofs::Cells::char_steps))]
 pub fn char_cell(ch: u32, size: BitsSize) -> Result<u64, CellError>
     ensures { cell_told result ≡ char_cell (bits_of size) ch }
 {

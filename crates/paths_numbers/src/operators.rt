@@ -1,10 +1,11 @@
 // The operators of expr_eval.rs's eval, on signed 64-bit values.
-ghost use Rattle.std.specs.Prelude.{◌≡◌};
-ghost use Rattle.paths_numbers.specs.meaning.Expression.{is_true, eval_prefix, eval_infix, quotient, remainder, shift_left, shift_right};
-ghost use Rattle.paths_numbers.specs.meaning.Expression.{eval_relation, eval_conditional, eval_code, eval_told};
+ghost use Rattle.std.specs.Prelude.{◌≡◌, ◌<◌, ℕ, ℤ, pos, true, false, IfOk, IfErr};
+ghost use Rattle.paths_numbers.specs.meaning.Code.{shift_amount};
+ghost use Rattle.paths_numbers.specs.meaning.Expression.{is_true, eval_prefix, eval_infix, eval_relation, eval_conditional, shift_by};
+ghost use Rattle.paths_numbers.specs.meaning.Expression.{eval_code, eval_told};
+ghost use Rattle.paths_numbers.specs.meaning.Reading.{fails};
 
-use crate::codes;
-use crate::codes::Code;
+use crate::codes::{self, Code};
 
 // Why an operator has no result.
 #[derive(Clone, Copy, Debug, PartialEq, Eq)]
@@ -19,8 +20,8 @@ pub enum EvalError {
     Missing,
 }
 
-// kept: operators go by 01's numbers, which C and the words of a description hold.
 // The infix operators that evaluate only what they need: && || ?:
+// kept: operators go by 01's numbers, which C and the words of a description hold.
 pub const AND: u32 = 11;
 
 pub const OR: u32 = 12;
@@ -49,6 +50,7 @@ pub fn is_true(a: i64) -> bool
 }
 
 // The prefix operator of this number on a value.
+#[tactic(auto, unfolding(crate::specs::meaning::Expression::eval_prefix))]
 pub fn eval_prefix(op: u32, a: i64) -> Result<i64, EvalError>
     ensures { eval_told result ≡ eval_prefix op a }
 {
@@ -62,6 +64,7 @@ pub fn eval_prefix(op: u32, a: i64) -> Result<i64, EvalError>
 }
 
 // The infix operator of this number on two values.
+#[tactic(auto, unfolding(crate::specs::meaning::Expression::eval_infix, crate::specs::meaning::Expression::quotient, crate::specs::meaning::Expression::remainder, crate::specs::meaning::Expression::shift_left, crate::specs::meaning::Expression::shift_right))]
 pub fn eval_infix(op: u32, a: i64, b: i64) -> Result<i64, EvalError>
     ensures { eval_told result ≡ eval_infix op a b }
 {
@@ -69,24 +72,25 @@ pub fn eval_infix(op: u32, a: i64, b: i64) -> Result<i64, EvalError>
         1 => a.checked_add(b).ok_or(EvalError::Outside),
         2 => a.checked_sub(b).ok_or(EvalError::Outside),
         3 => a.checked_mul(b).ok_or(EvalError::Outside),
-        4 => div(a, b),
-        5 => rem(a, b),
+        4 => a.checked_div(divisor(b)?).ok_or(EvalError::Outside),
+        5 => a.checked_rem(divisor(b)?).ok_or(EvalError::Outside),
         6 => Ok(a & b),
         7 => Ok(a | b),
         8 => Ok(a ^ b),
-        9 => shl(a, b),
-        10 => shr(a, b),
+        9 => Ok(a << amount(b)?),
+        10 => Ok(a >> amount(b)?),
         _ => eval_relation(op, a, b),
     }
 }
 
 // The infix operators whose result is a truth.
+#[tactic(auto, unfolding(crate::specs::meaning::Expression::eval_relation))]
 fn eval_relation(op: u32, a: i64, b: i64) -> Result<i64, EvalError>
     ensures { eval_told result ≡ eval_relation op a b }
 {
     match op {
-        AND => Ok((is_true(a) & is_true(b)) as i64),
-        OR => Ok((is_true(a) | is_true(b)) as i64),
+        AND => Ok((is_true(a) && is_true(b)) as i64),
+        OR => Ok((is_true(a) || is_true(b)) as i64),
         13 => Ok((a < b) as i64),
         14 => Ok((b < a) as i64),
         15 => Ok((a <= b) as i64),
@@ -98,48 +102,31 @@ fn eval_relation(op: u32, a: i64, b: i64) -> Result<i64, EvalError>
 }
 
 // The last infix operator: of two values, the one that a condition picks.
+#[tactic(auto, unfolding(crate::specs::meaning::Expression::eval_conditional))]
 pub fn eval_conditional(a: i64, b: i64, c: i64) -> i64
     ensures { result ≡ eval_conditional a b c }
 {
     if is_true(a) { b } else { c }
 }
 
-// The quotient of two values, rounded toward 0: none within 64 bits of −2^63 / −1.
-fn div(a: i64, b: i64) -> Result<i64, EvalError>
-    ensures { eval_told result ≡ quotient a b }
+// A divisor: any value but 0.
+fn divisor(b: i64) -> Result<i64, EvalError>
+    ensures ok { IfOk result (λ n. (n ≡ b) × (is_true b ≡ true)) }
+    ensures err { IfErr result (λ e. (e ≡ EvalError.ZeroDivisor) × (is_true b ≡ false)) }
 {
     if b == 0 {
         return Err(EvalError::ZeroDivisor);
     }
-    a.checked_div(b).ok_or(EvalError::Outside)
+    Ok(b)
 }
 
-// The remainder of that division, with the dividend's sign.
-fn rem(a: i64, b: i64) -> Result<i64, EvalError>
-    ensures { eval_told result ≡ remainder a b }
-{
-    if b == 0 {
-        return Err(EvalError::ZeroDivisor);
-    }
-    a.checked_rem(b).ok_or(EvalError::Outside)
-}
-
-// A value shifted left: what passes bit 63 is dropped.
-fn shl(a: i64, b: i64) -> Result<i64, EvalError>
-    ensures { eval_told result ≡ shift_left a b }
+// The amount of a shift: 0 to 63.
+fn amount(b: i64) -> Result<u32, EvalError>
+    ensures ok { IfOk result (λ n. (n < 64) × (b ≡ pos n)) }
+    ensures err { IfErr result (λ e. (e ≡ EvalError.ShiftAmount) × ((f : ℕ → ℤ) → shift_by f b ≡ fails shift_amount)) }
 {
     match b {
-        0..=63 => Ok(a << b),
-        _ => Err(EvalError::ShiftAmount),
-    }
-}
-
-// A value shifted right: the sign is kept.
-fn shr(a: i64, b: i64) -> Result<i64, EvalError>
-    ensures { eval_told result ≡ shift_right a b }
-{
-    match b {
-        0..=63 => Ok(a >> b),
+        0..=63 => Ok(b as u32),
         _ => Err(EvalError::ShiftAmount),
     }
 }

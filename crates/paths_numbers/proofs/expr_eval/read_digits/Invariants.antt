@@ -5,4 +5,4 @@ use Rattle.paths_numbers.proofs.expr_eval.read_digits.Given as goal
 
 abbrev pub invariant-loop-b : goal.invariant-loop-b
 invariant-loop-b l =
-    (l.acc ≤ l.most) × (digits l.base l.most (int_code l.over) 0 l.s ≡ digits l.base l.most (int_code l.over) l.acc (drop l.b-index l.s))
+    (l.acc ≤ l.most) × (digits l.base.radix l.most (int_code l.over) 0 l.s ≡ digits l.base.radix l.most (int_code l.over) l.acc (drop l.b-index l.s))

@@ -15,7 +15,7 @@ pub returns-in_err-n : goal.returns-in_err-n
 returns-in_err-n c =
     let s = c.args.s.now in
     let e : c.from_residual.result ≡ Err c.in_err-n.field-0.0 = search rules in
-    let m = signed_minus c.args.base s c.in-45.len_at_least (omega arith) in
+    let m = signed_minus c.args.base.radix s c.in-45.len_at_least (omega arith) in
     ap i64_told e ∙ ap negative (rw (rest s 1) at c.in_err-n.ensures.told) ∙ sym m
 
 pub returns-in-45 : goal.returns-in-45
@@ -23,7 +23,7 @@ returns-in-45 c =
     let s = c.args.s.now in
     let n = negated c.in_ok-n.n c.wrapping_neg.result (omega (arith, c.in_ok-n.ensures.within)) c.wrapping_neg.type_inv c.wrapping_neg.ensures in
     let z : to_z w64 (of_z w64 c.cast_signed.result) ≡ c.cast_signed.result = to_z-of_z w64 _ (record { sfits = c.cast_signed.type_inv }) in
-    let m = signed_minus c.args.base s c.in-45.len_at_least (omega arith) in
+    let m = signed_minus c.args.base.radix s c.in-45.len_at_least (omega arith) in
     ap value (z ∙ c.cast_signed.ensures ∙ n) ∙ ap negative (rw (rest s 1) at c.in_ok-n.ensures.told) ∙ sym m
 
 pub returns-in_err-n-2 : goal.returns-in_err-n-2
@@ -34,7 +34,7 @@ returns-in_err-n-2 c =
       | then-s-lt1 w ↦ λ h. search (rules, zero_past)
       | else-s-lt1+in_default-1 w ↦ search rules
     ] in
-    ap i64_told e ∙ ap positive c.in_err-n-2.ensures.told ∙ sym (signed_plain c.args.base s no)
+    ap i64_told e ∙ ap positive c.in_err-n-2.ensures.told ∙ sym (signed_plain c.args.base.radix s no)
 
 pub returns : goal.returns
 returns c =
@@ -44,4 +44,4 @@ returns c =
       | else-s-lt1+in_default-1 w ↦ search rules
     ] in
     ap value (signed_is c.in_ok-n-2.n (omega (arith, c.in_ok-n-2.ensures.within))) ∙ ap positive c.in_ok-n-2.ensures.told
-    ∙ sym (signed_plain c.args.base s no)
+    ∙ sym (signed_plain c.args.base.radix s no)
