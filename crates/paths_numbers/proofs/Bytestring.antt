@@ -1,7 +1,12 @@
 -- The hex digits of a bytestring read byte by byte, paired to bytes, and written.
-use Rattle.std.proofs.Common.{◌≡◌, ℕ, ◌+◌, ◌*◌, ◌/◌, ◌%◌, ◌<◌, ◌≤◌, Bool, true, false, cond, ltb, List, [], ◌∷◌, length, get_or, drop, set, sym, refl, ◌∙◌, add-one, arith, length-set, drop_of_length-le, drop-cons, le-ltb, lt-ltb, eq-eqb, ne_eqb, le-leb}
+use Rattle.std.proofs.Common.{◌≡◌, ℕ, suc, Option, None, Some, ◌+◌, ◌*◌, ◌/◌, ◌%◌, ◌<◌, ◌≤◌, Bool, true, false, cond, not, ltb, nat_lt, ◌==◌, List, [], ◌∷◌, length, get_or, drop, set, sym, refl, ap, ◌∙◌, add-one, arith, length-set, drop_of_length-le, drop-cons, le-ltb, lt-ltb, eq-eqb, ne_eqb, le-leb}
 use mathlib.Core.Option.{some, none}
 use borrow.Author.Tests.{lt-leb}
+use Rattle.std.specs.Char.{digit_value, is_digit}
+use Rattle.std.specs.List.{count_by, filter, take_while}
+use Rattle.std.proofs.lemmas.List.Sums.{length-filter, take_while-cons}
+use Rattle.paths_numbers.proofs.Digits.{digit_same}
+use Rattle.paths_numbers.proofs.Texts.{by_test}
 use Rattle.paths_numbers.specs.meaning.Byte.{digit_of, closing_bracket}
 use Rattle.paths_numbers.specs.meaning.Bytestring.{nibbles, pairs, bytes_of, is_odd, count_of, bytes_answer, bytes_out}
 use Rattle.paths_numbers.specs.meaning.Code.{odd_digits}
@@ -15,14 +20,35 @@ module _ (s : List ℕ) (i : ℕ) (h : i < length s) where
   unfolding nibbles
   nibbles_stop e = rw (drop-cons s i 0 h) (simp (eq-eqb _ _ e))
 
-  module _ (no : get_or s i 0 ≡ closing_bracket → ⊥) (d : ℕ) (e : d ≡ digit_of (get_or s i 0)) where
-    pub nibbles_skip : 16 ≤ d → nibbles (drop i s) ≡ nibbles (drop (i + 1) s)
+  module _ (no : get_or s i 0 ≡ closing_bracket → ⊥) where
+    pub nibbles_skip : 16 ≤ digit_value (get_or s i 0) → nibbles (drop i s) ≡ nibbles (drop (i + 1) s)
     unfolding nibbles
-    nibbles_skip k = rw (drop-cons s i 0 h, add-one) (simp (ne_eqb _ _ no, le-ltb _ _ (rw e at k)))
+    nibbles_skip k = rw (drop-cons s i 0 h, add-one, digit_same) (simp (ne_eqb _ _ no, le-ltb _ _ k))
 
-    pub nibbles_digit : d < 16 → nibbles (drop i s) ≡ d ∷ nibbles (drop (i + 1) s)
+    pub nibbles_digit : (d : ℕ) → d ≡ digit_value (get_or s i 0) → d < 16 → nibbles (drop i s) ≡ d ∷ nibbles (drop (i + 1) s)
     unfolding nibbles
-    nibbles_digit k = rw (drop-cons s i 0 h, add-one, e) (simp (ne_eqb _ _ no, lt-ltb _ _ (rw e at k)))
+    nibbles_digit d e k = rw (drop-cons s i 0 h, add-one, digit_same, ← e) (simp (ne_eqb _ _ no, lt-ltb _ _ k))
+
+-- what the code counts
+abbrev goes_on : ℕ → Bool
+goes_on b = not (b == closing_bracket)
+
+abbrev is_hex : ℕ → Bool
+is_hex b = is_digit b 16
+
+digits_before : (s : List ℕ) → length (filter is_hex (take_while goes_on s)) ≡ length (nibbles s)
+unfolding nibbles
+digits_before [] = refl
+digits_before (b ∷ s) =
+    ap (λ (l : List ℕ). length (filter is_hex l)) (take_while-cons goes_on b s)
+    ∙ by_test (b == closing_bracket)
+    (λ t. rw t refl)
+    (λ t. by_test (nat_lt (digit_of b) 16)
+    (λ d. let e : is_hex b ≡ true = rw digit_same at d in rw (t, d, e) (ap suc (digits_before s)))
+    (λ d. let e : is_hex b ≡ false = rw digit_same at d in rw (t, d, e) (digits_before s)))
+
+pub nibbles_counted : (s : List ℕ) → count_by (λ b. is_digit b 16) (take_while (λ b. not (b == closing_bracket)) s) ≡ length (nibbles s)
+nibbles_counted s = sym (length-filter is_hex (take_while goes_on s)) ∙ digits_before s
 
 -- past the last byte there are no digits
 pub nibbles_done : (s : List ℕ) (i : ℕ) → length s ≤ i → nibbles (drop i s) ≡ []
@@ -37,14 +63,14 @@ length_pairs (h ∷ []) = refl
 length_pairs (h ∷ l ∷ s) = omega (arith, length_pairs s)
 
 -- the count of a text whose digits are counted
-module _ (s : List ℕ) (n : ℕ) (e : n ≡ length (nibbles s)) where
+module _ (s : List ℕ) (n : ℕ) (e : n ≡ count_by (λ b. is_digit b 16) (take_while (λ b. not (b == closing_bracket)) s)) where
   pub count_odd : n % 2 ≡ 1 → fails odd_digits ≡ count_of s
   unfolding count_of
-  count_odd h = simp (eq-eqb (length (nibbles s) % 2) 1 (rw e at h))
+  count_odd h = simp (eq-eqb (length (nibbles s) % 2) 1 (rw (e, nibbles_counted s) at h))
 
   pub count_even : (n % 2 ≡ 1 → ⊥) → value (n / 2) ≡ count_of s
   unfolding count_of
-  count_even h = rw e (simp (ne_eqb (length (nibbles s) % 2) 1 (rw e at h), length_pairs))
+  count_even h = rw (e, nibbles_counted s) (simp (ne_eqb (length (nibbles s) % 2) 1 (rw (e, nibbles_counted s) at h), length_pairs))
 
 -- what a count tells of the text
 pub count_missing : (s : List ℕ) → count_of s ≡ fails odd_digits → is_odd s ≡ true
@@ -63,38 +89,38 @@ count_bytes s n e = go (is_odd s) refl
     go true o = let f : fails odd_digits ≡ value n = rw o at e in let z : ◌≡◌ {A = ℕ} 0 1 = cc in absurd (omega arith)
     go false o = let f : value (length (bytes_of s)) ≡ value n = rw o at e in (o, cc)
 
--- the digits from byte i on, behind a first one that waits for its second; 16 where none waits
-unfoldable pub digits_left : List ℕ → ℕ → ℕ → List ℕ
-digits_left s i first = cond (ltb first 16) (first ∷ nibbles (drop i s)) (nibbles (drop i s))
+-- the digits from byte i on, behind a first one that waits for its second, if one waits
+unfoldable pub digits_left : List ℕ → ℕ → Option ℕ → List ℕ
+digits_left s i None = nibbles (drop i s)
+digits_left s i (Some h) = h ∷ nibbles (drop i s)
 
 -- at the start all digits are left
-pub left_start : (s : List ℕ) → digits_left s 0 16 ≡ nibbles s
+pub left_start : (s : List ℕ) → digits_left s 0 None ≡ nibbles s
 unfolding digits_left
 left_start s = refl
 
 -- with no more digits in the text there is no more byte
-pub left_end : (s : List ℕ) (i first : ℕ) → nibbles (drop i s) ≡ [] → pairs (digits_left s i first) ≡ []
+pub left_end : (s : List ℕ) (i : ℕ) (first : Option ℕ) → nibbles (drop i s) ≡ [] → pairs (digits_left s i first) ≡ []
 unfolding digits_left pairs
-left_end s i first e = go (ltb first 16) refl
-  where
-    go : (t : Bool) → ltb first 16 ≡ t → pairs (digits_left s i first) ≡ []
-    go true o = rw (o, e) refl
-    go false o = rw (o, e) refl
+left_end s i None e = rw e refl
+left_end s i (Some h) e = rw e refl
 
--- a byte that is no digit, a digit that has to wait, and one that makes a pair
-pub left_skip : (s : List ℕ) (i first : ℕ) → nibbles (drop i s) ≡ nibbles (drop (i + 1) s)
+-- a byte that is no digit
+pub left_skip : (s : List ℕ) (i : ℕ) (first : Option ℕ) → nibbles (drop i s) ≡ nibbles (drop (i + 1) s)
     → digits_left s i first ≡ digits_left s (i + 1) first
 unfolding digits_left
-left_skip s i first e = rw e refl
+left_skip s i None e = e
+left_skip s i (Some h) e = rw e refl
 
-module _ (s : List ℕ) (i first d : ℕ) (e : nibbles (drop i s) ≡ d ∷ nibbles (drop (i + 1) s)) (h : d < 16) where
-  pub left_wait : 16 ≤ first → digits_left s i first ≡ digits_left s (i + 1) d
+-- a digit that has to wait, and one that makes a pair
+module _ (s : List ℕ) (i d : ℕ) (e : nibbles (drop i s) ≡ d ∷ nibbles (drop (i + 1) s)) where
+  pub left_wait : digits_left s i None ≡ digits_left s (i + 1) (Some d)
   unfolding digits_left
-  left_wait k = rw e (simp (lt-ltb _ _ h, le-ltb _ _ k))
+  left_wait = e
 
-  pub left_pair : first < 16 → digits_left s i first ≡ first ∷ d ∷ digits_left s (i + 1) 16
+  pub left_pair : (h : ℕ) → digits_left s i (Some h) ≡ h ∷ d ∷ digits_left s (i + 1) None
   unfolding digits_left
-  left_pair k = rw e (simp (lt-ltb _ _ k))
+  left_pair h = rw e refl
 
 -- the bytes of the digits l are still to be written from `to` on to make w, and there is room for them
 pub record ToWrite (w l out : List ℕ) (to : ℕ) : Type 0 where

@@ -1,8 +1,8 @@
 -- Signed numbers of 64 bits as the machine reads them: the test of the sign, the cast, and -1 minus one of them.
-use Rattle.std.proofs.Common.{◌≡◌, ℕ, zero, suc, ◌-◌, ◌^◌, ◌<◌, ◌≤◌, true, false, T, ℤ, pos, negsuc, ◌-ℤ◌, neg_ℤ, nat_abs, refl, ap, ◌∙◌, arith, w64, Fits, SFits, to_z, of_z, le-ltb}
+use Rattle.std.proofs.Common.{◌≡◌, ℕ, zero, suc, ◌+◌, ◌-◌, ◌%◌, ◌^◌, ◌<◌, ◌≤◌, true, false, T, ℤ, pos, negsuc, ◌-ℤ◌, neg_ℤ, nat_abs, refl, ap, ◌∙◌, arith, w64, Fits, SFits, to_z, of_z, le-ltb}
 use lib.Dec.{leb-zero}
 use lib.Signed.{le_z, non_neg, nat_abs-le, pos-nat_abs}
-use mir.ValLaws.{to_z-of_z, to_z_pos}
+use mir.ValLaws.{to_z-of_z, to_z_pos, to_z-neg}
 
 -- -1 minus z: n and -(n + 1) change places
 abbrev pub flip : ℤ → ℤ
@@ -86,18 +86,7 @@ module _ (n : ℕ) (h : n < 2 ^ 63) where
   pub signed_is : to_z w64 n ≡ pos n
   signed_is = to_z_pos w64 n h
 
--- -n, made as -1 minus n - 1
-module _ (n : ℕ) (some : n ≡ 0 → ⊥) (h : n ≤ 2 ^ 63) where
-  low : n - 1 < 2 ^ 63
-  low = omega arith
-
-  pub negated_fits : SFits w64 (negsuc 0 -ℤ to_z w64 (n - 1))
-  negated_fits = minus_fits (n - 1) _ (signed_is (n - 1) low) (signed_fits (n - 1) low)
-
-  -- -(n - 1 + 1) is -n
-  negated : (n : ℕ) → (n ≡ 0 → ⊥) → negsuc (n - 1) ≡ neg_ℤ (pos n)
-  negated zero z = absurd (z refl)
-  negated (suc k) z = ap negsuc (omega arith)
-
-  pub negated_is : to_z w64 (of_z w64 (negsuc 0 -ℤ to_z w64 (n - 1))) ≡ neg_ℤ (pos n)
-  negated_is = minus_is (n - 1) _ (signed_is (n - 1) low) (signed_fits (n - 1) low) ∙ negated n some
+-- the bits of the opposite of n
+pub negated : (n r : ℕ) → n ≤ 2 ^ 63 → r < 2 ^ 64 → (r + n) % 2 ^ 64 ≡ 0 → to_z w64 r ≡ neg_ℤ (pos n)
+negated zero r h k e = let z : r ≡ 0 = omega arith in rw z refl
+negated (suc n) r h k e = let z : r ≡ 2 ^ 64 - suc n = omega arith in rw z (to_z-neg w64 n (omega arith))

@@ -46,15 +46,6 @@ module _ (bits most n : ℕ) (some : 1 ≤ bits) (e : most ≡ 2 ^ bits - 1) whe
   inside : n ≤ most → n < 2 ^ bits
   inside h = omega (arith, pow_pos bits)
 
-  -- a character that fits, and one that is too large
-  pub char_in : n ≤ most → value n ≡ char_cell bits n
-  unfolding char_cell
-  char_in h = simp (lt-ltb _ _ (inside h))
-
-  pub char_out : most < n → fails character_too_large ≡ char_cell bits n
-  unfolding char_cell
-  char_out h = simp (le-ltb n (2 ^ bits) (omega arith))
-
   -- a number from 0 on: kept up to most, and refused above
   pub positive_in : n ≤ most → value n ≡ expr_cell bits (pos n)
   unfolding expr_cell
@@ -79,3 +70,14 @@ module _ (bits most n : ℕ) (some : 1 ≤ bits) (e : most ≡ 2 ^ bits - 1) whe
       let p = half bits some in
       let q = pow_pos (bits - 1) in
       simp (le-ltb n (2 ^ (bits - 1)) (omega arith))
+
+-- a character that fits a width, and one that is too large
+pub char_in : (s : BitsSize) (n : ℕ) → n ≤ largest s → char_cell (bits_of s) n ≡ value n
+unfolding char_cell
+char_in s n h = simp (lt-ltb _ _ (inside (bits_of s) (largest s) n (some_bit s) refl h))
+
+pub char_out : (s : BitsSize) (n : ℕ) → largest s < n → char_cell (bits_of s) n ≡ fails character_too_large
+unfolding char_cell
+char_out s n h = simp (le-ltb n (2 ^ bits_of s) (omega arith))
+
+pub ruleset char_steps = (char_in, char_out)

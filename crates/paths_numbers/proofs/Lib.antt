@@ -13,10 +13,6 @@ pub mod Digits
 pub mod Signs
 pub mod Casts
 pub mod Integers
-pub mod Sums
-pub mod Products
-pub mod Quotients
-pub mod Bits
 pub mod Relations
 pub mod Cells
 pub mod Bytestring

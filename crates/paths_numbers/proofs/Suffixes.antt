@@ -1,5 +1,6 @@
 -- What a text's last byte does to the text without its suffixes.
 use Rattle.std.proofs.Common.{◌≡◌, ℕ, suc, ◌-◌, ◌<◌, ◌≤◌, true, false, List, [], ◌∷◌, ◌++◌, length, get_or, take, sym, refl, ap, ◌∙◌, arith, take-suc}
+use lib.Seq.{take-length}
 use Rattle.paths_numbers.specs.meaning.Number.{is_suffix, kept, trimmed}
 
 -- a text that ends in a suffix
@@ -19,23 +20,23 @@ unfolding trimmed
 other_last [] b h = rw h
 other_last (a ∷ s) b h = ap (kept a) (other_last s b h) ∙ kept_front a s b
 
--- the first n bytes are the first n - 1 and the last of them
-last_of : (s : List ℕ) (n : ℕ) → 0 < n → n ≤ length s → take n s ≡ take (n - 1) s ++ (get_or s (n - 1) 0 ∷ [])
-last_of s n p h =
-    let e : n ≡ suc (n - 1) = omega arith in
-    ap (λ (k : ℕ). take k s) e ∙ take-suc s (n - 1) 0 (omega arith)
+module _ (s : List ℕ) (h : 1 ≤ length s) where
+  -- a text is its front and its last byte
+  last_of : s ≡ take (length s - 1) s ++ (get_or s (length s - 1) 0 ∷ [])
+  last_of =
+      let e : length s ≡ suc (length s - 1) = omega arith in
+      sym (take-length s) ∙ ap (λ (k : ℕ). take k s) e ∙ take-suc s (length s - 1) 0 (omega arith)
 
--- w is what the whole text gives, and the invariant says that its first n bytes give it too
-module _ (s : List ℕ) (n : ℕ) (w : List ℕ) (inv : w ≡ trimmed (take n s)) (p : 0 < n) (h : n ≤ length s) where
-  -- the last of them is a suffix
-  pub shorter : is_suffix (get_or s (n - 1) 0) ≡ true → w ≡ trimmed (take (n - 1) s)
-  shorter t = inv ∙ ap trimmed (last_of s n p h) ∙ suffix_last (take (n - 1) s) _ t
+  -- its last byte is a suffix, and goes
+  pub trimmed_suffix : is_suffix (get_or s (length s - 1) 0) ≡ true → trimmed s ≡ trimmed (take (length s - 1) s)
+  trimmed_suffix t = ap trimmed last_of ∙ suffix_last (take (length s - 1) s) _ t
 
-  -- the last of them is none
-  pub stays : is_suffix (get_or s (n - 1) 0) ≡ false → take n s ≡ w
-  stays t = sym (inv ∙ ap trimmed (last_of s n p h) ∙ other_last (take (n - 1) s) _ t ∙ sym (last_of s n p h))
+  -- its last byte is none, and the text stays
+  pub trimmed_other : is_suffix (get_or s (length s - 1) 0) ≡ false → s ≡ trimmed s
+  trimmed_other t = last_of ∙ sym (other_last (take (length s - 1) s) _ t) ∙ sym (ap trimmed last_of)
 
 -- no byte is left
-pub nothing_left : (s : List ℕ) (n : ℕ) (w : List ℕ) → w ≡ trimmed (take n s) → n ≡ 0 → take n s ≡ w
+pub trimmed_empty : (s : List ℕ) → length s < 1 → s ≡ trimmed s
 unfolding trimmed
-nothing_left s n w inv e = sym (inv ∙ rw e)
+trimmed_empty [] h = refl
+trimmed_empty (b ∷ s) h = absurd (omega arith)

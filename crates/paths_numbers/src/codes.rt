@@ -1,4 +1,16 @@
 // The codes of diagnostics, by 01's numbers.
+// kept: C is told these numbers, and the log's words hold them.
+ghost use Rattle.std.specs.Prelude.{◌≡◌, ℕ};
+
+// A way to fail that has a code.
+pub trait Code {
+    // 01's number of it.
+    ghost code_of: { Self → ℕ };
+
+    fn code(self) -> u32
+        ensures { result ≡ code_of self };
+}
+
 pub const PREPROCESSOR: u32 = 1;
 
 pub const INCLUDE: u32 = 2;

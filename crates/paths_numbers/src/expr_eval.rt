@@ -1,31 +1,34 @@
 // What expr_eval.rs makes of number texts and operators.
-ghost use Rattle.std.specs.Prelude.{◌≡◌, ◌+◌, ◌<◌, ◌≤◌};
-ghost use Rattle.paths_numbers.specs.meaning.Byte.{digit_of};
-ghost use Rattle.paths_numbers.specs.meaning.Number.{is_suffix, trimmed, base_of, has_prefix, digits, behind_sign, unsigned};
-ghost use Rattle.paths_numbers.specs.meaning.Number.{unsigned_number};
-ghost use Rattle.paths_numbers.specs.meaning.Number.{positive, negative, signed, signed_number, int_code, int_told, i64_told};
-ghost use Rattle.paths_numbers.specs.machine.Limits.{Within};
+ghost use Rattle.std.specs.Prelude.{◌≡◌, ◌+◌, ◌*◌, ◌≤◌, IfOk};
+ghost use Rattle.std.specs.Option.{SomeIff};
+ghost use Rattle.paths_numbers.specs.meaning.Number.{trimmed, base_of, behind_prefix, digits, behind_sign, unsigned};
+ghost use Rattle.paths_numbers.specs.meaning.Number.{unsigned_number, signed, signed_number, int_code, int_told, i64_told};
 ghost use Rattle.paths_numbers.specs.meaning.Cell.{largest};
 
-use crate::codes;
+use crate::codes::{self, Code};
 use crate::dt_property::BitsSize;
 
-// The largest and the smallest signed 64-bit number, by their distance from 0.
-pub(crate) const MOST_UP: u64 = 9223372036854775807;
+// The base of a number's digits.
+#[derive(Clone, Copy)]
+struct Base {
+    radix: u32,
+    ghost least: { 2 ≤ radix },
+    ghost highest: { radix ≤ 16 },
+}
 
-pub(crate) const MOST_DOWN: u64 = 9223372036854775808;
+const BINARY: Base = Base { radix: 2 };
 
-// The base of a number without a prefix.
-const DECIMAL: u64 = 10;
+const OCTAL: Base = Base { radix: 8 };
 
-// The base behind a leading 0.
-const OCTAL: u64 = 8;
+const DECIMAL: Base = Base { radix: 10 };
 
-// What a byte that is no digit counts as: more than any base has.
-const NO_DIGIT: u64 = 36;
+const HEX: Base = Base { radix: 16 };
+
+// The distance of the lowest signed 64-bit number from 0.
+const MOST_DOWN: u64 = i64::MAX as u64 + 1;
 
 // How the reading of an integer fails, by the names of the Rust's std::num::IntErrorKind.
-#[derive(Clone, Copy)]
+#[derive(Clone, Copy, Debug, PartialEq, Eq)]
 pub enum IntErrorKind {
     Empty,
     InvalidDigit,
@@ -33,54 +36,34 @@ pub enum IntErrorKind {
     NegOverflow,
 }
 
-// An unsigned number, or how its reading failed.
-#[derive(Clone, Copy)]
-pub enum ParsedInt {
-    Value(u64),
-    Failed(IntErrorKind),
-}
+impl Code for IntErrorKind {
+    ghost code_of = { int_code };
 
-// A signed number, or how its reading failed.
-#[derive(Clone, Copy)]
-pub enum ParsedI64 {
-    Value(i64),
-    Failed(IntErrorKind),
-}
-
-// 01's code of a reading that failed.
-pub fn int_code(kind: IntErrorKind) -> u32
-    ensures { result ≡ int_code kind }
-{
-    match kind {
-        IntErrorKind::Empty => codes::NUMBER_EMPTY,
-        IntErrorKind::InvalidDigit => codes::NOT_A_DIGIT,
-        IntErrorKind::PosOverflow => codes::NUMBER_TOO_LARGE,
-        IntErrorKind::NegOverflow => codes::NUMBER_TOO_SMALL,
+    fn code(self) -> u32 {
+        match self {
+            IntErrorKind::Empty => codes::NUMBER_EMPTY,
+            IntErrorKind::InvalidDigit => codes::NOT_A_DIGIT,
+            IntErrorKind::PosOverflow => codes::NUMBER_TOO_LARGE,
+            IntErrorKind::NegOverflow => codes::NUMBER_TOO_SMALL,
+        }
     }
 }
 
 // An unsigned number's text, read at a width.
-pub fn parse_int_tok(text: &[u8], size: BitsSize) -> ParsedInt
+#[tactic(auto, unfolding(crate::specs::meaning::Number::unsigned_number))]
+pub fn parse_int_tok(text: &[u8], size: BitsSize) -> Result<u64, IntErrorKind>
     ensures { int_told result ≡ unsigned_number (largest size) text.now }
 {
-    let most = size.most();
-    let s = trim_suffixes(text);
-    let base = base_of(s);
-    if has_prefix(s) {
-        return read_unsigned(&s[2..], base, most);
-    }
-    read_unsigned(s, base, most)
+    let (base, s) = split_base(trim_suffixes(text));
+    read_unsigned(s, base, size.most())
 }
 
 // A number's text, read as a signed 64-bit number.
-pub fn parse_int_tok_i64(text: &[u8]) -> ParsedI64
+#[tactic(auto, unfolding(crate::specs::meaning::Number::signed_number))]
+pub fn parse_int_tok_i64(text: &[u8]) -> Result<i64, IntErrorKind>
     ensures { i64_told result ≡ signed_number text.now }
 {
-    let s = trim_suffixes(text);
-    let base = base_of(s);
-    if has_prefix(s) {
-        return read_signed(&s[2..], base);
-    }
+    let (base, s) = split_base(trim_suffixes(text));
     read_signed(s, base)
 }
 
@@ -88,174 +71,93 @@ pub fn parse_int_tok_i64(text: &[u8]) -> ParsedI64
 fn trim_suffixes(text: &[u8]) -> &[u8]
     ensures { result.now ≡ trimmed text.now }
 {
-    let mut n = text.len();
-    while 0 < n {
-        if !is_suffix(text[n - 1]) {
-            return &text[..n];
-        }
-        n -= 1;
+    let mut s = text;
+    while let [front @ .., b'u' | b'U' | b'l' | b'L'] = s {
+        s = front;
     }
-    &text[..n]
+    s
 }
 
-// Whether a letter is a suffix of C's integers.
-fn is_suffix(b: u8) -> bool
-    ensures { result ≡ is_suffix b }
+// The base of a text, by its prefix, 8 behind another leading 0, else 10; and the part behind that prefix.
+#[tactic(auto, using(crate::proofs::Prefix::first_bytes), unfolding(crate::specs::meaning::Number::base_of, crate::specs::meaning::Number::behind_prefix, crate::specs::meaning::Number::has_prefix, crate::specs::meaning::Number::is_prefix_letter))]
+fn split_base(s: &[u8]) -> (Base, &[u8])
+    ensures base { result.0.radix ≡ base_of s.now }
+    ensures rest { result.1.now ≡ behind_prefix s.now }
 {
-    match b {
-        b'u' | b'U' | b'l' | b'L' => true,
-        _ => false,
-    }
-}
-
-// The base of a text: the one that its prefix names, 8 behind another leading 0, else 10.
-fn base_of(s: &[u8]) -> u64
-    ensures { result ≡ base_of s.now }
-{
-    if s.len() == 0 {
-        return DECIMAL;
-    }
-    if s[0] != b'0' {
-        return DECIMAL;
-    }
-    if s.len() == 1 {
-        return OCTAL;
-    }
-    match s[1] {
-        b'x' | b'X' => 16,
-        b'b' | b'B' => 2,
-        _ => OCTAL,
-    }
-}
-
-// Whether a text starts with one of the known prefixes.
-fn has_prefix(s: &[u8]) -> bool
-    ensures { result ≡ has_prefix s.now }
-{
-    if s.len() < 2 {
-        return false;
-    }
-    if s[0] != b'0' {
-        return false;
-    }
-    match s[1] {
-        b'x' | b'X' | b'b' | b'B' | b'o' | b'O' => true,
-        _ => false,
+    match s {
+        [b'0', b'x' | b'X', rest @ ..] => (HEX, rest),
+        [b'0', b'b' | b'B', rest @ ..] => (BINARY, rest),
+        [b'0', b'o' | b'O', rest @ ..] => (OCTAL, rest),
+        [b'0', ..] => (OCTAL, s),
+        _ => (DECIMAL, s),
     }
 }
 
 // An unsigned number behind its prefix.
-fn read_unsigned(s: &[u8], base: u64, most: u64) -> ParsedInt
-    requires { (2 ≤ base) × (base ≤ 16) × (15 ≤ most) }
-    ensures { int_told result ≡ unsigned base most s.now }
+#[tactic(auto, using(crate::proofs::Signs::sign_steps))]
+fn read_unsigned(s: &[u8], base: Base, most: u64) -> Result<u64, IntErrorKind>
+    ensures told { int_told result ≡ unsigned base.radix most s.now }
+    ensures within { IfOk result (λ n. n ≤ most) }
 {
-    if s.len() == 0 {
-        return ParsedInt::Failed(IntErrorKind::Empty);
+    match s {
+        [] => Err(IntErrorKind::Empty),
+        [b'+', rest @ ..] => read_behind_sign(rest, base, most, IntErrorKind::PosOverflow),
+        _ => read_digits(s, base, most, IntErrorKind::PosOverflow),
     }
-    if s[0] == b'+' {
-        return read_behind_sign(&s[1..], base, most, IntErrorKind::PosOverflow);
-    }
-    read_digits(s, base, most, IntErrorKind::PosOverflow)
 }
 
 // A signed number behind its prefix.
-fn read_signed(s: &[u8], base: u64) -> ParsedI64
-    requires { (2 ≤ base) × (base ≤ 16) }
-    ensures { i64_told result ≡ signed base s.now }
+fn read_signed(s: &[u8], base: Base) -> Result<i64, IntErrorKind>
+    ensures { i64_told result ≡ signed base.radix s.now }
 {
-    if s.len() == 0 {
-        return ParsedI64::Failed(IntErrorKind::Empty);
+    if let [b'-', rest @ ..] = s {
+        let n = read_behind_sign(rest, base, MOST_DOWN, IntErrorKind::NegOverflow)?;
+        return Ok(n.wrapping_neg().cast_signed());
     }
-    let first = s[0];
-    if first == b'+' {
-        return to_positive(read_behind_sign(&s[1..], base, MOST_UP, IntErrorKind::PosOverflow));
-    }
-    if first == b'-' {
-        return to_negative(read_behind_sign(&s[1..], base, MOST_DOWN, IntErrorKind::NegOverflow));
-    }
-    to_positive(read_digits(s, base, MOST_UP, IntErrorKind::PosOverflow))
+    let n = read_unsigned(s, base, i64::MAX as u64)?;
+    Ok(n as i64)
 }
 
 // Digits behind a sign: a lone sign is no digit.
-fn read_behind_sign(s: &[u8], base: u64, most: u64, over: IntErrorKind) -> ParsedInt
-    requires { (2 ≤ base) × (base ≤ 16) × (15 ≤ most) }
-    ensures { int_told result ≡ behind_sign base most (int_code over) s.now }
+#[tactic(auto, using(crate::proofs::Signs::sign_steps))]
+fn read_behind_sign(
+    s: &[u8],
+    base: Base,
+    most: u64,
+    over: IntErrorKind,
+) -> Result<u64, IntErrorKind>
+    ensures told { int_told result ≡ behind_sign base.radix most (int_code over) s.now }
+    ensures within { IfOk result (λ n. n ≤ most) }
 {
-    if s.len() == 0 {
-        return ParsedInt::Failed(IntErrorKind::InvalidDigit);
+    if s.is_empty() {
+        return Err(IntErrorKind::InvalidDigit);
     }
     read_digits(s, base, most, over)
 }
 
 // Digits in a base, up to a largest value.
-fn read_digits(s: &[u8], base: u64, most: u64, over: IntErrorKind) -> ParsedInt
-    requires { (2 ≤ base) × (base ≤ 16) × (15 ≤ most) }
-    ensures { int_told result ≡ digits base most (int_code over) 0 s.now }
+fn read_digits(s: &[u8], base: Base, most: u64, over: IntErrorKind) -> Result<u64, IntErrorKind>
+    ensures told { int_told result ≡ digits base.radix most (int_code over) 0 s.now }
+    ensures within { IfOk result (λ n. n ≤ most) }
 {
     let mut acc: u64 = 0;
-    let mut i = 0;
-    while i < s.len() {
-        let d = digit(s[i]);
-        if base <= d {
-            return ParsedInt::Failed(IntErrorKind::InvalidDigit);
-        }
-        if (most - d) / base < acc {
-            return ParsedInt::Failed(over);
-        }
-        acc = acc * base + d;
-        i += 1;
+    for b in s {
+        let Some(digit) = char::from(*b).to_digit(base.radix) else {
+            return Err(IntErrorKind::InvalidDigit);
+        };
+        let Some(next) = with_digit(acc, base.radix, digit, most) else {
+            return Err(over);
+        };
+        acc = next;
     }
-    ParsedInt::Value(acc)
+    Ok(acc)
 }
 
-// The value of a digit, NO_DIGIT where the byte is none.
-pub(crate) fn digit(b: u8) -> u64
-    ensures { result ≡ digit_of b }
+// A number with one more digit behind it, where it is not too large.
+fn with_digit(acc: u64, radix: u32, digit: u32, most: u64) -> Option<u64>
+    ensures { SomeIff result (acc * radix + digit ≤ most) (acc * radix + digit) }
 {
-    if b < b'0' {
-        return NO_DIGIT;
-    }
-    if b <= b'9' {
-        return (b - 48) as u64;
-    }
-    if b < b'A' {
-        return NO_DIGIT;
-    }
-    if b <= b'Z' {
-        return (b - 55) as u64;
-    }
-    if b < b'a' {
-        return NO_DIGIT;
-    }
-    if b <= b'z' {
-        return (b - 87) as u64;
-    }
-    NO_DIGIT
-}
-
-// A reading as a positive number.
-fn to_positive(p: ParsedInt) -> ParsedI64
-    requires { Within 9223372036854775807 (int_told p) }
-    ensures { i64_told result ≡ positive (int_told p) }
-{
-    match p {
-        ParsedInt::Value(n) => ParsedI64::Value(n as i64),
-        ParsedInt::Failed(e) => ParsedI64::Failed(e),
-    }
-}
-
-// A reading as a negative number.
-fn to_negative(p: ParsedInt) -> ParsedI64
-    requires { Within 9223372036854775808 (int_told p) }
-    ensures { i64_told result ≡ negative (int_told p) }
-{
-    match p {
-        ParsedInt::Value(n) => {
-            if n == 0 {
-                return ParsedI64::Value(0);
-            }
-            ParsedI64::Value(-1 - ((n - 1) as i64))
-        }
-        ParsedInt::Failed(e) => ParsedI64::Failed(e),
-    }
+    acc.checked_mul(radix as u64)?
+        .checked_add(digit as u64)
+        .filter(|n| *n <= most)
 }

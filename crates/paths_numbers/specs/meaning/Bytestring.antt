@@ -1,14 +1,13 @@
 -- 01, "Values": "Bytestring: hex digits up to the first ], all else skipped; an odd count gives 11 and drops the value."
-use Rattle.std.specs.Prelude.{ℕ, ◌+◌, ◌*◌, ◌%◌, Bool, cond, List, [], ◌∷◌, length, ◌==◌, nat_le, nat_lt}
+use Rattle.std.specs.Prelude.{ℕ, ◌+◌, ◌*◌, ◌%◌, Bool, cond, List, [], ◌∷◌, length, ◌==◌, nat_le, nat_lt, Result, Ok, Err}
 use Rattle.std.proofs.Math.Option.{Option, some, none}
 use Rattle.paths_numbers.specs.meaning.Code.{odd_digits}
-use Rattle.paths_numbers.specs.meaning.Reading.{Reading, value, fails, no_code}
+use Rattle.paths_numbers.specs.meaning.Reading.{Reading, value, fails, told}
 use Rattle.paths_numbers.specs.meaning.Byte.{digit_of, closing_bracket}
 use Rattle.paths_numbers.specs.meaning.Text.{written}
-use Rattle.paths_numbers.specs.declared.dt_property.ByteCount.{ByteCount}
-use Rattle.paths_numbers.specs.declared.dt_property.ByteCount.TheVariants as C
-use Rattle.paths_numbers.specs.declared.dt_property.BytesWritten.{BytesWritten}
-use Rattle.paths_numbers.specs.declared.dt_property.BytesWritten.TheVariants as W
+use Rattle.paths_numbers.specs.declared.dt_property.MissingDigit.{MissingDigit}
+use Rattle.paths_numbers.specs.declared.dt_property.BytesError.{BytesError}
+use Rattle.paths_numbers.specs.declared.dt_property.BytesError.TheVariants as B
 
 -- the hex digits up to the first "]"
 unfoldable pub nibbles : List ℕ → List ℕ
@@ -30,24 +29,22 @@ bytes_of text = pairs (nibbles text)
 abbrev pub is_odd : List ℕ → Bool
 is_odd text = length (nibbles text) % 2 == 1
 
--- the diagnostic code of a bytestring that is none, and what an answer tells
-abbrev pub count_code : ByteCount → ℕ
-count_code (C.Bytes n) = no_code
-count_code C.MissingDigit = odd_digits
+-- the diagnostic code of a bytestring that is none, and what a result tells
+abbrev pub count_code : MissingDigit → ℕ
+count_code e = odd_digits
 
-abbrev pub count_told : ByteCount → Reading ℕ
-count_told (C.Bytes n) = value n
-count_told C.MissingDigit = fails (count_code C.MissingDigit)
+abbrev pub count_told : Result ℕ MissingDigit → Reading ℕ
+count_told = told count_code
 
 -- how many bytes
 unfoldable pub count_of : List ℕ → Reading ℕ
 count_of text = cond (is_odd text) (fails odd_digits) (value (length (bytes_of text)))
 
--- what an answer to the writing of them tells: none where there is no room, which has no number
-abbrev pub written_told : BytesWritten → Option (Reading ℕ)
-written_told (W.Bytes n) = some (value n)
-written_told W.MissingDigit = some (fails (count_code C.MissingDigit))
-written_told W.NoRoom = none
+-- what a result of the writing of them tells: none where there is no room, which has no number
+abbrev pub written_told : Result ℕ BytesError → Option (Reading ℕ)
+written_told (Ok n) = some (value n)
+written_told (Err B.MissingDigit) = some (fails odd_digits)
+written_told (Err B.NoRoom) = none
 
 -- what writing the bytes at a place answers
 unfoldable pub bytes_answer : List ℕ → ℕ → ℕ → Option (Reading ℕ)

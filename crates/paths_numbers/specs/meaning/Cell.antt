@@ -1,15 +1,15 @@
 -- 01, "Values": a cell list's width, and what an expression's result and a character are as cells of it.
-use Rattle.std.specs.Prelude.{ℕ, ◌-◌, ◌%◌, ◌^◌, Bool, false, cond, List, ℤ, pos, negsuc, ◌==◌, nat_lt}
+use Rattle.std.specs.Prelude.{ℕ, ◌-◌, ◌%◌, ◌^◌, Bool, false, cond, List, ℤ, pos, negsuc, ◌==◌, nat_lt, Result}
 use Rattle.paths_numbers.specs.meaning.Code.{width_unsupported, character_too_large, cell_outside}
 use Rattle.paths_numbers.specs.meaning.Text.{is_empty}
-use Rattle.paths_numbers.specs.meaning.Reading.{Reading, value, fails, no_code}
+use Rattle.paths_numbers.specs.meaning.Reading.{Reading, value, fails, told}
 use Rattle.paths_numbers.specs.meaning.Number.{unsigned_number, int_code}
 use Rattle.paths_numbers.specs.declared.dt_property.BitsSize.{BitsSize}
 use Rattle.paths_numbers.specs.declared.dt_property.BitsSize.TheVariants.{Bits8, Bits16, Bits32, Bits64}
-use Rattle.paths_numbers.specs.declared.dt_property.SizeRead.{SizeRead}
-use Rattle.paths_numbers.specs.declared.dt_property.SizeRead.TheVariants.{Size, Unsupported, Failed}
-use Rattle.paths_numbers.specs.declared.dt_property.Cell.{Cell}
-use Rattle.paths_numbers.specs.declared.dt_property.Cell.TheVariants.{Number, CharTooLarge, ExprOutside}
+use Rattle.paths_numbers.specs.declared.dt_property.SizeError.{SizeError}
+use Rattle.paths_numbers.specs.declared.dt_property.SizeError.TheVariants.{Unsupported, Int}
+use Rattle.paths_numbers.specs.declared.dt_property.CellError.{CellError}
+use Rattle.paths_numbers.specs.declared.dt_property.CellError.TheVariants.{CharTooLarge, ExprOutside}
 
 -- "Cell width: 8, 16, 32, 64"
 abbrev pub bits_of : BitsSize → ℕ
@@ -22,16 +22,13 @@ bits_of Bits64 = 64
 abbrev pub largest : BitsSize → ℕ
 largest s = 2 ^ bits_of s - 1
 
--- the diagnostic code of a width that is none, and what an answer tells
-abbrev pub size_code : SizeRead → ℕ
-size_code (Size s) = no_code
+-- the diagnostic code of a width that is none, and what a result tells
+abbrev pub size_code : SizeError → ℕ
 size_code Unsupported = width_unsupported
-size_code (Failed e) = int_code e
+size_code (Int e) = int_code e
 
-abbrev pub size_told : SizeRead → Reading BitsSize
-size_told (Size s) = value s
-size_told Unsupported = fails (size_code Unsupported)
-size_told (Failed e) = fails (size_code (Failed e))
+abbrev pub size_told : Result BitsSize SizeError → Reading BitsSize
+size_told = told size_code
 
 -- the width that a number names, "another gives 12"
 abbrev pub sized : Reading ℕ → Reading BitsSize
@@ -47,16 +44,13 @@ sized (fails c) = fails c
 unfoldable pub size_of : List ℕ → Reading BitsSize
 size_of text = cond (is_empty text) (value Bits32) (sized (unsigned_number (largest Bits32) text))
 
--- the diagnostic code of a cell that has no number, and what an answer tells
-abbrev pub cell_code : Cell → ℕ
-cell_code (Number n) = no_code
+-- the diagnostic code of a cell that has no number, and what a result tells
+abbrev pub cell_code : CellError → ℕ
 cell_code CharTooLarge = character_too_large
 cell_code ExprOutside = cell_outside
 
-abbrev pub cell_told : Cell → Reading ℕ
-cell_told (Number n) = value n
-cell_told CharTooLarge = fails (cell_code CharTooLarge)
-cell_told ExprOutside = fails (cell_code ExprOutside)
+abbrev pub cell_told : Result ℕ CellError → Reading ℕ
+cell_told = told cell_code
 
 -- whether z is a number of this many bits, unsigned, and signed
 abbrev pub fits_unsigned : ℕ → ℤ → Bool

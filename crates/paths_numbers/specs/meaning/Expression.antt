@@ -1,28 +1,23 @@
 -- 01, "Numbers", from "Expressions are signed 64-bit" on: the operators, on integers, and where they have no result.
-use Rattle.std.specs.Prelude.{ℕ, zero, suc, ◌*◌, ◌%◌, ◌^◌, Bool, true, false, cond, not, ℤ, pos, negsuc, ◌+ℤ◌, ◌-ℤ◌, ◌*ℤ◌, neg_ℤ, ◌==◌, bit_and, bit_or, bit_xor, int_div, int_le, int_lt, int_rem, nat_lt}
+use Rattle.std.specs.Prelude.{ℕ, zero, suc, ◌*◌, ◌%◌, ◌^◌, Bool, true, false, cond, not, ℤ, pos, negsuc, ◌+ℤ◌, ◌-ℤ◌, ◌*ℤ◌, neg_ℤ, ◌==◌, bit_and, bit_or, bit_xor, int_div, int_le, int_lt, int_rem, nat_lt, Result}
 use Rattle.std.specs.Int.Signed.{mag, shr_z}
 use Rattle.std.specs.Int.{w64}
 use Rattle.std.proofs.Common.{to_z, of_z}
 use Rattle.paths_numbers.specs.meaning.Code.{outside64_bits, zero_divisor, shift_amount}
-use Rattle.paths_numbers.specs.meaning.Reading.{Reading, value, fails, no_code}
-use Rattle.paths_numbers.specs.declared.operators.Evaluated.{Evaluated}
-use Rattle.paths_numbers.specs.declared.operators.Evaluated.TheVariants.{Value, Outside, ZeroDivisor, ShiftAmount, Missing}
+use Rattle.paths_numbers.specs.meaning.Reading.{Reading, value, fails, no_code, told}
+use Rattle.paths_numbers.specs.declared.operators.EvalError.{EvalError}
+use Rattle.paths_numbers.specs.declared.operators.EvalError.TheVariants.{Outside, ZeroDivisor, ShiftAmount, Missing}
 
--- the diagnostic code of each way to fail; "a missing operand or operator fails without a code", and so has a result none
-abbrev pub eval_code : Evaluated → ℕ
-eval_code (Value z) = no_code
+-- the diagnostic code of each way to fail; "a missing operand or operator fails without a code"
+abbrev pub eval_code : EvalError → ℕ
 eval_code Outside = outside64_bits
 eval_code ZeroDivisor = zero_divisor
 eval_code ShiftAmount = shift_amount
 eval_code Missing = no_code
 
--- what an answer tells
-abbrev pub eval_told : Evaluated → Reading ℤ
-eval_told (Value z) = value z
-eval_told Outside = fails (eval_code Outside)
-eval_told ZeroDivisor = fails (eval_code ZeroDivisor)
-eval_told ShiftAmount = fails (eval_code ShiftAmount)
-eval_told Missing = fails (eval_code Missing)
+-- what a result tells
+abbrev pub eval_told : Result ℤ EvalError → Reading ℤ
+eval_told = told eval_code
 
 -- whether a number is within 64 bits: n and -(n + 1) are where n is below 2 ^ 63
 abbrev pub is_within : ℤ → Bool

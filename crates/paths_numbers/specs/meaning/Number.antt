@@ -1,29 +1,23 @@
 -- 01, "Numbers": what a number's text reads as, at an unsigned limit and signed in 64 bits.
-use Rattle.std.specs.Prelude.{ℕ, ◌+◌, ◌-◌, ◌*◌, ◌^◌, Bool, true, false, cond, List, [], ◌∷◌, drop, ℤ, pos, neg_ℤ, ◌==◌, nat_le, nat_lt, slice_index}
+use Rattle.std.specs.Prelude.{ℕ, ◌+◌, ◌-◌, ◌*◌, ◌^◌, Bool, true, false, cond, List, [], ◌∷◌, drop, ℤ, pos, neg_ℤ, ◌==◌, nat_le, nat_lt, slice_index, Result}
 use Rattle.paths_numbers.specs.meaning.Code.{number_empty, not_a_digit, number_too_large, number_too_small}
-use Rattle.paths_numbers.specs.meaning.Reading.{Reading, value, fails}
+use Rattle.paths_numbers.specs.meaning.Reading.{Reading, value, fails, told}
 use Rattle.paths_numbers.specs.meaning.Byte.{digit_of, plus, minus}
 use Rattle.paths_numbers.specs.declared.expr_eval.IntErrorKind.{IntErrorKind}
 use Rattle.paths_numbers.specs.declared.expr_eval.IntErrorKind.TheVariants.{Empty, InvalidDigit, PosOverflow, NegOverflow}
-use Rattle.paths_numbers.specs.declared.expr_eval.ParsedInt.{ParsedInt}
-use Rattle.paths_numbers.specs.declared.expr_eval.ParsedInt.TheVariants as U
-use Rattle.paths_numbers.specs.declared.expr_eval.ParsedI64.{ParsedI64}
-use Rattle.paths_numbers.specs.declared.expr_eval.ParsedI64.TheVariants as I
 
--- the diagnostic code of each way to fail, and what an answer tells
+-- the diagnostic code of each way to fail, and what a result tells
 abbrev pub int_code : IntErrorKind → ℕ
 int_code Empty = number_empty
 int_code InvalidDigit = not_a_digit
 int_code PosOverflow = number_too_large
 int_code NegOverflow = number_too_small
 
-abbrev pub int_told : ParsedInt → Reading ℕ
-int_told (U.Value n) = value n
-int_told (U.Failed e) = fails (int_code e)
+abbrev pub int_told : Result ℕ IntErrorKind → Reading ℕ
+int_told = told int_code
 
-abbrev pub i64_told : ParsedI64 → Reading ℤ
-i64_told (I.Value z) = value z
-i64_told (I.Failed e) = fails (int_code e)
+abbrev pub i64_told : Result ℤ IntErrorKind → Reading ℤ
+i64_told = told int_code
 
 -- u, U, l and L
 unfoldable pub is_suffix : ℕ → Bool

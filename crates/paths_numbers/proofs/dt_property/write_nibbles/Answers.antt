@@ -1,51 +1,52 @@
-use Rattle.std.proofs.Common.{length, refl, ap, ◌∙◌, arith, length-set, rules}
+use Rattle.std.proofs.Common.{refl, sym, ap, ◌∙◌, arith, Some}
+use Rattle.std.specs.Char.{digit_value}
 use Rattle.paths_numbers.proofs.Bytestring.{nibbles_stop, nibbles_skip, nibbles_digit, nibbles_done, left_start}
-use Rattle.paths_numbers.proofs.Bytestring.{left_end, left_skip, left_wait, left_pair, write_room, write_pair, write_end}
+use Rattle.paths_numbers.proofs.Bytestring.{digits_left, left_end, left_skip, left_wait, left_pair, write_room, write_pair, write_end}
 use Rattle.paths_numbers.proofs.dt_property.write_nibbles.Goals as goal
-use Rattle.paths_numbers.proofs.dt_property.write_nibbles.Goals.{then-nibble-lt16+then-first-lt16, then-nibble-lt16+else-first-lt16, else-nibble-lt16}
+use Rattle.paths_numbers.proofs.dt_property.write_nibbles.Goals.{in-Some-first, in_default-first}
 
-pub loop-i-init : goal.loop-i-init
-loop-i-init c =
-    let a = c.args in
-    (search rules, refl, rw (left_start a.text.now) (record { whole = refl; room = omega arith }))
+pub loop-b-init : goal.loop-b-init
+loop-b-init c = (tt, rw (left_start c.args.text.now) (record { whole = refl; room = omega arith }))
 
 pub returns-then-b-eq-CLOSING_BRACKET : goal.returns-then-b-eq-CLOSING_BRACKET
 returns-then-b-eq-CLOSING_BRACKET c =
-    let a = c.args in
-    let l = c.loop-i in
-    write_end l.invariant.2 (left_end a.text.now l.i l.first (nibbles_stop a.text.now l.i (omega arith) (omega arith)))
+    let l = c.loop-b in
+    write_end l.invariant.1 (left_end c.args.text.now l.b-index l.first (nibbles_stop c.args.text.now l.b-index (omega arith) (omega arith)))
+
+pub loop-b-preserved-in_default : goal.loop-b-preserved-in_default
+loop-b-preserved-in_default c =
+    let l = c.loop-b in
+    let s = c.args.text.now in
+    let e = ap digit_value c.from.ensures in
+    let n = nibbles_skip s l.b-index (omega arith) c.if-b-eq-CLOSING_BRACKET.false (omega (arith, c.in_default.ensures.value)) in
+    (l.invariant.0, rw (left_skip s l.b-index l.first n) at l.invariant.1)
 
 pub bounds-out-to : goal.bounds-out-to
 bounds-out-to c =
-    let a = c.args in
-    let l = c.loop-i in
-    let e = nibbles_digit a.text.now l.i (omega arith) c.if-b-eq-CLOSING_BRACKET.false _ c.digit-nibble.ensures
-    c.if-nibble-lt16.true in
-    write_room (rw (left_pair a.text.now l.i l.first _ e c.if-nibble-lt16.true c.if-first-lt16.true) at l.invariant.2)
+    let l = c.loop-b in
+    let s = c.args.text.now in
+    let d = c.in-Some.ensures.value in
+    let e = d.1 ∙ ap digit_value c.from.ensures in
+    let n = nibbles_digit s l.b-index (omega arith) c.if-b-eq-CLOSING_BRACKET.false _ e (omega arith) in
+    write_room (rw (c.in-Some-first.is, left_pair s l.b-index _ n c.in-Some-first.high) at l.invariant.1)
 
-pub loop-i-preserved : goal.loop-i-preserved
-loop-i-preserved c =
-    let a = c.args in
-    let l = c.loop-i in
-    let s = a.text.now in
-    let no = c.if-b-eq-CLOSING_BRACKET.false in
-    let d = c.digit-nibble.ensures in
-    elim c.if-nibble-lt16.branch [
-      | then-nibble-lt16+then-first-lt16 w ↦
-          let n = w.if-nibble-lt16.true in
-          let e = left_pair s l.i l.first _ (nibbles_digit s l.i (omega arith) no _ d n) n w.if-first-lt16.true in
-          (omega arith, ap length w.out-is ∙ simp length-set l.invariant.1, rw (w.out-is, w.first-is, w.to-is) (write_pair (rw e at l.invariant.2)))
-      | then-nibble-lt16+else-first-lt16 w ↦
-          let n = w.if-nibble-lt16.true in
-          let e = left_wait s l.i l.first _ (nibbles_digit s l.i (omega arith) no _ d n) n w.if-first-lt16.false in
-          (omega arith, ap length w.out-is ∙ l.invariant.1, rw (w.out-is, w.first-is, w.to-is) (rw e at l.invariant.2))
-      | else-nibble-lt16 w ↦
-          let e = left_skip s l.i l.first (nibbles_skip s l.i (omega arith) no _ d w.if-nibble-lt16.false) in
-          (omega arith, ap length w.out-is ∙ l.invariant.1, rw (w.out-is, w.first-is, w.to-is) (rw e at l.invariant.2))
+pub loop-b-preserved : goal.loop-b-preserved
+loop-b-preserved c =
+    let l = c.loop-b in
+    let s = c.args.text.now in
+    let d = c.in-Some.ensures.value in
+    let e = d.1 ∙ ap digit_value c.from.ensures in
+    let n = nibbles_digit s l.b-index (omega arith) c.if-b-eq-CLOSING_BRACKET.false _ e (omega arith) in
+    elim c.match-first.branch [
+      | in-Some-first w ↦
+          rw (w.out-is, w.first-is, w.to-is)
+          (tt, write_pair (rw (w.in-Some-first.is, left_pair s l.b-index _ n w.in-Some-first.high) at l.invariant.1))
+      | in_default-first w ↦
+          rw (w.out-is, w.first-is, w.to-is)
+          (omega arith, rw (w.in_default-first.is, left_wait s l.b-index _ n) at l.invariant.1)
     ]
 
 pub returns : goal.returns
 returns c =
-    let a = c.args in
-    let l = c.loop-i in
-    write_end l.invariant.2 (left_end a.text.now l.i l.first (nibbles_done a.text.now l.i (omega arith)))
+    let l = c.loop-b in
+    write_end l.invariant.1 (left_end c.args.text.now l.b-index l.first (nibbles_done c.args.text.now l.b-index (omega arith)))

@@ -1,32 +1,30 @@
-use Rattle.std.proofs.Common.{arith}
-use Rattle.paths_numbers.proofs.Digits.{bad, large, good, done, above, below}
+use Rattle.std.proofs.Common.{arith, ap, ◌∙◌}
+use Rattle.std.specs.Char.{digit_value}
+use Rattle.paths_numbers.proofs.Digits.{bad, large, good, done}
 use Rattle.paths_numbers.proofs.expr_eval.read_digits.Goals as goal
 
-pub returns-then-base-d : goal.returns-then-base-d
-returns-then-base-d c =
-    let l = c.loop-i in
-    bad _ _ _ _ c.args.s.now l.i _ l.invariant.1 (omega arith) (omega arith)
+pub returns-in_default-clause-told : goal.returns-in_default-clause-told
+returns-in_default-clause-told c =
+    let l = c.loop-b in
+    let e = ap digit_value c.from.ensures in
+    bad _ _ _ _ c.args.s.now l.b-index _ l.invariant.1 (omega arith) (omega (arith, c.in_default.ensures.value))
 
-pub returns-then-most-d : goal.returns-then-most-d
-returns-then-most-d c =
-    let l = c.loop-i in
-    large _ _ _ _ c.args.s.now l.i _ l.invariant.1 (omega arith) (omega arith)
-    (omega (arith, above _ _ _ _ (omega arith) c.if-most-d.true))
+pub returns-in_default-with_digit-clause-told : goal.returns-in_default-with_digit-clause-told
+returns-in_default-with_digit-clause-told c =
+    let l = c.loop-b in
+    let d = c.in-Some.ensures.value in
+    let e = ap digit_value c.from.ensures in
+    large _ _ _ _ c.args.s.now l.b-index _ l.invariant.1 c.in-Some.digit (omega arith) (d.1 ∙ e) (omega arith)
+    (omega (arith, c.in_default-with_digit.ensures))
 
-pub overflow_mul-acc : goal.overflow_mul-acc
-overflow_mul-acc c = omega (arith, below _ _ _ _ (omega arith) (omega arith) c.if-most-d.false)
+pub loop-b-preserved : goal.loop-b-preserved
+loop-b-preserved c =
+    let l = c.loop-b in
+    let d = c.in-Some.ensures.value in
+    let e = ap digit_value c.from.ensures in
+    let n = c.in-Some-with_digit.ensures in
+    rw n.1
+    (n.0, good _ _ _ _ c.args.s.now l.b-index _ l.invariant.1 c.in-Some.digit (omega arith) (d.1 ∙ e) (omega arith) n.0)
 
-pub overflow_add-acc : goal.overflow_add-acc
-overflow_add-acc c = omega (arith, below _ _ _ _ (omega arith) (omega arith) c.if-most-d.false)
-
-pub loop-i-preserved : goal.loop-i-preserved
-loop-i-preserved c =
-    let l = c.loop-i in (
-      omega arith,
-      good _ _ _ _ c.args.s.now l.i _ l.invariant.1 (omega arith) _
-          c.digit-d.ensures c.if-base-d.false
-          (below _ _ _ _ (omega arith) (omega arith) c.if-most-d.false),
-    )
-
-pub returns : goal.returns
-returns c = done _ _ _ _ c.args.s.now c.loop-i.i _ c.loop-i.invariant.1 c.loop-i-test.false
+pub returns-clause-told : goal.returns-clause-told
+returns-clause-told c = done _ _ _ _ c.args.s.now c.loop-b.b-index _ c.loop-b.invariant.1 (omega arith)

@@ -1,33 +1,17 @@
-use Rattle.std.proofs.Common.{sym, ap, ◌∙◌, arith, length-take-le}
-use lib.Seq.{take-length}
-use Rattle.paths_numbers.specs.meaning.Number.{trimmed}
-use Rattle.paths_numbers.proofs.Suffixes.{shorter, stays, nothing_left}
+-- The last byte is a suffix, or the text has none left.
+use Rattle.std.proofs.Common.{sym, ◌∙◌, arith}
+use Rattle.std.proofs.lemmas.Bool.Decides.{nat_tests}
+use Rattle.paths_numbers.specs.meaning.Number.{is_suffix}
+use Rattle.paths_numbers.proofs.Suffixes.{trimmed_suffix, trimmed_other, trimmed_empty}
 use Rattle.paths_numbers.proofs.expr_eval.trim_suffixes.Goals as goal
 
-pub loop-n-init : goal.loop-n-init
-loop-n-init c = (omega arith, ap trimmed (sym (take-length c.args.text.now)))
+pub loop-s-preserved : goal.loop-s-preserved
+unfolding is_suffix
+loop-s-preserved c = c.loop-s.invariant ∙ trimmed_suffix _ c.in-117.len_at_least (grind (arith, nat_tests))
 
-pub slice_bounds-result-end : goal.slice_bounds-result-end
-slice_bounds-result-end c = sym (length-take-le _ c.args.text.now (omega arith))
+pub returns-in_default : goal.returns-in_default
+returns-in_default c = trimmed_empty _ c.in_default.len_below ∙ sym c.loop-s.invariant
 
-pub returns-then-not-is_suffix : goal.returns-then-not-is_suffix
-returns-then-not-is_suffix c =
-    let l = c.loop-n in
-    stays c.args.text.now l.n _ l.invariant.1 (omega arith) l.invariant.0
-    (sym c.is_suffix.ensures ∙ c.if-not-is_suffix.true)
-
-pub loop-n-preserved : goal.loop-n-preserved
-loop-n-preserved c =
-    let l = c.loop-n in (
-      omega arith,
-      shorter c.args.text.now l.n _ l.invariant.1 (omega arith)
-          l.invariant.0 (sym c.is_suffix.ensures ∙ c.if-not-is_suffix.false),
-    )
-
-pub slice_bounds-result-end-2 : goal.slice_bounds-result-end-2
-slice_bounds-result-end-2 c = sym (length-take-le _ c.args.text.now (omega arith))
-
-pub returns : goal.returns
-returns c =
-    let l = c.loop-n in
-    nothing_left c.args.text.now l.n _ l.invariant.1 (omega arith)
+pub returns-in_default-2 : goal.returns-in_default-2
+unfolding is_suffix
+returns-in_default-2 c = trimmed_other _ c.in_default.len_at_least (grind (arith, nat_tests)) ∙ sym c.loop-s.invariant

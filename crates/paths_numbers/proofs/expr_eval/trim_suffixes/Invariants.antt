@@ -1,10 +1,10 @@
--- The text without suffixes. The invariant: the first n bytes give what the whole text gives. The measure is n.
-use Rattle.std.proofs.Common.{◌≡◌, ◌≤◌, length, take}
+-- What is left of the text gives what the whole text gives.
+use Rattle.std.proofs.Common.{◌≡◌, length}
 use Rattle.paths_numbers.specs.meaning.Number.{trimmed}
 use Rattle.paths_numbers.proofs.expr_eval.trim_suffixes.Given as goal
 
-abbrev pub invariant-loop-n : goal.invariant-loop-n
-invariant-loop-n l = (l.n ≤ length l.text) × (trimmed l.text ≡ trimmed (take l.n l.text))
+abbrev pub invariant-loop-s : goal.invariant-loop-s
+invariant-loop-s l = trimmed l.text ≡ trimmed l.s
 
-abbrev pub decreases-loop-n : goal.decreases-loop-n
-decreases-loop-n l = l.n
+abbrev pub decreases-loop-s : goal.decreases-loop-s
+decreases-loop-s l = length l.s
