@@ -1,6 +1,6 @@
 // A path's history: one pass over a chain of definitions, from the first to the last.
 ghost use Rattle.std.specs.Prelude.{◌≤◌, ◌≡◌, false, length};
-ghost use Rattle.definition_log.specs.meaning.Record.{log_count};
+ghost use Rattle.definition_log.specs.meaning.Record.{log_count, most_records};
 ghost use Rattle.definition_log.specs.meaning.ReadBack.{def_at};
 ghost use Rattle.queries.specs.machine.Lists.{history_in};
 ghost use Rattle.queries.specs.machine.Pass.{is_listed, defined_after};
@@ -35,7 +35,8 @@ fn history_within<const N: usize>(
     path: &[u8],
     list: &mut [u32],
 ) -> u32
-    requires { log_count words.now ≤ N }
+    requires room { log_count words.now ≤ N }
+    requires size { N ≤ most_records }
     ensures { Listed list.old list.new result
         (history_in words.now bytes.now first path.now) }
 {

@@ -1,6 +1,5 @@
 -- Each record that is listed is written behind the others (Numbers: one_collected).
-use mathlib.Core.Path.{◌≡◌, refl, sym, ap, ◌∙◌}
-use mathlib.Core.Bool.{Bool}
+use mathlib.Core.Path.{refl, sym, ap, ◌∙◌}
 use native.Mathlib.Omega.{arith}
 use borrow.Author.Rules.{rules}
 use Rattle.definition_log.specs.meaning.ReadBack.{def_at}
