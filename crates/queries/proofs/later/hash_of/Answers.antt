@@ -1,20 +1,13 @@
-use Rattle.std.proofs.Common.{rules, arith}
-use Rattle.queries.specs.machine.Table.{hash_from}
-use Rattle.queries.proofs.Fronts.{hash_step, hash_end}
+use Rattle.std.proofs.Common.{rules, ◌+◌, ◌≤◌, ◌<◌, ◌≡◌, true, false, cond, map, length, get_or, set, ℕ, ◌-◌, ◌*◌, ◌/◌, ◌%◌, Bool, nat_eq, nat_lt, List, [], ◌∷◌, ◌++◌, bit_and, bit_or, Fits, w8, w32, w64, Bor, MutBor}
+use Rattle.paths_numbers.specs.meaning.Byte.{slash}
+use Rattle.paths_numbers.specs.meaning.Text.{starts_with}
+use Rattle.paths_numbers.specs.meaning.Path.{root}
+use Rattle.definition_log.specs.meaning.ReadBack.{def_at}
+use Rattle.paths_numbers.specs.meaning.Lists.{any}
+use Rattle.queries.specs.meaning.Live.{deletes}
+use Rattle.queries.specs.machine.Table.{mixed, hash_from, place_of, slot_of, Holds, deleted_at, takes_at, Deleted, Sized, RoomForOne}
 use Rattle.queries.proofs.later.hash_of.Goals as goal
 
-pub loop-i-preserved : goal.loop-i-preserved
-loop-i-preserved c =
-    let a = c.args in
-    let l = c.loop-i in
-    (omega arith, hash_step a.path.now l.i l.h l.invariant.1 (omega arith) _ c.mix-h.ensures)
-
+-- src/later.rt:219:1
 pub returns : goal.returns
-returns c =
-    let a = c.args in
-    let l = c.loop-i in
-    hash_end a.path.now l.i l.h l.invariant.1 (omega arith)
-
-pub loop-i-init : goal.loop-i-init
-unfolding hash_from
-loop-i-init c = search rules
+returns c = ?
