@@ -1,13 +1,12 @@
-use Rattle.std.proofs.Common.{rules, ◌+◌, ◌≤◌, ◌<◌, ◌≡◌, true, false, cond, map, length, get_or, set, ℕ, ◌-◌, ◌*◌, ◌/◌, ◌%◌, Bool, nat_eq, nat_lt, List, [], ◌∷◌, ◌++◌, bit_and, bit_or, Fits, w8, w32, w64, Bor, MutBor}
-use Rattle.paths_numbers.specs.meaning.Byte.{slash}
-use Rattle.paths_numbers.specs.meaning.Text.{starts_with}
-use Rattle.paths_numbers.specs.meaning.Path.{root}
-use Rattle.definition_log.specs.meaning.ReadBack.{def_at}
-use Rattle.paths_numbers.specs.meaning.Lists.{any}
-use Rattle.queries.specs.meaning.Live.{deletes}
-use Rattle.queries.specs.machine.Table.{mixed, hash_from, place_of, slot_of, Holds, deleted_at, takes_at, Deleted, Sized, RoomForOne}
+-- The hash of the bytes, one after the other (Fronts: hash_fold).
+use mathlib.Core.Path.{◌≡◌, ◌∙◌}
+use borrow.Author.Rules.{rules}
+use Rattle.std.specs.List.{fold}
+use Rattle.queries.specs.machine.Table.{mixed}
+use Rattle.queries.proofs.Fronts.{hash_fold}
 use Rattle.queries.proofs.later.hash_of.Goals as goal
 
--- src/later.rt:219:1
 pub returns : goal.returns
-returns c = ?
+returns c =
+    let e : c.fold.result ≡ fold mixed 0 c.args.path.now = search rules in
+    e ∙ hash_fold 0 c.args.path.now
