@@ -1,17 +1,17 @@
 -- Whether a definition is another node that is taken, test by test.
 use Prim.Native.Nat.{ℕ}
 use mathlib.Core.Path.{◌≡◌, refl}
-use mathlib.Core.Bool.{Bool, true, false, not, cond}
+use mathlib.Core.Bool.{Bool, true, false, cond}
 use mathlib.Core.List.{List, []}
 use lib.Dec.{eqb}
-use Rattle.paths_numbers.specs.meaning.Text.{same}
+use Rattle.std.specs.Prelude.{Option}
 use Rattle.paths_numbers.specs.meaning.Path.{at_or_under}
 use Rattle.short_paths.specs.meaning.Short.{may_mean}
 use Rattle.definition_log.specs.meaning.Contents.{Def}
 use Rattle.definition_log.specs.meaning.Record.{kind_of, first_text, node_kind}
 use Rattle.definition_log.specs.meaning.ReadBack.{def_at}
 use Rattle.queries.specs.meaning.Live.{contains_node}
-use Rattle.queries.specs.machine.Looked.{another}
+use Rattle.queries.specs.machine.Looked.{another, elsewhere}
 use Rattle.queries.proofs.Records.{node_kind_lem}
 
 swapped : (a e : Bool) → cond a e false ≡ cond e a false
@@ -25,10 +25,10 @@ reordered : (k a e : Bool) → cond k (cond a e false) false ≡ cond k (cond e 
 reordered true a e = swapped a e
 reordered false a e = refl
 
-pub by_tests_lem : (words bytes : List ℕ) (defs : List Def) (p : List ℕ) (before r : ℕ)
+pub by_tests_lem : (words bytes : List ℕ) (defs : List Def) (p : List ℕ) (before : Option ℕ) (r : ℕ)
     → another (def_at words bytes) defs p before r
     ≡ cond (eqb (kind_of words r) node_kind)
-    (cond (cond (eqb before 0) true (not (same (first_text words bytes before) (first_text words bytes r))))
+    (cond (elsewhere (first_text words bytes) before (first_text words bytes r))
     (cond (may_mean p (first_text words bytes r))
     (cond (at_or_under (first_text words bytes r) []) (contains_node (first_text words bytes r) defs) false)
     false)
@@ -40,4 +40,4 @@ by_tests_lem words bytes defs p before r = rw (node_kind_lem words bytes r)
     (cond (may_mean p (first_text words bytes r))
     (cond (at_or_under (first_text words bytes r) []) (contains_node (first_text words bytes r) defs) false)
     false)
-    (cond (eqb before 0) true (not (same (first_text words bytes before) (first_text words bytes r)))))
+    (elsewhere (first_text words bytes) before (first_text words bytes r)))

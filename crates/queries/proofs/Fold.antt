@@ -1,6 +1,6 @@
 -- Whether some live definition at a path passes a test, in one pass over the log: a definition that passes sets it, a deleted node at or
 -- above the path clears it.
-use Prim.Native.Nat.{ℕ, ◌-◌}
+use Prim.Native.Nat.{ℕ}
 use mathlib.Core.Path.{◌≡◌, refl, sym, ap, ◌∙◌}
 use mathlib.Core.Bool.{Bool, true, false, not, cond}
 use mathlib.Core.List.{List, [], ◌∷◌, map}
@@ -9,15 +9,12 @@ use Rattle.paths_numbers.specs.meaning.Path.{at_or_under}
 use Rattle.paths_numbers.proofs.Texts.{by_test, both, not_both, same_true}
 use Rattle.paths_numbers.proofs.Under.{under_refl}
 use Rattle.definition_log.specs.meaning.Contents.{DefValue, node, property, deleted_node, deleted_property, version, plugin, Def}
-use Rattle.definition_log.specs.meaning.Record.{next_of}
-use Rattle.definition_log.specs.meaning.ReadBack.{chain_from}
 use Rattle.queries.specs.meaning.Kind.{is_node, is_property, is_deleted_node, is_deletion}
 use Rattle.paths_numbers.specs.meaning.Lists.{any}
 use Rattle.queries.specs.meaning.Live.{deletes, gone, is_live, live, node_at}
 use Rattle.queries.specs.meaning.Labels.{labels_in, has_label_at}
-use Rattle.queries.specs.machine.Pass.{goes_on, found_after}
+use Rattle.queries.specs.machine.Pass.{found_after}
 use Rattle.paths_numbers.proofs.Lists.{any_append}
-use Rattle.queries.proofs.Chain.{goes, stops}
 
 -- what is found after a list, where so much was found before it
 unfoldable pub found_from : {A : Type 0} → (A → Bool) → (A → Bool) → Bool → List A → Bool

@@ -9,6 +9,7 @@ use borrow.Author.Tests.{eq-eqb, ne_eqb, eqb-true, eqb-false}
 use lib.Dec.{eqb}
 use lib.ListN.{length, get_or, take, drop, drop_of_length-le}
 use lib.Seq.{take-suc, take_all, drop-cons}
+use Rattle.std.specs.List.{fold}
 use Rattle.paths_numbers.specs.meaning.Byte.{slash}
 use Rattle.paths_numbers.specs.meaning.Text.{same, starts_with}
 use Rattle.paths_numbers.specs.meaning.Path.{root, at_or_under}
@@ -200,3 +201,9 @@ module _ (s : List ℕ) (i h : ℕ) (inv : h ≡ hash_from 0 (take i s)) where
 pub root_hash : hash_from 0 root ≡ 47
 unfolding hash_from mixed
 root_hash = refl
+
+-- the hash of a text, byte after byte
+pub hash_fold : (h : ℕ) (s : List ℕ) → fold mixed h s ≡ hash_from h s
+unfolding hash_from
+hash_fold h [] = refl
+hash_fold h (b ∷ s) = hash_fold (mixed h b) s

@@ -7,19 +7,19 @@ use native.Mathlib.Omega.{arith}
 use native.Mathlib.Numerals.{add-one}
 use borrow.Author.Tests.{le-leb, lt-leb}
 use lib.ListN.{length, get_or, take, drop, set, replicate, length-append, length-drop, length-replicate}
-use lib.Seq.{drop-cons, drop-length, take_all, take-append_seam, set-append_seam}
+use lib.Seq.{drop-cons, drop-length, take_all, length-take-le, take-append_seam, set-append_seam}
+use Rattle.std.proofs.lemmas.List.{take_more_set}
 use Rattle.paths_numbers.specs.meaning.Text.{same, written}
 use Rattle.paths_numbers.proofs.Texts.{by_test}
 use Rattle.paths_numbers.proofs.Written.{written_cons}
 use Rattle.definition_log.specs.meaning.Contents.{Def}
-use Rattle.definition_log.specs.meaning.Record.{next_of, first_def}
-use Rattle.definition_log.specs.meaning.ReadBack.{chain_from, chain_of, def_at, read_defs}
+use Rattle.definition_log.specs.meaning.Record.{first_def}
+use Rattle.definition_log.specs.meaning.ReadBack.{chain_of, def_at, read_defs}
 use Rattle.queries.specs.meaning.Live.{deletes, is_live, live}
 use Rattle.queries.specs.meaning.History.{defined_by, history_from, history}
 use Rattle.queries.specs.meaning.Query.{live_numbers, history_numbers, live_answers, history_answers}
 use Rattle.queries.specs.machine.Table.{fitted}
-use Rattle.queries.specs.machine.Pass.{goes_on, is_listed, defined_after}
-use Rattle.queries.proofs.Chain.{goes, stops}
+use Rattle.queries.specs.machine.Pass.{is_listed, defined_after}
 
 -- what two lists become
 map_append : {A B : Type 0} (f : A → B) (x y : List A) → map f (x ++ y) ≡ map f x ++ map f y
@@ -69,37 +69,31 @@ history_turn def defined path r later =
     (λ s. rw s refl)
     (λ s. by_test (cond defined (deletes path (def r)) false) (λ t. rw (s, t) refl) (λ t. rw (s, t) refl))
 
--- and along a chain
-module _ (def : ℕ → Def) (defined : Bool) (path words : List ℕ) (r left : ℕ) where
-  pub history_listed : goes_on words r left ≡ true → (after : Bool) → after ≡ defined_after path (def r) defined → (next : ℕ)
-      → next ≡ next_of words r
-      → is_listed path (def r) defined ≡ true
-      → history_numbers def defined path (chain_from left words r) ≡ r ∷ history_numbers def after path (chain_from (left - 1) words next)
-  history_listed g after e next n t = rw (
-    goes words r left g,
-    history_turn def defined path r
-        (chain_from (left - 1) words (next_of words r)),
-    t,
-    e,
-    n,
-  ) refl
+-- and at the first of those that are left
+module _ (def : ℕ → Def) (defined : Bool) (path : List ℕ) {r : ℕ} {xs ys : List ℕ} (g : xs ≡ r ∷ ys) {after : Bool}
+    (e : after ≡ defined_after path (def r) defined) where
+  pub history_listed : is_listed path (def r) defined ≡ true
+      → history_numbers def defined path xs ≡ r ∷ history_numbers def after path ys
+  history_listed t = rw (g, history_turn def defined path r ys, t, e) refl
 
-  pub history_passed : goes_on words r left ≡ true → (after : Bool) → after ≡ defined_after path (def r) defined → (next : ℕ)
-      → next ≡ next_of words r
-      → is_listed path (def r) defined ≡ false
-      → history_numbers def defined path (chain_from left words r) ≡ history_numbers def after path (chain_from (left - 1) words next)
-  history_passed g after e next n t = rw (
-    goes words r left g,
-    history_turn def defined path r
-        (chain_from (left - 1) words (next_of words r)),
-    t,
-    e,
-    n,
-  ) refl
+  pub history_passed : is_listed path (def r) defined ≡ false
+      → history_numbers def defined path xs ≡ history_numbers def after path ys
+  history_passed t = rw (g, history_turn def defined path r ys, t, e) refl
 
-  pub history_end : goes_on words r left ≡ false → history_numbers def defined path (chain_from left words r) ≡ []
-  unfolding history_numbers
-  history_end g = rw (stops words r left g) refl
+-- as answers are collected at the start of an array: w is all of them, and those written and those to come make it
+module _ (d : List ℕ) (n : ℕ) {w to_come : List ℕ} (inv : w ≡ take n d ++ to_come) where
+  pub one_collected : {b : ℕ} {rest : List ℕ} → to_come ≡ b ∷ rest → n < length d → w ≡ take (n + 1) (set d n b) ++ rest
+  one_collected {b = b} {rest = rest} e h = inv ∙ rw (e, take_more_set d n b h) (sym (append_assoc (take n d) (b ∷ []) rest))
+
+  -- so there is room for the next one
+  pub room_for_next : {b : ℕ} {rest : List ℕ} → to_come ≡ b ∷ rest → n ≤ length d → length w ≤ length d → n < length d
+  room_for_next e h m =
+      let k : length (take n d) ≡ n = length-take-le n d h in
+      omega (arith, k, m, ap length inv, length-append (take n d) to_come, ap length e)
+
+  -- and in the end they are all written
+  pub all_collected : to_come ≡ [] → take n d ≡ w
+  all_collected e = sym (inv ∙ rw (e, append-nil) refl)
 
 -- the live numbers from one record of a chain on, by those from the next one on
 module _ (def : ℕ → Def) (base order : List ℕ) (i : ℕ) (b : 0 < i) (m : i ≤ length order) where
@@ -174,6 +168,13 @@ written_start d s n e = rw e (take-append_seam s (drop (0 + length s) d))
 -- so that part of an array is what was collected in it
 pub collected_part : (d s w : List ℕ) (n : ℕ) → w ≡ written d 0 s → n ≡ length s → take n w ≡ s
 collected_part d s w n e k = rw e (written_start d s n k)
+
+-- a part at the start of a list, written anew
+pub written_over : (list : List ℕ) {part numbers : List ℕ} → part ≡ numbers → part ++ drop (length numbers) list ≡ written list 0 numbers
+unfolding written
+written_over list {numbers = numbers} e =
+    let z : 0 + length numbers ≡ length numbers = omega arith in
+    rw (e, z) refl
 
 -- a list that has room for the answers, and one that has not
 pub fitted_full : (list answers : List ℕ) → length answers ≤ length list → written list 0 answers ≡ fitted list answers

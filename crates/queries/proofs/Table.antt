@@ -238,29 +238,15 @@ unfolding first_of
 table_start def base heads links z = record { headed = z; linked = λ slot. ended }
 
 -- arrays of zeros have room
-pub room_zeros : (m n : ℕ) (order heads links live : List ℕ) → order ≡ replicate m 0 → heads ≡ replicate m 0 → links ≡ replicate m 0
-    → live ≡ replicate m 0
-    → least_heads ≤ m → m ≤ most_records → n ≤ m → Room n order heads links live
-room_zeros m n order heads links live o h l v few most fits =
+pub room_zeros : (m : ℕ) (order : List ℕ) → least_heads ≤ m → m ≤ most_records → length order ≤ m
+    → Room (length order) order (replicate m 0) (replicate m 0) (replicate m 0)
+room_zeros m order few most fits =
     let k : length (replicate {A = ℕ} m 0) ≡ m = length-replicate m 0 in
     record {
-      for_order = rw o (omega arith);
-      for_heads = rw h (omega arith);
-      for_links = rw l (omega arith);
-      for_live = rw v (omega arith);
-      most = rw l (omega arith);
-      zeros = λ slot b. rw h (get_or-replicate m slot 0 0 (omega (arith, ap length h)));
-    }
-
--- and so they have for a part
-pub room_part : (n : ℕ) (order heads links live part : List ℕ) → Room n order heads links live → length part ≤ n
-    → Room (length part) part heads links live
-room_part n order heads links live part r h =
-    record {
       for_order = omega arith;
-      for_heads = r.for_heads;
+      for_heads = omega arith;
       for_links = omega arith;
       for_live = omega arith;
-      most = r.most;
-      zeros = r.zeros;
+      most = omega arith;
+      zeros = λ slot b. get_or-replicate m slot 0 0 (omega arith);
     }

@@ -1,11 +1,10 @@
 // A path's history: one pass over a chain of definitions, from the first to the last.
 ghost use Rattle.std.specs.Prelude.{◌≤◌, ◌≡◌, false, length};
-ghost use Rattle.paths_numbers.specs.meaning.Text.{written};
-ghost use Rattle.definition_log.specs.meaning.Record.{log_count};
+ghost use Rattle.definition_log.specs.meaning.Record.{log_count, most_records};
 ghost use Rattle.definition_log.specs.meaning.ReadBack.{def_at};
 ghost use Rattle.queries.specs.machine.Lists.{history_in};
 ghost use Rattle.queries.specs.machine.Pass.{is_listed, defined_after};
-ghost use Rattle.queries.specs.machine.Table.{few_heads, Listed};
+ghost use Rattle.queries.specs.machine.Table.{Listed};
 
 use crate::definition::{defined_by, deletes_above};
 use crate::list::fit;
@@ -22,48 +21,41 @@ pub fn history_list(words: &[u32], bytes: &[u8], first: u32, path: &[u8], list: 
         (history_in words.now bytes.now first path.now) }
 {
     if log_count(words) as usize <= FEW_RECORDS {
-        return history_list_few(words, bytes, first, path, list);
+        return history_within::<FEW_RECORDS>(words, bytes, first, path, list);
     }
-    let mut found = [0u32; MOST_RECORDS];
-    history_list_by(words, bytes, first, path, list, &mut found)
+    history_within::<MOST_RECORDS>(words, bytes, first, path, list)
 }
 
-// The same of a log of few records, not inlined, so that its array is not on the stack beside the larger one.
+// The same of a log of at most N records, not inlined, so that no array is on the stack beside a larger one.
 #[inline(never)]
-fn history_list_few(words: &[u32], bytes: &[u8], first: u32, path: &[u8], list: &mut [u32]) -> u32
-    requires { log_count words.now ≤ few_heads }
-    ensures { Listed list.old list.new result
-        (history_in words.now bytes.now first path.now) }
-{
-    let mut found = [0u32; FEW_RECORDS];
-    history_list_by(words, bytes, first, path, list, &mut found)
-}
-
-// The same, with room for the answers.
-fn history_list_by(
+fn history_within<const N: usize>(
     words: &[u32],
     bytes: &[u8],
     first: u32,
     path: &[u8],
     list: &mut [u32],
-    found: &mut [u32],
 ) -> u32
-    requires { log_count words.now ≤ length found.old }
+    requires room { log_count words.now ≤ N }
+    requires size { N ≤ most_records }
     ensures { Listed list.old list.new result
         (history_in words.now bytes.now first path.now) }
 {
-    let count = history_of(words, bytes, first, path, found);
-    fit(list, &found[..count]);
-    count as u32
+    let mut found = [0u32; N];
+    let history = history_of(words, bytes, first, path, &mut found);
+    fit(list, history);
+    history.len() as u32
 }
 
-// Writes the record numbers of a path's history to the start of a list, earliest first, and returns
-// how many there are.
-fn history_of(words: &[u32], bytes: &[u8], first: u32, path: &[u8], found: &mut [u32]) -> usize
+// The record numbers of a path's history, earliest first, at the start of an array with room for them.
+fn history_of<'a>(
+    words: &[u32],
+    bytes: &[u8],
+    first: u32,
+    path: &[u8],
+    found: &'a mut [u32],
+) -> &'a [u32]
     requires { length (history_in words.now bytes.now first path.now) ≤ length found.old }
-    ensures value { result ≡ length (history_in words.now bytes.now first path.now) }
-    ensures found_after { found.new ≡ written found.old 0
-        (history_in words.now bytes.now first path.now) }
+    ensures { result.now ≡ history_in words.now bytes.now first path.now }
 {
     let mut count = 0;
     let mut defined = false;
@@ -75,7 +67,7 @@ fn history_of(words: &[u32], bytes: &[u8], first: u32, path: &[u8], found: &mut 
         }
         defined = passed.defined;
     }
-    count
+    &found[..count]
 }
 
 // What becomes of a path's history at a definition.

@@ -123,7 +123,7 @@ fn takes_at(words: &[u32], bytes: &[u8], r: u32, deleted: bool, path: &[u8]) -> 
 }
 
 // Whether a later definition deletes the node at a path or one above it, and the path's hash.
-#[derive(Clone, Copy)]
+#[derive(Clone, Copy, Debug, PartialEq, Eq)]
 pub struct Above {
     pub deleted: bool,
     pub hash: u32,
@@ -148,13 +148,11 @@ pub fn look_above(
 {
     let mut deleted = root_deleted(words, bytes, later, heads, links, path);
     let mut hash: u32 = 0;
-    let mut i = 0;
-    while i < path.len() {
-        if path[i] == b'/' {
+    for (i, b) in path.iter().enumerate() {
+        if *b == b'/' {
             deleted = or_deleted(words, bytes, later, heads, links, &path[..i], hash, deleted);
         }
-        hash = mix(hash, path[i]);
-        i += 1;
+        hash = mix(hash, *b);
     }
     Above {
         deleted: or_deleted(words, bytes, later, heads, links, path, hash, deleted),
@@ -221,13 +219,7 @@ fn or_deleted(
 fn hash_of(path: &[u8]) -> u32
     ensures { result ≡ hash_from 0 path.now }
 {
-    let mut h: u32 = 0;
-    let mut i = 0;
-    while i < path.len() {
-        h = mix(h, path[i]);
-        i += 1;
-    }
-    h
+    path.iter().fold(0, |h, b| mix(h, *b))
 }
 
 // A hash with one byte more.

@@ -8,4 +8,5 @@ mod list;
 pub mod live;
 pub mod lookup;
 pub mod mir;
+pub mod path;
 pub mod query;

@@ -1,20 +1,19 @@
 // The live list: one pass from a chain's last definition to its first, with the later definitions
 // that can take something away in a table.
 ghost use Rattle.std.specs.Prelude.{◌≤◌, ◌<◌, ◌≡◌, ◌∷◌, map, length};
-ghost use Rattle.paths_numbers.specs.meaning.Text.{written};
 ghost use Rattle.definition_log.specs.meaning.Record.{log_count};
 ghost use Rattle.definition_log.specs.meaning.ReadBack.{chain_of, def_at};
 ghost use Rattle.queries.specs.meaning.Live.{is_live};
 ghost use Rattle.queries.specs.meaning.Query.{live_numbers};
 ghost use Rattle.queries.specs.machine.Lists.{live_in};
-ghost use Rattle.queries.specs.machine.Table.{least_heads, few_heads, Table, Room, RoomForOne, Listed};
+ghost use Rattle.queries.specs.machine.Table.{least_heads, many_heads, Table, Room, RoomForOne, Listed};
 
-use crate::definition::goes_on;
 use crate::later::{enter, enter_at, holds, look_above};
 use crate::list::fit;
+use definition_log::chain::chain;
 use definition_log::kinds::{DELETED_NODE, DELETED_PROPERTY, PROPERTY};
 use definition_log::limits::{FEW_RECORDS, LEAST_RECORDS, MOST_RECORDS};
-use definition_log::record::{first_text, kind_of, log_count, next_of};
+use definition_log::record::{first_text, kind_of, log_count};
 use paths_numbers::mir::lies_under;
 
 // How many definitions of a chain are live under a base. Their record numbers are written to the
@@ -24,120 +23,77 @@ pub fn live_list(words: &[u32], bytes: &[u8], first: u32, base: &[u8], list: &mu
     ensures { Listed list.old list.new result
         (live_in words.now bytes.now first base.now) }
 {
-    if log_count(words) as usize <= LEAST_RECORDS {
-        return live_list_least(words, bytes, first, base, list);
+    let count = log_count(words) as usize;
+    if count <= LEAST_RECORDS {
+        return live_within::<LEAST_RECORDS>(words, bytes, first, base, list);
     }
-    if log_count(words) as usize <= FEW_RECORDS {
-        return live_list_few(words, bytes, first, base, list);
+    if count <= FEW_RECORDS {
+        return live_within::<FEW_RECORDS>(words, bytes, first, base, list);
     }
-    let mut order = [0u32; MOST_RECORDS];
-    let mut heads = [0u32; MOST_RECORDS];
-    let mut links = [0u32; MOST_RECORDS];
-    let mut live = [0u32; MOST_RECORDS];
-    live_list_by(
-        words, bytes, first, base, list, &mut order, &mut heads, &mut links, &mut live,
-    )
+    live_within::<MOST_RECORDS>(words, bytes, first, base, list)
 }
 
-// The same of a log of few records, not inlined, so that its arrays are not on the stack beside the larger ones.
+// The same of a log of at most N records, not inlined, so that no arrays are on the stack beside larger ones.
 #[inline(never)]
-fn live_list_few(words: &[u32], bytes: &[u8], first: u32, base: &[u8], list: &mut [u32]) -> u32
-    requires { log_count words.now ≤ few_heads }
-    ensures { Listed list.old list.new result
-        (live_in words.now bytes.now first base.now) }
-{
-    let mut order = [0u32; FEW_RECORDS];
-    let mut heads = [0u32; FEW_RECORDS];
-    let mut links = [0u32; FEW_RECORDS];
-    let mut live = [0u32; FEW_RECORDS];
-    live_list_by(
-        words, bytes, first, base, list, &mut order, &mut heads, &mut links, &mut live,
-    )
-}
-
-// The same of a log of the fewest records, not inlined either.
-#[inline(never)]
-fn live_list_least(words: &[u32], bytes: &[u8], first: u32, base: &[u8], list: &mut [u32]) -> u32
-    requires { log_count words.now ≤ least_heads }
-    ensures { Listed list.old list.new result
-        (live_in words.now bytes.now first base.now) }
-{
-    let mut order = [0u32; LEAST_RECORDS];
-    let mut heads = [0u32; LEAST_RECORDS];
-    let mut links = [0u32; LEAST_RECORDS];
-    let mut live = [0u32; LEAST_RECORDS];
-    live_list_by(
-        words, bytes, first, base, list, &mut order, &mut heads, &mut links, &mut live,
-    )
-}
-
-// The same, with room for the chain in order, for a table of zeros and for the answers.
-fn live_list_by(
+fn live_within<const N: usize>(
     words: &[u32],
     bytes: &[u8],
     first: u32,
     base: &[u8],
     list: &mut [u32],
-    order: &mut [u32],
-    heads: &mut [u32],
-    links: &mut [u32],
-    live: &mut [u32],
 ) -> u32
-    requires { Room (log_count words.now) order.old heads.old links.old live.old }
+    requires room { log_count words.now ≤ N }
+    requires table_size { (least_heads ≤ N) × (N ≤ many_heads) }
     ensures { Listed list.old list.new result
         (live_in words.now bytes.now first base.now) }
 {
-    let n = chain_order(words, first, order);
-    let count = live_of(words, bytes, base, &order[..n], heads, links, live);
-    fit(list, &live[..count]);
-    count as u32
+    let mut numbers = [0u32; N];
+    let mut heads = [0u32; N];
+    let mut links = [0u32; N];
+    let mut room = [0u32; N];
+    let order = chain_order(words, first, &mut numbers);
+    let live = live_of(
+        words, bytes, base, order, &mut heads, &mut links, &mut room,
+    );
+    fit(list, live);
+    live.len() as u32
 }
 
-// Writes the record numbers of a chain to the start of a list, and returns how many there are.
-fn chain_order(words: &[u32], first: u32, order: &mut [u32]) -> usize
-    requires { log_count words.now ≤ length order.old }
-    ensures value { result ≡ length (chain_of words.now first) }
-    ensures order_after { order.new ≡ written order.old 0 (chain_of words.now first) }
+// The record numbers of a chain, at the start of an array with room for them.
+fn chain_order<'a>(words: &[u32], first: u32, numbers: &'a mut [u32]) -> &'a [u32]
+    requires { log_count words.now ≤ length numbers.old }
+    ensures { result.now ≡ chain_of words.now first }
 {
-    let mut n = 0;
-    let mut r = first;
-    let mut left = log_count(words);
-    while goes_on(words, r, left) {
-        order[n] = r;
-        n += 1;
-        r = next_of(words, r);
-        left -= 1;
+    let mut count = 0;
+    for r in chain(words, first) {
+        numbers[count] = r;
+        count += 1;
     }
-    n
+    &numbers[..count]
 }
 
-// Writes the record numbers of the live definitions to the start of a list, latest first, and
-// returns how many there are.
-fn live_of(
+// The record numbers of the live definitions, latest first, at the start of an array with room for them.
+fn live_of<'a>(
     words: &[u32],
     bytes: &[u8],
     base: &[u8],
     order: &[u32],
     heads: &mut [u32],
     links: &mut [u32],
-    live: &mut [u32],
-) -> usize
+    live: &'a mut [u32],
+) -> &'a [u32]
     requires { Room (length order.now) order.now heads.old links.old live.old }
-    ensures value { result ≡ length (live_numbers (def_at words.now bytes.now) base.now order.now) }
-    ensures live_after { live.new ≡ written live.old 0
-        (live_numbers (def_at words.now bytes.now) base.now order.now) }
+    ensures { result.now ≡ live_numbers (def_at words.now bytes.now) base.now order.now }
 {
     let mut count = 0;
-    let mut i = order.len();
-    while 0 < i {
-        let r = order[i - 1];
-        if pass(words, bytes, base, r, &order[i..], heads, links) {
+    for i in (0..order.len()).rev() {
+        let r = order[i];
+        if pass(words, bytes, base, r, &order[i + 1..], heads, links) {
             live[count] = r;
             count += 1;
         }
-        i -= 1;
     }
-    count
+    &live[..count]
 }
 
 // Whether a definition is live under a base, by the table of the later ones, into which it is

@@ -1,24 +1,23 @@
 // The look-up of a path among the live nodes of a chain of definitions, where unit addresses may be left out
 // (02, request 5).
-ghost use Rattle.std.specs.Prelude.{◌≡◌, true, not, cond, eqb, [], ◌∷◌, ◌++◌};
-ghost use Rattle.paths_numbers.specs.meaning.Text.{same};
+ghost use Rattle.std.specs.Prelude.{◌≡◌, [], ◌∷◌, ◌++◌};
 ghost use Rattle.definition_log.specs.meaning.Record.{first_text};
 ghost use Rattle.paths_numbers.specs.meaning.Path.{joined};
 ghost use Rattle.paths_numbers.specs.meaning.Byte.{slash};
 ghost use Rattle.short_paths.specs.machine.Front.{front_of};
 ghost use Rattle.definition_log.specs.meaning.ReadBack.{def_at, read_defs};
-ghost use Rattle.queries.specs.machine.Looked.{AnswersLookup, AnswersShort, another};
+ghost use Rattle.queries.specs.machine.Looked.{AnswersLookup, AnswersShort, another, elsewhere};
 
-use crate::definition::goes_on;
 use crate::mir::{contains_node_in, contains_node_path};
+use definition_log::chain::chain;
 use definition_log::kinds::NODE;
-use definition_log::record::{first_text, kind_of, log_count, next_of};
+use definition_log::record::{first_text, kind_of};
 use paths_numbers::mir::lies_under;
 use paths_numbers::text::equals;
 use short_paths::short::{has_components, may_mean};
 
 // What a look-up finds: a node at the path itself, no node, one by a definition of it, or several.
-#[derive(Clone, Copy)]
+#[derive(Clone, Copy, Debug, PartialEq, Eq)]
 pub enum Lookup {
     Exact,
     NoNode,
@@ -64,32 +63,19 @@ pub fn short_node(words: &[u32], bytes: &[u8], first: u32, parent: &[u8], name: 
     ensures { AnswersShort words.now bytes.now first
         (front_of parent.now ++ slash ∷ name.now) result }
 {
-    let mut found: u32 = 0;
-    let mut r = first;
-    let mut left = log_count(words);
-    while goes_on(words, r, left) {
-        let more = is_another(words, bytes, first, r, found, parent, name);
-        if more & (found != 0) {
-            return Lookup::Several;
+    let mut found = None;
+    for r in chain(words, first) {
+        if is_another(words, bytes, first, r, found, parent, name) {
+            if found.is_some() {
+                return Lookup::Several;
+            }
+            found = Some(r);
         }
-        found = kept(found, r, more);
-        r = next_of(words, r);
-        left -= 1;
     }
-    if found == 0 {
-        return Lookup::NoNode;
+    match found {
+        Some(r) => Lookup::Node(r),
+        None => Lookup::NoNode,
     }
-    Lookup::Node(found)
-}
-
-// The node found before, or the one that is taken.
-fn kept(found: u32, r: u32, more: bool) -> u32
-    ensures { result ≡ cond more r found }
-{
-    if more {
-        return r;
-    }
-    found
 }
 
 // Whether a definition is a node whose path is live and may be meant, and is not that of the one found before.
@@ -98,7 +84,7 @@ fn is_another(
     bytes: &[u8],
     first: u32,
     r: u32,
-    found: u32,
+    found: Option<u32>,
     parent: &[u8],
     name: &[u8],
 ) -> bool
@@ -122,13 +108,12 @@ fn is_another(
     contains_node_in(words, bytes, first, path)
 }
 
-// Whether a path is not that of the node found before, number 0 where there is none.
-fn is_elsewhere(words: &[u32], bytes: &[u8], found: u32, path: &[u8]) -> bool
-    ensures { result ≡ cond (eqb found 0) true
-        (not (same (first_text words.now bytes.now found) path.now)) }
+// Whether a path is not that of the node found before, if any.
+fn is_elsewhere(words: &[u32], bytes: &[u8], found: Option<u32>, path: &[u8]) -> bool
+    ensures { result ≡ elsewhere (first_text words.now bytes.now) found path.now }
 {
-    if found == 0 {
-        return true;
+    match found {
+        Some(r) => !equals(first_text(words, bytes, r), path),
+        None => true,
     }
-    !equals(first_text(words, bytes, found), path)
 }

@@ -1,5 +1,5 @@
 -- Steps of the look-up with unit addresses left out: one pass over a chain, which keeps the first node found.
-use Rattle.std.specs.Prelude.{ℕ, ◌≡◌, Bool, true, false, not, cond, List, [], eqb}
+use Rattle.std.specs.Prelude.{ℕ, ◌≡◌, Bool, true, false, not, cond, List, [], eqb, Option, Some, None}
 use Rattle.paths_numbers.specs.meaning.Text.{same}
 use Rattle.paths_numbers.specs.meaning.Lists.{any}
 use Rattle.paths_numbers.specs.meaning.Path.{at_or_under}
@@ -17,11 +17,16 @@ use Rattle.queries.specs.declared.lookup.Lookup.TheVariants as L
 abbrev pub candidate : List ℕ → List Def → List ℕ → Bool
 candidate p defs q = cond (may_mean p q) (cond (at_or_under q []) (contains_node q defs) false) false
 
--- a node at another path than the one found before, number 0 where there is none
-unfoldable pub another : (ℕ → Def) → List Def → List ℕ → ℕ → ℕ → Bool
+-- whether a path is not that of the node found before, if any
+abbrev pub elsewhere : (ℕ → List ℕ) → Option ℕ → List ℕ → Bool
+elsewhere path_of None path = true
+elsewhere path_of (Some r) path = not (same (path_of r) path)
+
+-- a node at another path than the one found before, if any
+unfoldable pub another : (ℕ → Def) → List Def → List ℕ → Option ℕ → ℕ → Bool
 another def defs p before r =
     cond (is_node (def r).value)
-    (cond (candidate p defs (def r).path) (cond (eqb before 0) true (not (same (def before).path (def r).path))) false)
+    (cond (candidate p defs (def r).path) (elsewhere (λ q. (def q).path) before (def r).path) false)
     false
 
 -- what a look-up answers, as the look-up that it stands for

@@ -1,10 +1,6 @@
--- An array of zeros has room (Numbers: zeros_room).
-use mathlib.Core.Path.{refl}
-use Rattle.definition_log.specs.meaning.Record.{most_records}
+-- A log has at most as many records as the largest array has places.
 use Rattle.queries.proofs.Chain.{count_most}
-use Rattle.queries.proofs.Numbers.{zeros_room}
 use Rattle.queries.proofs.history.history_list.Goals as goal
 
-pub history_list_by-requires : goal.history_list_by-requires
-history_list_by-requires c = zeros_room most_records _ _ refl (count_most
-    c.args.words.now)
+pub history_within-requires-2-clause-room : goal.history_within-requires-2-clause-room
+history_within-requires-2-clause-room c = count_most c.args.words.now

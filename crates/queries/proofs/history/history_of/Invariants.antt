@@ -1,21 +1,15 @@
--- Loop invariant: writing the rest of the history behind what is written makes the list that is asked for, and it has room; what is counted
--- and what the rest has make what the whole has.
-use Prim.Native.Nat.{◌+◌, ◌≤◌}
+-- Loop invariant: what is written and what the rest of the chain has make the history.
+use Prim.Native.Nat.{◌≤◌}
 use mathlib.Core.Path.{◌≡◌}
-use mathlib.Core.Bool.{false}
-use lib.ListN.{length}
-use Rattle.definition_log.specs.meaning.ReadBack.{chain_from, chain_of, def_at}
+use mathlib.Core.List.{◌++◌}
+use lib.ListN.{length, take}
+use Rattle.definition_log.specs.meaning.ReadBack.{def_at}
+use Rattle.definition_log.specs.machine.ChainLeft.{chain_left}
 use Rattle.queries.specs.meaning.Query.{history_numbers}
-use Rattle.paths_numbers.specs.meaning.Text.{written}
+use Rattle.queries.specs.machine.Lists.{history_in}
 use Rattle.queries.proofs.history.history_of.Given as goal
 
-abbrev pub invariant-loop-passed : goal.invariant-loop-passed
-invariant-loop-passed l = (length l.found ≡ length l.initial.found)
-    × (l.count + length (history_numbers (def_at l.words l.bytes) l.defined l.path (chain_from l.left l.words l.r)) ≤ length l.found)
-    × (written l.initial.found 0 (history_numbers (def_at l.words l.bytes) false l.path (chain_of l.words l.first)) ≡ written l.found l.count
-    (history_numbers (def_at l.words l.bytes) l.defined l.path (chain_from l.left l.words l.r)))
-    × (length (history_numbers (def_at l.words l.bytes) false l.path (chain_of l.words l.first)) ≡ l.count + length
-    (history_numbers (def_at l.words l.bytes) l.defined l.path (chain_from l.left l.words l.r)))
-
-abbrev pub decreases-loop-passed : goal.decreases-loop-passed
-decreases-loop-passed l = l.left
+abbrev pub invariant-loop-r : goal.invariant-loop-r
+invariant-loop-r l = (l.count ≤ length l.found)
+    × (history_in l.words l.bytes l.first l.path ≡ take l.count l.found ++ history_numbers (def_at l.words l.bytes) l.defined l.path
+    (chain_left l.r-iterator))

@@ -1,9 +1,8 @@
 -- Loop invariant: the hash is that of the bytes passed, and what is left of the path decides whether a deleted node is found (Fronts).
-use Prim.Native.Nat.{◌-◌, ◌≤◌}
 use mathlib.Core.Path.{◌≡◌}
 use mathlib.Core.Bool.{true, cond}
 use mathlib.Core.List.{map}
-use lib.ListN.{length, take, drop}
+use lib.ListN.{take, drop}
 use Rattle.definition_log.specs.meaning.ReadBack.{def_at}
 use Rattle.paths_numbers.specs.meaning.Lists.{any}
 use Rattle.queries.specs.meaning.Live.{deletes}
@@ -12,9 +11,6 @@ use Rattle.queries.proofs.Fronts.{above_from, deleted_in}
 use Rattle.queries.proofs.later.look_above.Given as goal
 
 abbrev pub invariant-loop-i : goal.invariant-loop-i
-invariant-loop-i l = (l.i ≤ length l.path) × (l.hash ≡ hash_from 0 (take l.i l.path))
+invariant-loop-i l = (l.hash ≡ hash_from 0 (take l.i l.path))
     × (any (deletes l.path) (map (def_at l.words l.bytes) l.later) ≡ cond l.deleted true
     (above_from (deleted_in (map (def_at l.words l.bytes) l.later)) (take l.i l.path) (drop l.i l.path)))
-
-abbrev pub decreases-loop-i : goal.decreases-loop-i
-decreases-loop-i l = length l.path - l.i

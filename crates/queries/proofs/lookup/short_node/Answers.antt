@@ -1,50 +1,28 @@
-use mathlib.Core.Path.{refl, sym, ◌∙◌}
-use native.Mathlib.Omega.{arith}
-use borrow.Author.Tests.{eq-eqb, ne_eqb}
-use Rattle.queries.proofs.Chain.{goes_left}
-use Rattle.queries.proofs.Picked.{passing_start, passing_next, passing_both, passing_none, passing_one}
+use mathlib.Core.Path.{refl, sym}
+use Rattle.queries.proofs.Picked.{passing_start, passing_by, passing_taken, passing_second, passing_none, passing_one}
 use Rattle.queries.proofs.lookup.short_node.Goals as goal
 
-pub loop-more-init : goal.loop-more-init
-loop-more-init c =
+pub loop-r-init : goal.loop-r-init
+loop-r-init c =
     let a = c.args in
-    passing_start a.words.now a.bytes.now a.first _ _ c.log_count-left.ensures
+    passing_start a.words.now a.bytes.now a.first _ _
+    (rw c.into_iter-r-iterator.ensures.into_iter_gives c.chain-r-items.ensures)
 
-pub returns-then-more-found : goal.returns-then-more-found
-returns-then-more-found c =
-    let g = sym c.goes_on.ensures ∙ c.loop-more-test.true in
-    (passing_both c.loop-more.invariant g _ c.is_another-more.ensures c.if-more-found.true, refl)
+pub returns-then-is_some : goal.returns-then-is_some
+returns-then-is_some c =
+    (passing_second c.loop-r.invariant c.in-Some.ensures.steps (sym c.if-is_another.ensures) (sym c.if-is_some.ensures), refl)
 
-pub overflow_sub-left : goal.overflow_sub-left
-overflow_sub-left c =
-    let l = c.loop-more in
-    goes_left c.args.words.now l.r
-    l.left (sym c.goes_on.ensures ∙ c.loop-more-test.true)
+pub loop-r-preserved-then-is_another : goal.loop-r-preserved-then-is_another
+loop-r-preserved-then-is_another c =
+    passing_taken c.loop-r.invariant c.in-Some.ensures.steps (sym c.if-is_another.ensures) (sym c.if-is_some.ensures)
 
-pub loop-more-smaller : goal.loop-more-smaller
-loop-more-smaller c =
-    let l = c.loop-more in
-    omega (
-      arith,
-      goes_left
-          c.args.words.now l.r
-          l.left (sym c.goes_on.ensures ∙ c.loop-more-test.true),
-    )
+pub loop-r-preserved : goal.loop-r-preserved
+loop-r-preserved c = passing_by c.loop-r.invariant c.in-Some.ensures.steps (sym c.if-is_another.ensures)
 
-pub loop-more-preserved : goal.loop-more-preserved
-loop-more-preserved c =
-    let g = sym c.goes_on.ensures ∙ c.loop-more-test.true in
-    passing_next c.loop-more.invariant g _ _ _ c.is_another-more.ensures
-    c.if-more-found.false c.kept-found.ensures c.next_of-r.ensures
+pub returns-in-Some-found : goal.returns-in-Some-found
+returns-in-Some-found c =
+    let h = c.loop-r.invariant in
+    (passing_one h c.in-None.ensures.steps.0 c.in-Some-found.is, h.known _ c.in-Some-found.is)
 
-pub returns-then-found-eq0 : goal.returns-then-found-eq0
-returns-then-found-eq0 c =
-    let g = sym c.goes_on.ensures ∙ c.loop-more-test.false in
-    (passing_none c.loop-more.invariant g (eq-eqb _ 0 c.if-found-eq0.true), refl)
-
-pub returns : goal.returns
-returns c =
-    let h = c.loop-more.invariant in
-    let g = sym c.goes_on.ensures ∙ c.loop-more-test.false in
-    let z = ne_eqb _ 0 c.if-found-eq0.false in
-    (passing_one h g z, h.known z)
+pub returns-in-None-found : goal.returns-in-None-found
+returns-in-None-found c = (passing_none c.loop-r.invariant c.in-None.ensures.steps.0 c.in-None-found.is, refl)

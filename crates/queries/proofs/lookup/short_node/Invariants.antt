@@ -2,12 +2,10 @@
 use mathlib.Core.List.{◌∷◌, ◌++◌}
 use Rattle.paths_numbers.specs.meaning.Byte.{slash}
 use Rattle.short_paths.specs.machine.Front.{front_of}
+use Rattle.definition_log.specs.machine.ChainLeft.{chain_left}
 use Rattle.queries.proofs.Picked.{Passing}
 use Rattle.queries.proofs.lookup.short_node.Given as goal
 
-abbrev pub invariant-loop-more : goal.invariant-loop-more
-invariant-loop-more l = Passing l.words l.bytes l.first (front_of l.parent ++ slash ∷ l.name) l.found l.r
-    l.left
-
-abbrev pub decreases-loop-more : goal.decreases-loop-more
-decreases-loop-more l = l.left
+abbrev pub invariant-loop-r : goal.invariant-loop-r
+invariant-loop-r l = Passing l.words l.bytes l.first (front_of l.parent ++ slash ∷ l.name) l.found
+    (chain_left l.r-iterator)
