@@ -8,6 +8,7 @@ use native.Mathlib.Omega.{arith}
 use borrow.Author.Tests.{ne_eqb, not-true, not-false}
 use lib.Dec.{eqb}
 use lib.IntN.{ℤ}
+use Rattle.std.specs.Prelude.{Result, Ok, Err}
 use Rattle.paths_numbers.specs.meaning.Expression.{and_op, or_op, conditional_op, eval_code, eval_told, is_true, of_truth}
 use Rattle.paths_numbers.specs.meaning.Reading as R
 use Rattle.paths_numbers.specs.meaning.Number.{int_code}
@@ -17,27 +18,29 @@ use Rattle.paths_numbers.specs.declared.operators.Evaluated.{Evaluated}
 use Rattle.paths_numbers.specs.declared.operators.Evaluated.TheVariants as Eval
 use Rattle.paths_numbers.proofs.Texts.{by_test, not_both}
 use Rattle.levels.specs.machine.Held.{rules_at}
-use Rattle.definition_log.specs.meaning.Contents.{Span}
+use Rattle.definition_log.specs.meaning.Contents.{Span, Diag}
 use Rattle.input.specs.meaning.Tree.{macro_kind, number_kind, character_kind, prefix_kind, parenthesis_kind, infix_kind}
-use Rattle.input.specs.meaning.Expr.{Outcome, value, missing, fails_with, with_value, evaluated, first_operand, applied, chosen}
+use Rattle.input.specs.meaning.Expr.{Outcome, value, fails, missing, fails_with, with_value, evaluated, first_operand, applied, chosen}
 use Rattle.input.specs.meaning.Expr.{prefix_of, infix_of, combined, eval, evals}
 use Rattle.input.specs.meaning.Input.{record_count, kind_at, next_at, child_at, number_at, span_at, text_at, chain_at}
 use Rattle.input.specs.machine.At.{record_at}
 use Rattle.input.specs.machine.Linked.{Linked, At, ChainIn}
 use Rattle.input.specs.machine.Read.{after_at}
 use Rattle.input.specs.machine.Evaluation.{outcome_of, is_logical, decides}
-use Rattle.input.specs.declared.expr_eval.Evaluation.{Evaluation}
-use Rattle.input.specs.declared.expr_eval.Evaluation.TheVariants as E
+use Rattle.input.specs.machine.Reported.{reports_of}
+use Rattle.input.specs.declared.report.Report.{Report}
+use Rattle.input.specs.declared.report.Report.TheVariants as D
 use Rattle.input.proofs.Input.{chain_none, chain_more}
 use Rattle.input.proofs.Read.{after_some, before_some, chain_after}
 
 -- a failure of an operand is the whole's
-pub failure_passes : (words text : List ℕ) (e : Evaluation) (f : ℤ → Outcome ℤ) → ((z : ℤ) → e ≡ E.Value z → ⊥)
-    → outcome_of words text e ≡ with_value (outcome_of words text e) f
-failure_passes words text (E.Value z) f h = absurd (h z refl)
-failure_passes words text E.Missing f h = refl
-failure_passes words text (E.Macro r) f h = refl
-failure_passes words text (E.Failed code r) f h = refl
+pub failure_passes : (words text : List ℕ) (e : Result ℤ Report) (d : Report) (f : ℤ → Outcome ℤ) → e ≡ Err d
+    → fails (reports_of words text d) ≡ with_value (outcome_of words text e) f
+failure_passes words text e d f h = rw h refl
+
+-- and its value the operation's
+pub value_passes : (words text : List ℕ) (e : Result ℤ Report) (z : ℤ) (o : Outcome ℤ) → e ≡ Ok z → outcome_of words text e ≡ o → value z ≡ o
+value_passes words text e z o h q = ap (outcome_of words text) (sym h) ∙ q
 
 -- a result that there is not has a code, where the operator is not missing
 pub result_coded : (span : Span) (v : Evaluated) → ((z : ℤ) → v ≡ Eval.Value z → ⊥) → (v ≡ Eval.Missing → ⊥)
@@ -69,7 +72,7 @@ module _ (level : ℕ) (words text : List ℕ) (r : ℕ) where
       (rules_at level) (record_at words text r)
   eval_kind k e = rw (sym e) (sym eval_record)
 
-  pub eval_macro : kind_at words r ≡ macro_kind → outcome_of words text (E.Macro r) ≡ eval (rules_at level) (record_at words text r)
+  pub eval_macro : kind_at words r ≡ macro_kind → outcome_of words text (Err (D.Macro r)) ≡ eval (rules_at level) (record_at words text r)
   unfolding eval record_at
   eval_macro e = rw e refl
 
@@ -144,6 +147,12 @@ plain_infix level op span a y l =
     (λ q. absurd (not_both {t = true} refl (rw q at l)))
     (λ q. let p : eqb op or_op ≡ false = rw q at l in rw (q, p) refl)
 
+-- a second operand that fails, where the first does not decide
+pub second_fails : (level op : ℕ) (span : Span) (a : ℤ) (ds : List Diag) → decides op a ≡ false
+    → fails ds ≡ applied (rules_at level) op span a (fails ds)
+second_fails level op span a ds e =
+    by_test (is_logical op) (λ l. second_decides level op span a (fails ds) e l) (λ l. plain_infix level op span a (fails ds) l)
+
 module _ (level : ℕ) (words text : List ℕ) (l : Linked words) where
   operands : (r : ℕ) → (r ≡ 0 → ⊥) → r < record_count words
       → evals (rules_at level) (chain_at words text r)
@@ -199,10 +208,10 @@ module _ (level : ℕ) (words text : List ℕ) (l : Linked words) where
   first_is_lem r n a = rw (operands r n a) refl
 
   -- x is the first operand, evaluated to v
-  module _ (span : Span) (nesting x : ℕ) (h : ChainIn words text x nesting) (v : Evaluation)
+  module _ (span : Span) (nesting x : ℕ) (h : ChainIn words text x nesting) (v : Result ℤ Report)
       (q : outcome_of words text v ≡ eval (rules_at level) (record_at words text x)) where
     -- its value
-    operand_value : (a : ℤ) → v ≡ E.Value a → eval (rules_at level) (record_at words text x) ≡ value a
+    operand_value : (a : ℤ) → v ≡ Ok a → eval (rules_at level) (record_at words text x) ≡ value a
     operand_value a e = sym q ∙ ap (outcome_of words text) e
 
     -- y is the operand behind it, and not the last for ?:
@@ -216,12 +225,12 @@ module _ (level : ℕ) (words text : List ℕ) (l : Linked words) where
             (evals (rules_at level) (chain_at words text x))
         two = infix_two op n m span x y e h.at second_at_lem k
 
-        pub binary_fails : ((z : ℤ) → v ≡ E.Value z → ⊥)
-            → outcome_of words text v ≡ infix_of (rules_at level) op span (evals (rules_at level) (chain_at words text x))
-        binary_fails o = failure_passes words text v
+        pub binary_fails : (d : Report) → v ≡ Err d
+            → outcome_of words text (Err d) ≡ infix_of (rules_at level) op span (evals (rules_at level) (chain_at words text x))
+        binary_fails d o = failure_passes words text v d
             (λ a. applied (rules_at level) op span a (eval (rules_at level) (record_at words text y))) o ∙ rw q two
 
-        pub binary_value : (a : ℤ) → v ≡ E.Value a → applied (rules_at level) op span a (eval (rules_at level) (record_at words text y))
+        pub binary_value : (a : ℤ) → v ≡ Ok a → applied (rules_at level) op span a (eval (rules_at level) (record_at words text y))
             ≡ infix_of (rules_at level) op span
             (evals (rules_at level) (chain_at words text x))
         binary_value a w = rw (operand_value a w) at two
@@ -234,13 +243,13 @@ module _ (level : ℕ) (words text : List ℕ) (l : Linked words) where
             conditional_three span x y z e f h.at second_at_lem
             (chain_after words text y z f l nesting (chain_after words text x y e l nesting h)).at k
 
-        pub conditional_fails : ((z : ℤ) → v ≡ E.Value z → ⊥)
-            → outcome_of words text v ≡ infix_of (rules_at level) conditional_op span (evals (rules_at level) (chain_at words text x))
-        conditional_fails o =
-            failure_passes words text v (λ a. cond ((rules_at level).holds a) (eval (rules_at level) (record_at words text y))
+        pub conditional_fails : (d : Report) → v ≡ Err d
+            → outcome_of words text (Err d) ≡ infix_of (rules_at level) conditional_op span (evals (rules_at level) (chain_at words text x))
+        conditional_fails d o =
+            failure_passes words text v d (λ a. cond ((rules_at level).holds a) (eval (rules_at level) (record_at words text y))
             (eval (rules_at level) (record_at words text z))) o ∙ rw q three
 
-        pub conditional_value : (a : ℤ) → v ≡ E.Value a
+        pub conditional_value : (a : ℤ) → v ≡ Ok a
             → cond (is_true a) (eval (rules_at level) (record_at words text y)) (eval (rules_at level) (record_at words text z))
             ≡ infix_of (rules_at level) conditional_op span
             (evals (rules_at level) (chain_at words text x))

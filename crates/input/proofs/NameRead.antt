@@ -1,14 +1,15 @@
 -- Names and name spans by the numbers of the parts that decide them.
 use Prim.Native.Nat.{ℕ, ◌≤◌, ◌<◌}
 use mathlib.Core.Path.{◌≡◌, refl, sym, ap, ◌∙◌}
-use mathlib.Core.Bool.{Bool, true, false}
+use mathlib.Core.Bool.{true, false}
 use mathlib.Core.List.{List, [], ◌∷◌}
 use mathlib.Core.Option.{Option, some, none}
 use borrow.Author.Tests.{le-leb, lt-leb}
 use native.Mathlib.Omega.{arith}
+use Rattle.std.specs.Prelude.{Option as Maybe, Some, None, Result, Ok, Err, is_ok}
 use Rattle.paths_numbers.specs.meaning.Text.{is_empty}
 use Rattle.paths_numbers.specs.meaning.Path.{join, with_unit, joined}
-use Rattle.paths_numbers.proofs.Texts.{by_test, not_both}
+use Rattle.paths_numbers.proofs.Texts.{not_both}
 use Rattle.definition_log.specs.meaning.Contents.{Span}
 use Rattle.input.specs.meaning.Tree.{first_of, name_kind, unit_address_kind, reference_kind, macro_kind, slash_kind}
 use Rattle.input.specs.meaning.Report.{Got, found, failed, undefined_macro}
@@ -17,9 +18,8 @@ use Rattle.input.specs.meaning.Input.{child_at, text_at, span_end_at, span_at, c
 use Rattle.input.specs.machine.At.{record_at}
 use Rattle.input.specs.meaning.GoodName.{good_names_in}
 use Rattle.input.specs.machine.Read.{optional, FirstOf}
-use Rattle.input.specs.machine.NameRead.{name_read, name_text, is_there, full_read, FullNameRead}
-use Rattle.input.specs.declared.name.NameOrMacro.{NameOrMacro}
-use Rattle.input.specs.declared.name.NameOrMacro.TheVariants.{Name, Macro, Nothing}
+use Rattle.input.specs.machine.NameRead.{name_read, name_text, unit_text, is_there, with_unit_read, full_read, FullNameRead}
+use Rattle.input.specs.declared.report.Report.{Report}
 use Rattle.input.specs.declared.name.FullName.{FullName}
 use Rattle.input.proofs.GoodNames.{never, good_below, first_good, name_plain}
 use Rattle.input.proofs.Read.{optional_none, optional_some, first_missing, first_there}
@@ -89,21 +89,23 @@ module _ (words : List ℕ) (parts : ℕ) (text : List ℕ) (span : Span) where
     unfolding property_name_span
     property_span = rw (f.tree text) refl
 
+some_is : {A : Type 0} {x y : A} → Some x ≡ Some y → x ≡ y
+some_is e = cc
+
 -- a full name from what its two parts give
-module _ (words : List ℕ) (first : ℕ) (name : NameOrMacro) (e : (text : List ℕ)
+module _ (words : List ℕ) (first : ℕ) (name : Result ℕ Report) (e : (text : List ℕ)
     → name_read words text name ≡ name_or_macro (chain_at words text first))
     (u : ℕ) (f : FirstOf words first unit_address_kind u)
   where
-    pub full_alone : u ≡ 0 → FullNameRead words first (record { name = name; addressed = false; unit = Nothing })
+    pub full_alone : u ≡ 0 → FullNameRead words first (record { name = name; unit = None })
     unfolding full_read full_name
     full_alone z =
         record {
           read = λ text. e text ∙ rw (first_missing words first unit_address_kind u f text z) refl;
-          no_unit = λ k. refl;
           unit_good = λ text r g k. let z : ◌≡◌ {A = ℕ} 0 1 = cc in absurd (omega arith);
         }
 
-    module _ (n : u ≡ 0 → ⊥) (unit : NameOrMacro) (g : (text : List ℕ)
+    module _ (n : u ≡ 0 → ⊥) (unit : Result ℕ Report) (g : (text : List ℕ)
         → name_read words text unit ≡ name_or_macro (chain_at words text (child_at words u))) where
       -- the names below the unit address are good
       unit_names : (text : List ℕ) → good_names_in (chain_at words text first) ≡ true
@@ -114,63 +116,64 @@ module _ (words : List ℕ) (first : ℕ) (name : NameOrMacro) (e : (text : List
           (first_good (chain_at words text first) (record_at words text u) unit_address_kind h
           (first_there words first unit_address_kind u f text n)).0
 
-      pub full_addressed : FullNameRead words first (record { name = name; addressed = true; unit = unit })
+      pub full_addressed : FullNameRead words first (record { name = name; unit = Some unit })
       unfolding full_read full_name record_at
       full_addressed =
           record {
             read = λ text. rw (first_there words first unit_address_kind u f text n, e text, g text) refl;
-            no_unit = λ k. absurd (not_both {t = true} refl k);
             unit_good = λ text r h k.
                 (name_plain (chain_at words text (child_at words u)) (text_at words text r) (unit_names text h)
-                (ap (λ (x : Got (List ℕ)). x.result) (sym (g text) ∙ ap (name_read words text) k))).filled;
+                (ap (λ (x : Got (List ℕ)). x.result) (sym (g text) ∙ ap (name_read words text) (some_is k)))).filled;
           }
 
 -- whether there is a name with its unit address, by whether there are both
-module _ (words text : List ℕ) (f : FullName) where
-  pub not_named : is_there (name_read words text f.name).result ≡ false → is_there (full_read words text f).result ≡ false
-  unfolding full_read
-  not_named h = by_test f.addressed (λ q. rw q (go (name_read words text f.name).result (name_read words text f.unit).result h))
-      (λ q. rw q h)
-    where
-      go : (n u : Option (List ℕ)) → is_there n ≡ false → is_there (with_address n u) ≡ false
-      go none u k = refl
-      go (some n) u k = absurd (not_both {t = true} refl k)
+module _ (words text : List ℕ) where
+  is_there_ok : (n : Result ℕ Report) → is_ok n ≡ is_there (name_read words text n).result
+  is_there_ok (Ok r) = refl
+  is_there_ok (Err d) = refl
 
-  pub named_alone : f.addressed ≡ false → is_there (full_read words text f).result ≡ is_there (name_read words text f.name).result
+  pub named_alone : (f : FullName) → f.unit ≡ None → is_ok f.name ≡ is_there (full_read words text f).result
   unfolding full_read
-  named_alone q = rw q refl
+  named_alone f e = rw e (is_there_ok f.name)
 
-  pub named_addressed : f.addressed ≡ true → is_there (name_read words text f.name).result ≡ true
-      → is_there (full_read words text f).result ≡ is_there (name_read words text f.unit).result
+  pub not_named : (f : FullName) → is_ok f.name ≡ false → false ≡ is_there (full_read words text f).result
   unfolding full_read
-  named_addressed q h = rw q (go (name_read words text f.name).result (name_read words text f.unit).result h)
+  not_named f e = go f.name f.unit e
     where
-      go : (n u : Option (List ℕ)) → is_there n ≡ true → is_there (with_address n u) ≡ is_there u
-      go none u k = absurd (not_both {t = false} k refl)
-      go (some n) none k = refl
-      go (some n) (some u) k = refl
+      go : (n : Result ℕ Report) (u : Maybe (Result ℕ Report)) → is_ok n ≡ false
+          → false ≡ is_there (with_unit_read words text (name_read words text n) u).result
+      go (Err d) None k = refl
+      go (Err d) (Some u) k = refl
+      go (Ok n) u k = absurd (not_both {t = true} refl k)
+
+  pub named_addressed : (f : FullName) (u : Result ℕ Report) → f.unit ≡ Some u → is_ok f.name ≡ true
+      → is_ok u ≡ is_there (full_read words text f).result
+  unfolding full_read
+  named_addressed f u e h = rw e (go f.name u h)
+    where
+      go : (n u : Result ℕ Report) → is_ok n ≡ true → is_ok u ≡ is_there (with_unit_read words text (name_read words text n) (Some u)).result
+      go (Ok n) (Ok u) k = refl
+      go (Ok n) (Err d) k = refl
+      go (Err d) u k = absurd (not_both {t = false} k refl)
 
 -- the name as the path functions take it: the texts of both parts, of which the second is empty where there is no unit address
-full_text : (words text : List ℕ) (name unit : NameOrMacro) (addressed : Bool) (n : List ℕ)
-    → (full_read words text (record { name = name; addressed = addressed; unit = unit })).result ≡ some n
-    → (addressed ≡ false → unit ≡ Nothing) → ((r : ℕ) → unit ≡ Name r → is_empty (text_at words text r) ≡ false)
-    → n ≡ with_unit (name_text words text name) (name_text words text unit)
+full_text : (words text : List ℕ) (name : Result ℕ Report) (unit : Maybe (Result ℕ Report)) (n : List ℕ)
+    → (full_read words text (record { name = name; unit = unit })).result ≡ some n
+    → ((r : ℕ) → unit ≡ Some (Ok r) → is_empty (text_at words text r) ≡ false)
+    → n ≡ with_unit (name_text words text name) (unit_text words text unit)
 unfolding full_read with_unit is_empty
-full_text words text (Name a) (Name b) true n e h k = rw (k b refl) (cc)
-full_text words text (Name a) (Macro b) true n e h k = never e
-full_text words text (Name a) Nothing true n e h k = never e
-full_text words text (Macro a) unit true n e h k = never e
-full_text words text Nothing unit true n e h k = never e
-full_text words text (Name a) unit false n e h k = rw (h refl) (cc)
-full_text words text (Macro a) unit false n e h k = never e
-full_text words text Nothing unit false n e h k = never e
+full_text words text (Ok a) (Some (Ok b)) n e k = rw (k b refl) (cc)
+full_text words text (Ok a) (Some (Err d)) n e k = never e
+full_text words text (Ok a) None n e k = cc
+full_text words text (Err d) (Some u) n e k = never e
+full_text words text (Err d) None n e k = never e
 
 pub full_joined : (words text : List ℕ) (first : ℕ) (f : FullName) → FullNameRead words first f
     → good_names_in (chain_at words text first) ≡ true
     → (parent n : List ℕ) → (full_name (chain_at words text first)).result ≡ some n
-    → join parent n ≡ joined parent (name_text words text f.name) (name_text words text f.unit)
+    → join parent n ≡ joined parent (name_text words text f.name) (unit_text words text f.unit)
 unfolding joined
 full_joined words text first f r g parent n e =
     ap (join parent)
-    (full_text words text f.name f.unit f.addressed n (ap (λ (x : Got (List ℕ)). x.result) (r.read text) ∙ e) r.no_unit
+    (full_text words text f.name f.unit n (ap (λ (x : Got (List ℕ)). x.result) (r.read text) ∙ e)
     (λ k. r.unit_good text k g))

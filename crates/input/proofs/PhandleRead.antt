@@ -1,11 +1,12 @@
 -- References by their macro, their W and their text.
 use Prim.Native.Nat.{ℕ}
-use mathlib.Core.Path.{◌≡◌, refl}
+use mathlib.Core.Path.{◌≡◌, refl, ◌∙◌}
 use mathlib.Core.Bool.{true, false}
 use mathlib.Core.List.{List, [], ◌∷◌}
 use native.Mathlib.Omega.{arith}
 use borrow.Author.Tests.{ne_eqb}
 use lib.ListN.{length}
+use Rattle.std.specs.Prelude.{Ok, Err}
 use Rattle.paths_numbers.specs.meaning.Text.{is_empty}
 use Rattle.paths_numbers.specs.meaning.Reference.{Target, label, label_path, path, unreadable, target, number_of, label_of, path_of}
 use Rattle.input.specs.meaning.Tree.{macro_kind}
@@ -13,8 +14,9 @@ use Rattle.input.specs.meaning.Phandle.{readable, plain_target, lower_phandle}
 use Rattle.input.specs.meaning.Input.{child_at, number_at, text_at}
 use Rattle.input.specs.machine.At.{record_at}
 use Rattle.input.specs.machine.Read.{FirstOf}
-use Rattle.input.specs.machine.PhandleRead.{label_at, path_at, target_of, phandle_read, read_as}
-use Rattle.input.specs.declared.phandle.PhandleRead.TheVariants.{Macro, Label, Unreadable}
+use Rattle.input.specs.machine.PhandleRead.{label_at, path_at, phandle_read, read_as}
+use Rattle.input.specs.declared.report.Report.TheVariants.{Macro, Nothing}
+use Rattle.definition_log.specs.declared.parts.TargetKind.TheVariants.{Label}
 use Rattle.input.proofs.Read.{first_missing, first_there}
 
 -- a text is empty where its length is 0
@@ -28,33 +30,34 @@ unfolding is_empty
 filled_length [] n = absurd (n refl)
 filled_length (b ∷ s) n = refl
 
--- a raw reference by its kind, its label and its path
-raw_target : (words text : List ℕ) (t : Target) → target_of words text (label_of t) (path_of t) (read_as (number_of t)) ≡ readable t
-raw_target words text (label l) = refl
-raw_target words text (label_path l p) = refl
-raw_target words text (path p) = refl
-raw_target words text unreadable = refl
-
 module _ (words text : List ℕ) (r : ℕ) where
+  -- a raw reference by its kind, its label and its path
+  raw_target : (t : Target) → label_at words text r ≡ label_of t → path_at words text r ≡ path_of t
+      → phandle_read words text r (read_as (number_of t)) ≡ readable t
+  raw_target (label l) e f = rw e refl
+  raw_target (label_path l p) e f = rw (e, f) refl
+  raw_target (path p) e f = rw f refl
+  raw_target unreadable e f = refl
+
   -- a reference without a macro
   pub raw_is : number_at words r ≡ 1 → phandle_read words text r (read_as (number_of (target (text_at words text r)))) ≡ plain_target
       (record_at words text r)
-  unfolding phandle_read label_at path_at record_at
-  raw_is e = rw e (raw_target words text (target (text_at words text r)))
+  unfolding label_at path_at record_at
+  raw_is e = raw_target (target (text_at words text r)) (rw e refl) (rw e refl) ∙ rw e refl
 
   module _ (n : number_at words r ≡ 1 → ⊥) where
-    pub empty_is : length (text_at words text r) ≡ 0 → phandle_read words text r Unreadable ≡ plain_target (record_at words text r)
-    unfolding phandle_read record_at
+    pub empty_is : length (text_at words text r) ≡ 0 → phandle_read words text r (Err Nothing) ≡ plain_target (record_at words text r)
+    unfolding record_at
     empty_is e = simp (ne_eqb (number_at words r) 1 n, empty_length (text_at words text r) e)
 
-    pub name_is : (length (text_at words text r) ≡ 0 → ⊥) → phandle_read words text r Label ≡ plain_target (record_at words text r)
-    unfolding phandle_read label_at record_at
+    pub name_is : (length (text_at words text r) ≡ 0 → ⊥) → phandle_read words text r (Ok Label) ≡ plain_target (record_at words text r)
+    unfolding label_at record_at
     name_is e = simp (ne_eqb (number_at words r) 1 n, filled_length (text_at words text r) e)
 
   -- a macro comes first
   module _ (m : ℕ) (f : FirstOf words (child_at words r) macro_kind m) where
-    pub macro_is : (m ≡ 0 → ⊥) → phandle_read words text r (Macro m) ≡ lower_phandle (record_at words text r)
-    unfolding phandle_read lower_phandle record_at
+    pub macro_is : (m ≡ 0 → ⊥) → phandle_read words text r (Err (Macro m)) ≡ lower_phandle (record_at words text r)
+    unfolding lower_phandle record_at
     macro_is n = rw (first_there words (child_at words r) macro_kind m f text n) refl
 
     pub no_macro : m ≡ 0 → plain_target (record_at words text r) ≡ lower_phandle (record_at words text r)

@@ -1,34 +1,38 @@
--- The loops of the check of an input: a search in a list, one over the records in rising order, and the rows in turn.
-use Prim.Native.Nat.{ℕ, suc, ◌+◌, ◌-◌, ◌≤◌, ◌<◌}
-use mathlib.Core.Path.{◌≡◌, refl, sym, ◌∙◌}
+-- The loops of the check of an input: a search in a list, and one over the records in rising order.
+use Prim.Native.Nat.{ℕ, zero, suc, ◌+◌, ◌-◌, ◌≤◌, ◌<◌}
+use mathlib.Core.Path.{◌≡◌, refl, sym, ap, ◌∙◌}
 use mathlib.Core.Bool.{Bool, true, false}
-use mathlib.Core.List.{List}
+use mathlib.Core.List.{List, [], ◌∷◌}
 use mathlib.Core.Option.{Option, some, none}
 use native.Mathlib.Nat.{sub-zero}
 use native.Mathlib.Numerals.{add-one}
 use native.Mathlib.Omega.{arith}
-use lib.ListN.{length, get_or, drop, drop_of_length-le}
-use lib.Seq.{drop-cons}
+use Rattle.std.specs.Prelude.{Option as Maybe, Some, None}
+use Rattle.std.specs.List.{list_any, find, range_with_len}
+use Rattle.std.specs.Option.{option_map}
+use Rattle.paths_numbers.proofs.Texts.{by_test}
 use Rattle.paths_numbers.specs.meaning.Lists.{any}
-use Rattle.input.specs.meaning.Rows.{Verdict, accepted, refused, lowest}
-use Rattle.input.specs.machine.RowsPass.{first_fault, rows_from}
+use Rattle.input.specs.meaning.Rows.{lowest}
+use Rattle.input.specs.machine.RowsPass.{found_in}
 
--- w is whether the list has an element that passes the test, and the invariant says that it is decided by what is left of the list
-module _ (f : ℕ → Bool) (l : List ℕ) (i : ℕ) (w : Bool) (inv : w ≡ any f (drop i l)) where
-  -- this one passes
-  pub any_here : i < length l → f (get_or l i 0) ≡ true → true ≡ w
-  unfolding any
-  any_here h t = sym (inv ∙ rw (drop-cons l i 0 h, t) refl)
+-- the library's search of a list is the definition's
+pub any_list : {A : Type 0} (f : A → Bool) (l : List A) → list_any f l ≡ any f l
+unfolding any
+any_list f [] = refl
+any_list f (x ∷ l) = by_test (f x) (λ q. rw q refl) (λ q. rw q (any_list f l))
 
-  -- this one does not
-  pub any_later : i < length l → f (get_or l i 0) ≡ false → w ≡ any f (drop (i + 1) l)
-  unfolding any
-  any_later h t = inv ∙ rw (drop-cons l i 0 h, t, add-one) refl
+-- and its first number that passes is the lowest record
+lowest_found : (test : ℕ → Bool) (n a : ℕ) → found_in (find test (range_with_len a n)) ≡ lowest test n a
+unfolding lowest
+lowest_found test zero a = refl
+lowest_found test (suc n) a = by_test (test a) (λ q. rw q refl) (λ q. rw q (ap (λ k. found_in (find test (range_with_len k n))) (add-one a) ∙ lowest_found test n (suc a)))
 
-  -- there are no more
-  pub any_none : length l ≤ i → false ≡ w
-  unfolding any
-  any_none h = sym (inv ∙ rw (drop_of_length-le l h) refl)
+pub lowest_search : (test : ℕ → Bool) (n : ℕ) (o : Maybe ℕ) → option_map (λ x. x) o ≡ find test (range_with_len 0 n) → found_in o ≡ lowest test n 0
+lowest_search test n o e = ap found_in (sym (mapped o) ∙ e) ∙ lowest_found test n 0
+  where
+    mapped : (o : Maybe ℕ) → option_map (λ (x : ℕ). x) o ≡ o
+    mapped None = refl
+    mapped (Some x) = refl
 
 -- all records are left at first
 pub lowest_starts : (test : ℕ → Bool) (n : ℕ) → lowest test n 0 ≡ lowest test (n - 0) 0
@@ -51,20 +55,3 @@ module _ (test : ℕ → Bool) (n r : ℕ) (x : Option ℕ) (inv : x ≡ lowest 
   unfolding lowest
   lowest_done h = let k : n - r ≡ 0 = omega arith in sym (inv ∙ rw k refl)
 
--- x is what rows 3 to 6 say, and the invariant says that it is decided by the rows from this one on; o is what this one finds
-module _ (words text stands : List ℕ) (row : ℕ) (x : Verdict) (inv : x ≡ rows_from (7 - row) row words text stands) where
-  -- a record is at fault by this one
-  pub row_here : (o : Option ℕ) (r : ℕ) → row ≤ 6 → o ≡ first_fault row words text stands → o ≡ some r → refused row r ≡ x
-  unfolding rows_from
-  row_here o r h e q = let k : 7 - row ≡ suc (7 - (row + 1)) = omega arith in sym (inv ∙ rw (k, sym e ∙ q) refl)
-
-  -- none is
-  pub row_later : (o : Option ℕ) → row ≤ 6 → o ≡ first_fault row words text stands → o ≡ none
-      → x ≡ rows_from (7 - (row + 1)) (row + 1) words text stands
-  unfolding rows_from
-  row_later o h e q = let k : 7 - row ≡ suc (7 - (row + 1)) = omega arith in inv ∙ rw (k, sym e ∙ q, add-one) refl
-
-  -- there are no more
-  pub row_done : 6 < row → accepted ≡ x
-  unfolding rows_from
-  row_done h = let k : 7 - row ≡ 0 = omega arith in sym (inv ∙ rw k refl)

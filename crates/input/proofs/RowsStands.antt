@@ -1,20 +1,20 @@
 -- How the records stand, in one number each: what a pass in rising order stores is what is known of them.
 use Prim.Native.Nat.{ℕ, zero, suc, ◌+◌, ◌*◌, ◌/◌, ◌%◌, ◌≤◌, ◌<◌}
 use mathlib.Core.Path.{◌≡◌, refl, ◌∙◌}
-use mathlib.Core.Bool.{Bool, false}
+use mathlib.Core.Bool.{true, false}
 use mathlib.Core.List.{List}
 use mathlib.Core.Option.{Option, some, none}
 use native.Mathlib.Omega.{arith}
 use native.Mathlib.Numerals.{add-one}
-use borrow.Author.Tests.{ne_eqb}
+use borrow.Author.Tests.{ne_eqb, eqb-true}
 use lib.Dec.{eqb}
 use lib.ListN.{length, get_or, replicate, length-replicate, get_or-replicate}
-use Rattle.paths_numbers.proofs.Texts.{by_test}
+use Rattle.paths_numbers.proofs.Texts.{by_test, not_both}
 use Rattle.input.specs.meaning.Input.{record_count, kind_at, next_at, child_at, second_at}
 use Rattle.input.specs.meaning.Place.{InputPlace, child_place, second_place}
 use Rattle.input.specs.machine.Rising.{looked, known}
 use Rattle.input.specs.meaning.Rows.{Visit}
-use Rattle.input.specs.machine.RowsPass.{number_of, stored, stand_of, visit_at, below, led_on, Stands, breaks, fault_by}
+use Rattle.input.specs.machine.RowsPass.{number_of, stored, stand_of, visit_at, below, led_on, Stands, is_reached, breaks, fault_by}
 use Rattle.input.proofs.RowsTests.{place_back, in_places}
 use Rattle.input.proofs.RowsMarks.{stored_length, stored_at}
 
@@ -136,9 +136,24 @@ unfolding known stand_of
 stand_most words zero k = omega arith
 stand_most words (suc r) k = looked_most words r k (known words r r) (known words r k) (stand_most words r r) (stand_most words r k)
 
--- the fault of a record that is reached
-pub fault_reached : (row : ℕ) (words text stands : List ℕ) (r stand : ℕ) (t : Bool) → (row ≡ 3 → ⊥) → (r ≡ 0 → ⊥) → stand ≡ get_or stands r 0
-    → (stand ≡ 0 → ⊥)
-    → t ≡ breaks row words text (visit_at r stand) → t ≡ fault_by row words text stands r
-unfolding fault_by
-fault_reached row words text stands r stand t a b e n q = q ∙ rw (ne_eqb row 3 a, ne_eqb r 0 b, ← e, ne_eqb stand 0 n) refl
+-- the fault of a record by rows 4 to 6, by whether it is reached
+module _ (row : ℕ) (words text stands : List ℕ) (r : ℕ) (a : row ≡ 3 → ⊥) where
+  pub fault_reached : is_reached stands r ≡ true → breaks row words text (visit_at r (get_or stands r 0)) ≡ fault_by row words text stands r
+  unfolding fault_by
+  fault_reached e =
+      by_test (eqb r 0)
+      (λ q. absurd (not_both {t = false} (rw q at e) refl))
+      (λ q. by_test (eqb (get_or stands r 0) 0)
+      (λ p. absurd (not_both {t = false} (rw (q, p) at e) refl))
+      (λ p. rw (ne_eqb row 3 a, q, p) refl))
+
+  pub fault_unreached : (eqb row 4 ≡ true → r ≡ 0 → ⊥) → is_reached stands r ≡ false → false ≡ fault_by row words text stands r
+  unfolding fault_by
+  fault_unreached n e =
+      by_test (eqb r 0)
+      (λ q. by_test (eqb row 4)
+      (λ p. absurd (n p (eqb-true r 0 q)))
+      (λ p. rw (ne_eqb row 3 a, q, p) refl))
+      (λ q. by_test (eqb (get_or stands r 0) 0)
+      (λ p. rw (ne_eqb row 3 a, q, p) refl)
+      (λ p. absurd (not_both {t = true} refl (rw (q, p) at e))))

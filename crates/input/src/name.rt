@@ -7,44 +7,36 @@ ghost use Rattle.input.specs.meaning.Input.{chain_at};
 ghost use Rattle.input.specs.machine.Linked.{Linked, At};
 ghost use Rattle.definition_log.specs.machine.Parts.{meant};
 ghost use Rattle.input.specs.machine.Read.{optional};
-ghost use Rattle.input.specs.machine.NameRead.{name_read, name_text, is_there, full_read, FullNameRead};
+ghost use Rattle.input.specs.machine.NameRead.{name_read, name_text, unit_text, is_there, full_read, FullNameRead};
 
 use crate::kinds::{MACRO, NAME, REFERENCE, SLASH, UNIT_ADDRESS};
 use crate::layout;
 use crate::record::{child_at, field, first_of, no_text, span_at, text_at};
+use crate::report::Report;
 use definition_log::parts::Span;
 
-// The record of a name, or of the macro that stands in its place.
-#[derive(Clone, Copy)]
-pub enum NameOrMacro {
-    Name(u32),
-    Macro(u32),
-    Nothing,
-}
-
-// A name, and the name of its unit address, which is nothing where there is no unit address.
+// A name, by its record or by what is reported in its place, and the name in its unit address, where it has one.
 #[derive(Clone, Copy)]
 pub struct FullName {
-    pub name: NameOrMacro,
-    pub addressed: bool,
-    pub unit: NameOrMacro,
+    pub name: Result<u32, Report>,
+    pub unit: Option<Result<u32, Report>>,
 }
 
-// The name in a chain of parts.
-pub fn name_or_macro(words: &[u32], first: u32) -> NameOrMacro
+// The name in a chain of parts: its record, or what is reported in its place, which is nothing where no macro stands there.
+pub fn name_or_macro(words: &[u32], first: u32) -> Result<u32, Report>
     requires linked { Linked words.now }
     requires at { At words.now first }
     ensures { (text : List ℕ) → name_read words.now text result ≡ name_or_macro (chain_at words.now text first) }
 {
     let n = first_of(words, first, NAME);
     if n != 0 {
-        return NameOrMacro::Name(n);
+        return Ok(n);
     }
     let m = first_of(words, first, MACRO);
     if m != 0 {
-        return NameOrMacro::Macro(m);
+        return Err(Report::Macro(m));
     }
-    NameOrMacro::Nothing
+    Err(Report::Nothing)
 }
 
 // The name of what has these parts, with its unit address where there is one.
@@ -56,54 +48,43 @@ pub fn full_name(words: &[u32], first: u32) -> FullName
     let name = name_or_macro(words, first);
     let u = first_of(words, first, UNIT_ADDRESS);
     if u == 0 {
-        return FullName {
-            name,
-            addressed: false,
-            unit: NameOrMacro::Nothing,
-        };
+        return FullName { name, unit: None };
     }
-    let unit = name_or_macro(words, child_at(words, u));
-    FullName {
-        name,
-        addressed: true,
-        unit,
-    }
+    let unit = Some(name_or_macro(words, child_at(words, u)));
+    FullName { name, unit }
 }
 
 // Whether there is a name, and one in its unit address where there is one.
 pub fn is_named(f: FullName) -> bool
     ensures { (words text : List ℕ) → result ≡ is_there (full_read words text f).result }
 {
-    let name = f.name;
-    if !is_name(name) {
-        return false;
-    }
-    if f.addressed {
-        let unit = f.unit;
-        return is_name(unit);
-    }
-    true
-}
-
-// Whether this is a name.
-pub fn is_name(n: NameOrMacro) -> bool
-    ensures { (words text : List ℕ) → result ≡ is_there (name_read words text n).result }
-{
-    match n {
-        NameOrMacro::Name(_) => true,
-        NameOrMacro::Macro(_) => false,
-        NameOrMacro::Nothing => false,
+    match f.unit {
+        Some(unit) => f.name.is_ok() && unit.is_ok(),
+        None => f.name.is_ok(),
     }
 }
 
 // The text of a name, empty where there is none.
-pub fn name_text<'a, 'b>(words: &'b [u32], text: &'a [u8], n: NameOrMacro) -> &'a [u8]
+pub fn name_text<'a, 'b>(words: &'b [u32], text: &'a [u8], n: Result<u32, Report>) -> &'a [u8]
     ensures { result.now ≡ name_text words.now text.now n }
 {
     match n {
-        NameOrMacro::Name(r) => text_at(words, text, r),
-        NameOrMacro::Macro(_) => no_text(text),
-        NameOrMacro::Nothing => no_text(text),
+        Ok(r) => text_at(words, text, r),
+        Err(_) => no_text(text),
+    }
+}
+
+// The text of the name in a unit address, empty where there is none.
+pub fn unit_text<'a, 'b>(
+    words: &'b [u32],
+    text: &'a [u8],
+    unit: Option<Result<u32, Report>>,
+) -> &'a [u8]
+    ensures { result.now ≡ unit_text words.now text.now unit }
+{
+    match unit {
+        Some(n) => name_text(words, text, n),
+        None => no_text(text),
     }
 }
 

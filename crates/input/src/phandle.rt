@@ -10,21 +10,12 @@ ghost use Rattle.input.specs.machine.PhandleRead.{label_at, path_at, phandle_rea
 use crate::kinds::MACRO;
 use crate::place::RAW;
 use crate::record::{child_at, first_of, no_text, number_at, text_at};
+use crate::report::Report;
+use definition_log::parts::TargetKind;
 use paths_numbers::phandle::{MirPhandleTarget, phandle_label, phandle_path};
 
-// What a reference names, by the names of the Rust's MirPhandleTarget; or the macro that is not
-// defined, or that it cannot be read.
-#[derive(Clone, Copy)]
-pub enum PhandleRead {
-    Macro(u32),
-    Label,
-    LabelPath,
-    Path,
-    Unreadable,
-}
-
-// What a reference record names.
-pub fn lower_phandle(words: &[u32], text: &[u8], r: u32) -> PhandleRead
+// What a reference record names, by its kind; or what is reported where it names nothing that can be read.
+pub fn lower_phandle(words: &[u32], text: &[u8], r: u32) -> Result<TargetKind, Report>
     requires linked { Linked words.now }
     requires r_bound { r < record_count words.now }
     ensures { phandle_read words.now text.now r result ≡ lower_phandle
@@ -32,13 +23,13 @@ pub fn lower_phandle(words: &[u32], text: &[u8], r: u32) -> PhandleRead
 {
     let m = first_of(words, child_at(words, r), MACRO);
     if m != 0 {
-        return PhandleRead::Macro(m);
+        return Err(Report::Macro(m));
     }
     plain_target(words, text, r)
 }
 
 // What a reference record without a macro names.
-fn plain_target(words: &[u32], text: &[u8], r: u32) -> PhandleRead
+fn plain_target(words: &[u32], text: &[u8], r: u32) -> Result<TargetKind, Report>
     ensures { phandle_read words.now text.now r result ≡ plain_target
         (record_at words.now text.now r) }
 {
@@ -47,9 +38,9 @@ fn plain_target(words: &[u32], text: &[u8], r: u32) -> PhandleRead
         return read_as(paths_numbers::phandle::lower_phandle(name));
     }
     if name.len() == 0 {
-        return PhandleRead::Unreadable;
+        return Err(Report::Nothing);
     }
-    PhandleRead::Label
+    Ok(TargetKind::Label)
 }
 
 // The label that a reference record names, empty where there is none.
@@ -73,13 +64,13 @@ pub fn phandle_path_at<'a, 'b>(words: &'b [u32], text: &'a [u8], r: u32) -> &'a 
 }
 
 // What a raw reference names.
-fn read_as(t: MirPhandleTarget) -> PhandleRead
+fn read_as(t: MirPhandleTarget) -> Result<TargetKind, Report>
     ensures { result ≡ read_as (target_number t) }
 {
     match t {
-        MirPhandleTarget::Label => PhandleRead::Label,
-        MirPhandleTarget::LabelPath => PhandleRead::LabelPath,
-        MirPhandleTarget::Path => PhandleRead::Path,
-        MirPhandleTarget::Unreadable => PhandleRead::Unreadable,
+        MirPhandleTarget::Label => Ok(TargetKind::Label),
+        MirPhandleTarget::LabelPath => Ok(TargetKind::LabelPath),
+        MirPhandleTarget::Path => Ok(TargetKind::Path),
+        MirPhandleTarget::Unreadable => Err(Report::Nothing),
     }
 }

@@ -185,10 +185,7 @@ pub fn has_children(kind: u32) -> bool
 pub fn links_by_w(kind: u32) -> bool
     ensures { result ≡ links_by_w kind }
 {
-    if kind == NODE {
-        return true;
-    }
-    kind == PROPERTY
+    kind == NODE || kind == PROPERTY
 }
 
 // Whether W is in its list, where it is a number.

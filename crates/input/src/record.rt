@@ -1,14 +1,14 @@
 // Input records read. What lies outside the words reads as 0, and a text ends where the bytes do.
 ghost use Rattle.std.specs.Prelude.{◌≡◌, List, [], ℕ};
 ghost use Rattle.input.specs.meaning.Tree.{has};
-ghost use Rattle.input.specs.meaning.Input.{field, kind_at, next_at, child_at, w_at, links_by_w, second_at, number_at, span_at, text_at};
+ghost use Rattle.input.specs.meaning.Input.{field, kind_at, next_at, child_at, w_at, second_at, number_at, span_at, text_at};
 ghost use Rattle.input.specs.meaning.Input.{chain_at};
 ghost use Rattle.input.specs.machine.Linked.{Linked, At};
 ghost use Rattle.definition_log.specs.machine.Parts.{meant};
 ghost use Rattle.input.specs.machine.Read.{after_at, FirstOf};
 
-use crate::kinds::{NODE, PROPERTY};
 use crate::layout;
+use crate::place::links_by_w;
 use definition_log::parts::Span;
 use definition_log::record::text_in;
 
@@ -17,10 +17,7 @@ pub fn field(words: &[u32], r: u32, i: u32) -> u32
     ensures { result ≡ field words.now r i }
 {
     let at = (r as usize) * layout::RECORD_WORDS + (i as usize);
-    if at < words.len() {
-        return words[at];
-    }
-    0
+    words.get(at).copied().unwrap_or(0)
 }
 
 // The kind of a record.
@@ -51,22 +48,11 @@ pub fn w_at(words: &[u32], r: u32) -> u32
     field(words, r, layout::W)
 }
 
-// Whether a record's W is a link.
-fn links_by_w(words: &[u32], r: u32) -> bool
-    ensures { result ≡ links_by_w (kind_at words.now r) }
-{
-    let kind = kind_at(words, r);
-    if kind == NODE {
-        return true;
-    }
-    kind == PROPERTY
-}
-
 // The record that W leads to, 0 where W is a number.
 pub fn second_at(words: &[u32], r: u32) -> u32
     ensures { result ≡ second_at words.now r }
 {
-    if links_by_w(words, r) {
+    if links_by_w(kind_at(words, r)) {
         return w_at(words, r);
     }
     0
@@ -76,7 +62,7 @@ pub fn second_at(words: &[u32], r: u32) -> u32
 pub fn number_at(words: &[u32], r: u32) -> u32
     ensures { result ≡ number_at words.now r }
 {
-    if links_by_w(words, r) {
+    if links_by_w(kind_at(words, r)) {
         return 0;
     }
     w_at(words, r)

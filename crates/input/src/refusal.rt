@@ -1,24 +1,23 @@
 // Rows 1 to 6 of 01's table: the check of an input, any words and any text. Row 2 marks the records that are linked; then links go up, so
 // that one pass in rising order knows how each reached record stands; the other rows are each a search in rising order.
-ghost use Rattle.std.specs.Prelude.{ℕ, ◌<◌, ◌≤◌, false, not, ◌≡◌, eqb, get_or};
+ghost use Rattle.std.specs.Prelude.{ℕ, ◌<◌, ◌≤◌, false, ◌≡◌, get_or, List};
 ghost use Rattle.std.proofs.Math.Option.{none};
-ghost use Rattle.paths_numbers.specs.meaning.Lists.{any};
-ghost use Rattle.input.specs.meaning.Input.{record_count, field, second_at, number_at, text_at};
+ghost use Rattle.input.specs.meaning.Input.{record_count};
 ghost use Rattle.input.specs.meaning.Rows.{most_records, wrong_size, bad_link, bad_links, row_two, bad_text, unfit, bad_head, holds_slash};
 ghost use Rattle.input.specs.meaning.Rows.{bad_name, verdict};
 ghost use Rattle.input.specs.meaning.RowsAnswer.{told};
 ghost use Rattle.input.specs.machine.RowsPass.{found_in};
-ghost use Rattle.input.specs.machine.RowsPass.{stored, Marks, mark_links, visit_at, led_on, Stands, breaks, fault_by, first_fault};
+ghost use Rattle.input.specs.machine.RowsPass.{stored, Marks, mark_links, visit_at, led_on, Stands, is_reached, fault_by, first_fault};
 ghost use Rattle.input.specs.machine.RowsPass.{rows_from, later_rows};
 ghost use Rattle.input.specs.meaning.GoodName.{good_name};
 
 use crate::kinds::{NAME, REFERENCE};
 use crate::limits::{MOST_LINKS, MOST_RECORDS, MOST_TEXT};
+use crate::record::{child_at, field, kind_at, next_at, number_at, second_at, text_at, w_at};
 use crate::{layout, place};
 use definition_log::answer::{
     REFUSED_DEPTH, REFUSED_KIND, REFUSED_LINK, REFUSED_NAME, REFUSED_SIZE, REFUSED_TEXT,
 };
-use definition_log::record::text_in;
 use paths_numbers::phandle::first_slash;
 
 // How a record stands is one number: this times its depth, and its place's number; 0 where no link has led to it.
@@ -31,13 +30,6 @@ pub enum Checked {
     Refused(u32, u32),
 }
 
-// What a search for a record found.
-#[derive(Clone, Copy)]
-enum Found {
-    Nothing,
-    Record(u32),
-}
-
 // The first cause against an input.
 pub fn check_input(words: &[u32], text: &[u8]) -> Checked
     ensures { told result ≡ verdict words.now text.now }
@@ -46,11 +38,10 @@ pub fn check_input(words: &[u32], text: &[u8]) -> Checked
         return Checked::Refused(REFUSED_SIZE, 0);
     }
     let mut marks = [0u32; MOST_RECORDS];
-    let found = first_bad_links(words, &mut marks);
-    match found {
-        Found::Record(r) => Checked::Refused(REFUSED_LINK, r),
-        Found::Nothing => check_linked(words, text),
+    if let Some(r) = first_bad_links(words, &mut marks) {
+        return Checked::Refused(REFUSED_LINK, r);
     }
+    check_linked(words, text)
 }
 
 // Row 1.
@@ -71,21 +62,18 @@ fn wrong_size(words: &[u32], text: &[u8]) -> bool
 }
 
 // Row 2: the lowest record with a link at fault.
-fn first_bad_links(words: &[u32], marks: &mut [u32]) -> Found
+fn first_bad_links(words: &[u32], marks: &mut [u32]) -> Option<u32>
     requires words_bound { record_count words.now ≤ most_records }
     requires marks { Marks words.now 0 marks.old }
     ensures { found_in result ≡ row_two words.now }
 {
-    let n = record_count(words);
-    let mut r: u32 = 0;
-    while r < n {
+    for r in 0..record_count(words) {
         if bad_links(words, marks, r) {
-            return Found::Record(r);
+            return Some(r);
         }
         mark_links(words, marks, r);
-        r += 1;
     }
-    Found::Nothing
+    None
 }
 
 // Whether a record has a link at fault.
@@ -94,8 +82,8 @@ fn bad_links(words: &[u32], marks: &[u32], r: u32) -> bool
     requires marks { Marks words.now r marks.now }
     ensures { result ≡ bad_links words.now r }
 {
-    let next = word_at(words, r, layout::NEXT);
-    let child = word_at(words, r, layout::CHILD);
+    let next = next_at(words, r);
+    let child = child_at(words, r);
     if bad_link(words, marks, r, &[], next) {
         return true;
     }
@@ -130,8 +118,8 @@ fn bad_link(words: &[u32], marks: &[u32], r: u32, earlier: &[u32], l: u32) -> bo
 fn mark_links(words: &[u32], marks: &mut [u32], r: u32)
     ensures { marks.new ≡ mark_links words.now r marks.old }
 {
-    store(marks, word_at(words, r, layout::NEXT), 1);
-    store(marks, word_at(words, r, layout::CHILD), 1);
+    store(marks, next_at(words, r), 1);
+    store(marks, child_at(words, r), 1);
     store(marks, second_at(words, r), 1);
 }
 
@@ -151,13 +139,17 @@ fn check_reached(words: &[u32], text: &[u8], stands: &[u32]) -> Checked
     requires { record_count words.now ≤ most_records }
     ensures { told result ≡ rows_from 4 3 words.now text.now stands.now }
 {
-    let mut row: u32 = REFUSED_TEXT;
-    while row <= REFUSED_DEPTH {
-        let found = first_fault(row, words, text, stands);
-        if let Found::Record(r) = found {
-            return Checked::Refused(row, r);
-        }
-        row += 1;
+    if let Some(r) = first_bad_text(words, text) {
+        return Checked::Refused(REFUSED_TEXT, r);
+    }
+    if let Some(r) = first_unfit(words, stands) {
+        return Checked::Refused(REFUSED_KIND, r);
+    }
+    if let Some(r) = first_misnamed(words, text, stands) {
+        return Checked::Refused(REFUSED_NAME, r);
+    }
+    if let Some(r) = first_too_deep(words, stands) {
+        return Checked::Refused(REFUSED_DEPTH, r);
     }
     Checked::Accepted
 }
@@ -168,16 +160,9 @@ fn find_stands(words: &[u32], stands: &mut [u32])
     requires stands { Stands words.now 0 stands.old }
     ensures { Stands words.now (record_count words.now) stands.new }
 {
-    let n = record_count(words);
-    store(
-        stands,
-        word_at(words, 0, layout::CHILD),
-        PLACES + place::ITEMS,
-    );
-    let mut r: u32 = 1;
-    while r < n {
+    store(stands, child_at(words, 0), PLACES + place::ITEMS);
+    for r in 1..record_count(words) {
         lead_on(words, r, number_in(stands, r), stands);
-        r += 1;
     }
 }
 
@@ -189,7 +174,7 @@ fn lead_on(words: &[u32], r: u32, stand: u32, stands: &mut [u32])
     if stand == 0 {
         return;
     }
-    let kind = word_at(words, r, layout::KIND);
+    let kind = kind_at(words, r);
     let deeper = (stand / PLACES + 1) * PLACES;
     store(
         stands,
@@ -198,59 +183,73 @@ fn lead_on(words: &[u32], r: u32, stand: u32, stands: &mut [u32])
     );
     store(
         stands,
-        word_at(words, r, layout::CHILD),
+        child_at(words, r),
         deeper + place::child_place(kind),
     );
-    store(stands, word_at(words, r, layout::NEXT), stand);
+    store(stands, next_at(words, r), stand);
 }
 
-// The lowest record at fault by a row, of rows 3 to 6.
-fn first_fault(row: u32, words: &[u32], text: &[u8], stands: &[u32]) -> Found
+// Row 3: the lowest record whose text ends behind the text.
+fn first_bad_text(words: &[u32], text: &[u8]) -> Option<u32>
     requires { record_count words.now ≤ most_records }
-    ensures { found_in result ≡ first_fault row words.now text.now stands.now }
+    ensures { (stands : List ℕ) → found_in result ≡ first_fault 3 words.now text.now stands }
 {
-    let n = record_count(words);
-    let mut r: u32 = 0;
-    while r < n {
-        if at_fault(row, words, text, stands, r) {
-            return Found::Record(r);
-        }
-        r += 1;
-    }
-    Found::Nothing
+    (0..record_count(words)).find(|&r| bad_text(words, text, r))
 }
 
-// Whether a record is at fault by a row: by row 3 any record, by the others one that is reached, and record 0 by row 4.
-fn at_fault(row: u32, words: &[u32], text: &[u8], stands: &[u32], r: u32) -> bool
-    ensures { result ≡ fault_by row words.now text.now stands.now r }
+// Row 4: the lowest record that is unfit.
+fn first_unfit(words: &[u32], stands: &[u32]) -> Option<u32>
+    requires { record_count words.now ≤ most_records }
+    ensures { (text : List ℕ) → found_in result ≡ first_fault 4 words.now text stands.now }
 {
-    if row == REFUSED_TEXT {
-        return bad_text(words, text, r);
-    }
+    (0..record_count(words)).find(|&r| unfit_at(words, stands, r))
+}
+
+// Row 5: the lowest record with a bad name.
+fn first_misnamed(words: &[u32], text: &[u8], stands: &[u32]) -> Option<u32>
+    requires { record_count words.now ≤ most_records }
+    ensures { found_in result ≡ first_fault 5 words.now text.now stands.now }
+{
+    (0..record_count(words)).find(|&r| misnamed_at(words, text, stands, r))
+}
+
+// Row 6: the lowest record that more links lead to than may.
+fn first_too_deep(words: &[u32], stands: &[u32]) -> Option<u32>
+    requires { record_count words.now ≤ most_records }
+    ensures { (text : List ℕ) → found_in result ≡ first_fault 6 words.now text stands.now }
+{
+    (0..record_count(words)).find(|&r| too_deep_at(stands, r))
+}
+
+// Row 4, of record 0 and of another record that is reached.
+fn unfit_at(words: &[u32], stands: &[u32], r: u32) -> bool
+    ensures { (text : List ℕ) → result ≡ fault_by 4 words.now text stands.now r }
+{
     if r == 0 {
-        if row == REFUSED_KIND {
-            return bad_head(words);
-        }
-        return false;
+        return bad_head(words);
     }
-    let stand = number_in(stands, r);
-    if stand == 0 {
-        return false;
-    }
-    breaks_row(row, words, text, stand, r)
+    is_reached(stands, r) && is_unfit(words, number_in(stands, r), r)
 }
 
-// Whether a reached record breaks row 4, 5 or 6.
-fn breaks_row(row: u32, words: &[u32], text: &[u8], stand: u32, r: u32) -> bool
-    ensures { result ≡ breaks row words.now text.now (visit_at r stand) }
+// Row 5, of a record that is reached.
+fn misnamed_at(words: &[u32], text: &[u8], stands: &[u32], r: u32) -> bool
+    ensures { result ≡ fault_by 5 words.now text.now stands.now r }
 {
-    if row == REFUSED_KIND {
-        return is_unfit(words, stand, r);
-    }
-    if row == REFUSED_NAME {
-        return bad_name(words, text, r);
-    }
-    MOST_LINKS < stand / PLACES
+    is_reached(stands, r) && bad_name(words, text, r)
+}
+
+// Row 6, of a record that is reached.
+fn too_deep_at(stands: &[u32], r: u32) -> bool
+    ensures { (words text : List ℕ) → result ≡ fault_by 6 words text stands.now r }
+{
+    is_reached(stands, r) && MOST_LINKS < number_in(stands, r) / PLACES
+}
+
+// Whether a record other than record 0 is reached.
+fn is_reached(stands: &[u32], r: u32) -> bool
+    ensures { result ≡ is_reached stands.now r }
+{
+    r != 0 && number_in(stands, r) != 0
 }
 
 // Row 3: whether a record's text ends behind the text.
@@ -258,77 +257,62 @@ fn bad_text(words: &[u32], text: &[u8], r: u32) -> bool
     ensures { result ≡ bad_text words.now text.now r }
 {
     text.len()
-        < (word_at(words, r, layout::TEXT_START) as usize)
-            + (word_at(words, r, layout::TEXT_LENGTH) as usize)
+        < (field(words, r, layout::TEXT_START) as usize)
+            + (field(words, r, layout::TEXT_LENGTH) as usize)
 }
 
 // Row 4: whether a word of record 0 but its child is not zero.
 fn bad_head(words: &[u32]) -> bool
     ensures { result ≡ bad_head words.now }
 {
-    any_word(
-        words,
-        &[
-            layout::KIND,
-            layout::NEXT,
-            layout::TEXT_START,
-            layout::TEXT_LENGTH,
-            layout::W,
-            layout::SPAN_START,
-            layout::SPAN_END,
-        ],
-    )
-}
-
-// Whether one of these words of record 0 is not zero.
-fn any_word(words: &[u32], fields: &[u32]) -> bool
-    ensures { result ≡ any (λ (i : ℕ). not (eqb (field words.now 0 i) 0)) fields.now }
-{
-    let mut i = 0;
-    while i < fields.len() {
-        if word_at(words, 0, fields[i]) != 0 {
-            return true;
-        }
-        i += 1;
-    }
-    false
+    [
+        layout::KIND,
+        layout::NEXT,
+        layout::TEXT_START,
+        layout::TEXT_LENGTH,
+        layout::W,
+        layout::SPAN_START,
+        layout::SPAN_END,
+    ]
+    .iter()
+    .any(|&i| field(words, 0, i) != 0)
 }
 
 // Row 4: whether a record's kind does not fit its place, its W its kind, its child its kind, or its span ends before it starts.
 fn is_unfit(words: &[u32], stand: u32, r: u32) -> bool
     ensures { result ≡ unfit words.now (visit_at r stand) }
 {
-    let kind = word_at(words, r, layout::KIND);
+    let kind = kind_at(words, r);
     if !place::fits_alone(
         stand % PLACES,
         kind,
         number_at(words, r),
-        word_at(words, r, layout::SPAN_START),
-        word_at(words, r, layout::SPAN_END),
+        field(words, r, layout::SPAN_START),
+        field(words, r, layout::SPAN_END),
     ) {
         return true;
     }
     if place::has_children(kind) {
         return false;
     }
-    word_at(words, r, layout::CHILD) != 0
+    child_at(words, r) != 0
 }
 
 // Row 5: whether a name is empty, or it or a name reference holds a slash.
 fn bad_name(words: &[u32], text: &[u8], r: u32) -> bool
     ensures { result ≡ bad_name words.now text.now (visit_at r 0) }
 {
-    let kind = word_at(words, r, layout::KIND);
+    let kind = kind_at(words, r);
     if kind == NAME {
-        return !good_name(record_text(words, text, r));
+        return !good_name(text_at(words, text, r));
     }
     if kind != REFERENCE {
         return false;
     }
-    if word_at(words, r, layout::W) != 0 {
+    if w_at(words, r) != 0 {
         return false;
     }
-    holds_slash(record_text(words, text, r))
+    holds_slash(text_at(words, text, r))
 }
 
 // Whether a name is not empty and holds no slash.
@@ -348,17 +332,6 @@ fn holds_slash(text: &[u8]) -> bool
     first_slash(text) < text.len()
 }
 
-// A record's text.
-fn record_text<'a, 'b>(words: &'b [u32], text: &'a [u8], r: u32) -> &'a [u8]
-    ensures { result.now ≡ text_at words.now text.now r }
-{
-    text_in(
-        text,
-        word_at(words, r, layout::TEXT_START),
-        word_at(words, r, layout::TEXT_LENGTH),
-    )
-}
-
 // How many records the words hold.
 fn record_count(words: &[u32]) -> u32
     requires { record_count words.now ≤ most_records }
@@ -367,46 +340,11 @@ fn record_count(words: &[u32]) -> u32
     (words.len() / layout::RECORD_WORDS) as u32
 }
 
-// The record that W leads to, 0 where W is a number.
-fn second_at(words: &[u32], r: u32) -> u32
-    ensures { result ≡ second_at words.now r }
-{
-    if place::links_by_w(word_at(words, r, layout::KIND)) {
-        return word_at(words, r, layout::W);
-    }
-    0
-}
-
-// The number that W is, 0 where W is a link.
-fn number_at(words: &[u32], r: u32) -> u32
-    ensures { result ≡ number_at words.now r }
-{
-    if place::links_by_w(word_at(words, r, layout::KIND)) {
-        return 0;
-    }
-    word_at(words, r, layout::W)
-}
-
-// Word i of a record.
-fn word_at(words: &[u32], r: u32, i: u32) -> u32
-    ensures { result ≡ field words.now r i }
-{
-    let at = (r as usize) * layout::RECORD_WORDS + (i as usize);
-    if at < words.len() {
-        return words[at];
-    }
-    0
-}
-
 // What an array says of a record.
 fn number_in(list: &[u32], r: u32) -> u32
     ensures { result ≡ get_or list.now r 0 }
 {
-    let at = r as usize;
-    if at < list.len() {
-        return list[at];
-    }
-    0
+    list.get(r as usize).copied().unwrap_or(0)
 }
 
 // And said anew.

@@ -4,22 +4,20 @@ ghost use Rattle.std.specs.Prelude.{◌≡◌, List, ℕ, ◌<◌};
 ghost use Rattle.paths_numbers.specs.meaning.Bytestring.{count_of, count_told};
 ghost use Rattle.paths_numbers.specs.meaning.Number.{int_told};
 ghost use Rattle.paths_numbers.specs.meaning.Cell.{size_told, cell_told};
-ghost use Rattle.levels.specs.meaning.Rules.{signed_rules};
-ghost use Rattle.input.specs.meaning.Property.{number_cell, outcome_cell, expression_cell, reference_cell, lower_cell};
+ghost use Rattle.input.specs.meaning.Property.{number_cell, expression_cell, reference_cell, lower_cell};
 ghost use Rattle.input.specs.meaning.Property.{sized_list, counted_bytes, reference_value, lower_value};
 ghost use Rattle.input.specs.meaning.Input.{record_count, span_at, text_at, parts_at};
+ghost use Rattle.input.specs.meaning.Phandle.{lower_phandle};
 ghost use Rattle.input.specs.machine.At.{record_at};
 ghost use Rattle.input.specs.machine.Linked.{Linked, RecordIn};
-ghost use Rattle.input.specs.machine.Evaluation.{outcome_of};
-ghost use Rattle.input.specs.machine.PhandleRead.{phandle_read};
-ghost use Rattle.input.specs.machine.ValueRead.{target_got, cell_made, value_made};
+ghost use Rattle.input.specs.machine.ValueRead.{cell_made, value_made};
 
-use crate::expr_eval::{Evaluation, eval_first};
+use crate::expr_eval::eval_first;
 use crate::kinds::{
     BYTESTRING, CELL_LIST, CHARACTER, DIRECTIVE, EXPRESSION, MACRO, NUMBER, PREPROCESSOR,
     REFERENCE, STRING,
 };
-use crate::phandle::{PhandleRead, lower_phandle};
+use crate::phandle::lower_phandle;
 use crate::record::{child_at, kind_at, number_at, text_at};
 use crate::report::Report;
 use definition_log::parts::TargetKind;
@@ -33,12 +31,11 @@ use paths_numbers::expr_eval::{ParsedInt, int_code, parse_int_tok};
 // The width of the cells that a reference may stand in.
 const REFERENCE_BITS: u32 = 32;
 
-// What a cell's record gives: a number, a reference of a kind, or nothing but a report.
+// A cell, which is a number or a reference of a kind.
 #[derive(Clone, Copy)]
-pub enum CellRead {
+pub enum CellValue {
     Number(u64),
     Phandle(TargetKind),
-    Failed(Report),
 }
 
 // A value without cells, by its kind.
@@ -49,22 +46,14 @@ pub enum PlainValue {
     Phandle(TargetKind),
 }
 
-// What a value's record gives: such a value, a cell list of a width, or nothing but a report.
+// A value, which is one without cells or a cell list of a width.
 #[derive(Clone, Copy)]
-pub enum ValueRead {
+pub enum Value {
     Plain(PlainValue),
     CellList(BitsSize),
-    Failed(Report),
 }
 
-// What a reference's record gives: a reference of a kind, or nothing but a report.
-#[derive(Clone, Copy)]
-pub enum TargetRead {
-    Target(TargetKind),
-    Failed(Report),
-}
-
-// The cell of a width at a record.
+// The cell of a width at a record, or what is reported where there is none.
 pub fn read_cell(
     words: &[u32],
     text: &[u8],
@@ -72,7 +61,7 @@ pub fn read_cell(
     size: BitsSize,
     nesting: u32,
     level: u32,
-) -> CellRead
+) -> Result<CellValue, Report>
     requires linked { Linked words.now }
     requires record_in { RecordIn words.now text.now r nesting }
     ensures { cell_made words.now text.now r result ≡ lower_cell level size
@@ -82,31 +71,31 @@ pub fn read_cell(
         NUMBER => number_cell(r, parse_int_tok(text_at(words, text, r), size)),
         CHARACTER => fitted_cell(r, char_cell(number_at(words, r), size)),
         EXPRESSION => expression_cell(words, text, r, size, nesting, level),
-        REFERENCE => reference_cell(r, size, target_read(lower_phandle(words, text, r))),
-        MACRO => CellRead::Failed(Report::Macro(r)),
-        DIRECTIVE => CellRead::Failed(Report::Code(codes::DIRECTIVE_AS_CELL, r)),
-        PREPROCESSOR => CellRead::Failed(Report::Code(codes::PREPROCESSOR, r)),
-        _ => CellRead::Failed(Report::Nothing),
+        REFERENCE => reference_cell(words, text, r, size),
+        MACRO => Err(Report::Macro(r)),
+        DIRECTIVE => Err(Report::Code(codes::DIRECTIVE_AS_CELL, r)),
+        PREPROCESSOR => Err(Report::Code(codes::PREPROCESSOR, r)),
+        _ => Err(Report::Nothing),
     }
 }
 
 // A number's text read, at record r.
-fn number_cell(r: u32, p: ParsedInt) -> CellRead
+fn number_cell(r: u32, p: ParsedInt) -> Result<CellValue, Report>
     ensures { (words text : List ℕ) → cell_made words text r result ≡ number_cell (span_at words r) (int_told p) }
 {
     match p {
-        ParsedInt::Value(n) => CellRead::Number(n),
-        ParsedInt::Failed(e) => CellRead::Failed(Report::Code(int_code(e), r)),
+        ParsedInt::Value(n) => Ok(CellValue::Number(n)),
+        ParsedInt::Failed(e) => Err(Report::Code(int_code(e), r)),
     }
 }
 
 // A number that fits its width or does not, at record r.
-fn fitted_cell(r: u32, cell: Cell) -> CellRead
+fn fitted_cell(r: u32, cell: Cell) -> Result<CellValue, Report>
     ensures { (words text : List ℕ) → cell_made words text r result ≡ number_cell (span_at words r) (cell_told cell) }
 {
     match cell {
-        Cell::Number(n) => CellRead::Number(n),
-        _ => CellRead::Failed(Report::Code(cell_code(cell), r)),
+        Cell::Number(n) => Ok(CellValue::Number(n)),
+        _ => Err(Report::Code(cell_code(cell), r)),
     }
 }
 
@@ -118,111 +107,81 @@ fn expression_cell(
     size: BitsSize,
     nesting: u32,
     level: u32,
-) -> CellRead
+) -> Result<CellValue, Report>
     requires linked { Linked words.now }
     requires record_in { RecordIn words.now text.now r nesting }
     ensures { cell_made words.now text.now r result ≡ expression_cell level size (span_at words.now r)
         (parts_at words.now text.now r) }
 {
     if nesting == 0 {
-        return CellRead::Failed(Report::Nothing);
+        return Err(Report::Nothing);
     }
-    outcome_cell(
-        r,
-        size,
-        eval_first(words, text, child_at(words, r), nesting - 1, level),
-    )
+    let z = eval_first(words, text, child_at(words, r), nesting - 1, level)?;
+    fitted_cell(r, expr_cell(z, size))
 }
 
-// An expression's value or failure, at record r.
-fn outcome_cell(r: u32, size: BitsSize, e: Evaluation) -> CellRead
-    ensures { (words text : List ℕ) → cell_made words text r result ≡ outcome_cell signed_rules size (span_at words r)
-        (outcome_of words text e) }
+// A reference in a cell list of a width.
+fn reference_cell(words: &[u32], text: &[u8], r: u32, size: BitsSize) -> Result<CellValue, Report>
+    requires linked { Linked words.now }
+    requires r_bound { r < record_count words.now }
+    ensures { cell_made words.now text.now r result ≡ reference_cell size (span_at words.now r)
+        (lower_phandle (record_at words.now text.now r)) }
 {
-    match e {
-        Evaluation::Value(z) => fitted_cell(r, expr_cell(z, size)),
-        Evaluation::Missing => CellRead::Failed(Report::Nothing),
-        Evaluation::Macro(m) => CellRead::Failed(Report::Macro(m)),
-        Evaluation::Failed(code, at) => CellRead::Failed(Report::Code(code, at)),
+    let kind = lower_phandle(words, text, r)?;
+    if size.bits() != REFERENCE_BITS {
+        return Err(Report::Code(codes::REFERENCE_WIDTH, r));
     }
+    Ok(CellValue::Phandle(kind))
 }
 
-// A reference in a cell list of a width, at record r.
-fn reference_cell(r: u32, size: BitsSize, t: TargetRead) -> CellRead
-    ensures { (words text : List ℕ) → cell_made words text r result ≡ reference_cell size (span_at words r) (target_got words text r t) }
-{
-    match t {
-        TargetRead::Failed(report) => CellRead::Failed(report),
-        TargetRead::Target(kind) => {
-            if size.bits() == REFERENCE_BITS {
-                return CellRead::Phandle(kind);
-            }
-            CellRead::Failed(Report::Code(codes::REFERENCE_WIDTH, r))
-        }
-    }
-}
-
-// The kind of what a reference names, or what is reported.
-fn target_read(k: PhandleRead) -> TargetRead
-    ensures { (words text : List ℕ) (r : ℕ) → target_got words text r result ≡ phandle_read words text r k }
-{
-    match k {
-        PhandleRead::Macro(m) => TargetRead::Failed(Report::Macro(m)),
-        PhandleRead::Label => TargetRead::Target(TargetKind::Label),
-        PhandleRead::LabelPath => TargetRead::Target(TargetKind::LabelPath),
-        PhandleRead::Path => TargetRead::Target(TargetKind::Path),
-        PhandleRead::Unreadable => TargetRead::Failed(Report::Nothing),
-    }
-}
-
-// The value at a record.
-pub fn read_value(words: &[u32], text: &[u8], r: u32) -> ValueRead
+// The value at a record, or what is reported where there is none.
+pub fn read_value(words: &[u32], text: &[u8], r: u32) -> Result<Value, Report>
     requires linked { Linked words.now }
     requires r_bound { r < record_count words.now }
     ensures { (level : ℕ) → value_made words.now text.now r level result ≡ lower_value level
         (record_at words.now text.now r) }
 {
     match kind_at(words, r) {
-        STRING => ValueRead::Plain(PlainValue::String),
+        STRING => Ok(Value::Plain(PlainValue::String)),
         CELL_LIST => sized_list(r, BitsSize::from_token(text_at(words, text, r))),
         BYTESTRING => counted_bytes(r, bytestring_len(text_at(words, text, r))),
-        REFERENCE => reference_value(target_read(lower_phandle(words, text, r))),
-        MACRO => ValueRead::Failed(Report::Macro(r)),
-        DIRECTIVE => ValueRead::Failed(Report::Code(codes::DIRECTIVE_AS_VALUE, r)),
-        PREPROCESSOR => ValueRead::Failed(Report::Code(codes::PREPROCESSOR, r)),
-        _ => ValueRead::Failed(Report::Nothing),
+        REFERENCE => reference_value(words, text, r),
+        MACRO => Err(Report::Macro(r)),
+        DIRECTIVE => Err(Report::Code(codes::DIRECTIVE_AS_VALUE, r)),
+        PREPROCESSOR => Err(Report::Code(codes::PREPROCESSOR, r)),
+        _ => Err(Report::Nothing),
     }
 }
 
 // A cell list of a width that was read, at record r.
-fn sized_list(r: u32, size: SizeRead) -> ValueRead
+fn sized_list(r: u32, size: SizeRead) -> Result<Value, Report>
     ensures { (level : ℕ) (words text : List ℕ) → value_made words text r level result ≡ sized_list level (span_at words r)
         (parts_at words text r) (size_told size) }
 {
     match size {
-        SizeRead::Size(s) => ValueRead::CellList(s),
-        _ => ValueRead::Failed(Report::Code(size_code(size), r)),
+        SizeRead::Size(s) => Ok(Value::CellList(s)),
+        _ => Err(Report::Code(size_code(size), r)),
     }
 }
 
 // A bytestring whose bytes were counted, at record r.
-fn counted_bytes(r: u32, n: ByteCount) -> ValueRead
+fn counted_bytes(r: u32, n: ByteCount) -> Result<Value, Report>
     ensures { (level : ℕ) (words text : List ℕ) → count_told n ≡ count_of (text_at words text r)
         → value_made words text r level result ≡ counted_bytes (span_at words r) (text_at words text r) (count_told n) }
 {
     match n {
-        ByteCount::Bytes(_) => ValueRead::Plain(PlainValue::Bytestring),
-        ByteCount::MissingDigit => ValueRead::Failed(Report::Code(count_code(n), r)),
+        ByteCount::Bytes(_) => Ok(Value::Plain(PlainValue::Bytestring)),
+        ByteCount::MissingDigit => Err(Report::Code(count_code(n), r)),
     }
 }
 
 // A reference as a value.
-fn reference_value(t: TargetRead) -> ValueRead
-    ensures { (level : ℕ) (words text : List ℕ) (r : ℕ) → value_made words text r level result
-        ≡ reference_value (target_got words text r t) }
+fn reference_value(words: &[u32], text: &[u8], r: u32) -> Result<Value, Report>
+    requires linked { Linked words.now }
+    requires r_bound { r < record_count words.now }
+    ensures { (level : ℕ) → value_made words.now text.now r level result ≡ reference_value
+        (lower_phandle (record_at words.now text.now r)) }
 {
-    match t {
-        TargetRead::Failed(report) => ValueRead::Failed(report),
-        TargetRead::Target(kind) => ValueRead::Plain(PlainValue::Phandle(kind)),
-    }
+    let kind = lower_phandle(words, text, r)?;
+    Ok(Value::Plain(PlainValue::Phandle(kind)))
 }

@@ -6,6 +6,7 @@ use mathlib.Core.List.{List, [], ◌∷◌, ◌++◌, map, append-nil, head-eq_o
 use mathlib.Core.Option.{some, none}
 use native.Mathlib.Omega.{arith}
 use borrow.Author.Tests.{eqb-true, eqb-false}
+use Rattle.std.specs.Prelude.{Result, Ok, Err}
 use lib.Dec.{eqb}
 use lib.Seq.{append_snoc}
 use Rattle.paths_numbers.specs.meaning.Code.{node_not_found, node_ambiguous}
@@ -30,8 +31,9 @@ use Rattle.paths_numbers.specs.meaning.Reference.{Target, label, label_path, pat
 use Rattle.resolving.specs.meaning.Resolve.{first_binding, by_lookup, by_label, below_label, live_at, resolve, reaches}
 use Rattle.resolving.specs.meaning.Resolve.{missing}
 use Rattle.input.specs.machine.PhandleRead.{label_at, path_at, phandle_read}
-use Rattle.input.specs.declared.phandle.PhandleRead.{PhandleRead}
-use Rattle.input.specs.declared.phandle.PhandleRead.TheVariants as P
+use Rattle.input.specs.declared.report.Report.{Report}
+use Rattle.definition_log.specs.declared.parts.TargetKind.{TargetKind}
+use Rattle.definition_log.specs.declared.parts.TargetKind.TheVariants as K
 use Rattle.resolving.specs.machine.Leading.{has_text, FirstAt, FirstWith, resolution, InChain, bound_by, Leads}
 use Rattle.resolving.specs.machine.Leading.{AnswersBelow, AnswersPath, ReportsMissing}
 use Rattle.making.specs.machine.PathPlaces.{placed_in, path_in}
@@ -256,7 +258,7 @@ leads_path : (words bytes l p : List ℕ) (defs : List Def) (v : Lookup) → loo
 leads_path words bytes l p defs v e = path_led_lem words bytes l p v ∙ ap (by_lookup p) e
 
 -- a reference by what it was read as
-module _ (words text : List ℕ) (r : ℕ) (k : PhandleRead) (t : Target) (e : (phandle_read words text r k).result ≡ some t) where
+module _ (words text : List ℕ) (r : ℕ) (k : Result TargetKind Report) (t : Target) (e : (phandle_read words text r k).result ≡ some t) where
   abbrev l : List ℕ
   l = label_at words text r
 
@@ -264,26 +266,25 @@ module _ (words text : List ℕ) (r : ℕ) (k : PhandleRead) (t : Target) (e : (
   p = path_at words text r
 
   module _ (binds : List Binding) (defs : List Def) where
-    pub read_label : k ≡ P.Label → by_label l (first_binding l binds) ≡ resolve t binds defs
-    unfolding phandle_read resolve
-    read_label h = let q : label l ≡ t = cc (rw h at e) in rw (← q) refl
+    pub read_label : (f : TargetKind) → k ≡ Ok f → f ≡ K.Label → by_label l (first_binding l binds) ≡ resolve t binds defs
+    unfolding resolve
+    read_label f h g = let q : label l ≡ t = cc (rw (h, g) at e) in rw (← q) refl
 
-    pub read_below : k ≡ P.LabelPath → below_label l p (first_binding l binds) defs ≡ resolve t binds defs
-    unfolding phandle_read resolve
-    read_below h = let q : label_path l p ≡ t = cc (rw h at e) in rw (← q) refl
+    pub read_below : (f : TargetKind) → k ≡ Ok f → f ≡ K.LabelPath → below_label l p (first_binding l binds) defs ≡ resolve t binds defs
+    unfolding resolve
+    read_below f h g = let q : label_path l p ≡ t = cc (rw (h, g) at e) in rw (← q) refl
 
-    pub read_path : k ≡ P.Path → live_at p defs ≡ resolve t binds defs
-    unfolding phandle_read resolve
-    read_path h = let q : path p ≡ t = cc (rw h at e) in rw (← q) refl
+    pub read_path : (f : TargetKind) → k ≡ Ok f → f ≡ K.Path → live_at p defs ≡ resolve t binds defs
+    unfolding resolve
+    read_path f h g = let q : path p ≡ t = cc (rw (h, g) at e) in rw (← q) refl
 
   -- one that cannot be read names nothing
-  pub read_macro : (m : ℕ) → k ≡ P.Macro m → ⊥
-  unfolding phandle_read
-  read_macro m h = let z : ◌≡◌ {A = ℕ} 0 1 = cc (rw h at e) in omega arith
-
-  pub read_nothing : k ≡ P.Unreadable → ⊥
-  unfolding phandle_read
-  read_nothing h = let z : ◌≡◌ {A = ℕ} 0 1 = cc (rw h at e) in omega arith
+  pub read_nothing : ((f : TargetKind) → k ≡ Ok f → ⊥) → ⊥
+  read_nothing h = go k e h
+    where
+      go : (k : Result TargetKind Report) → (phandle_read words text r k).result ≡ some t → ((f : TargetKind) → k ≡ Ok f → ⊥) → ⊥
+      go (Ok f) e h = h f refl
+      go (Err d) e h = let z : ◌≡◌ {A = ℕ} 0 1 = cc in omega arith
 
 -- a binding that was found is one of the log's
 pub bound_there : {words bytes : List ℕ} {first : ℕ} {t : List ℕ} {f : Found} → FirstWith words bytes first t f → (f.number ≡ 0 → ⊥)

@@ -5,10 +5,11 @@ ghost use Rattle.resolving.specs.machine.Leading.{AnswersPhandle, AnswersTarget,
 ghost use Rattle.resolving.specs.machine.Leading.{FirstWith, ReportsMissing};
 
 use definition_log::layout;
-use definition_log::parts::Span;
+use definition_log::parts::{Span, TargetKind};
 use definition_log::record::{first_text, log_count, next_of, out_field, second_text};
-use input::phandle::{PhandleRead, phandle_label_at, phandle_path_at};
+use input::phandle::{phandle_label_at, phandle_path_at};
 use input::record::no_text;
+use input::report::Report;
 use making::ctx::LowerCtx;
 use making::place::second_place;
 use paths_numbers::codes::{LABEL_NOT_FOUND, NODE_AMBIGUOUS, NODE_NOT_FOUND};
@@ -43,7 +44,7 @@ pub fn resolve_phandle(
     words: &[u32],
     text: &[u8],
     r: u32,
-    read: PhandleRead,
+    read: Result<TargetKind, Report>,
     out: &[u32],
     bytes: &[u8],
     binds: u32,
@@ -51,14 +52,15 @@ pub fn resolve_phandle(
 ) -> Resolved
     ensures { AnswersPhandle words.now text.now r read out.now bytes.now binds defs result }
 {
+    let Ok(kind) = read else {
+        return Resolved::NoLabel;
+    };
     let label = phandle_label_at(words, text, r);
     let path = phandle_path_at(words, text, r);
-    match read {
-        PhandleRead::Label => resolve_label(out, bytes, binds, label),
-        PhandleRead::LabelPath => resolve_below(out, bytes, binds, defs, label, path),
-        PhandleRead::Path => resolve_path(out, bytes, defs, path),
-        PhandleRead::Macro(_) => Resolved::NoLabel,
-        PhandleRead::Unreadable => Resolved::NoLabel,
+    match kind {
+        TargetKind::Label => resolve_label(out, bytes, binds, label),
+        TargetKind::LabelPath => resolve_below(out, bytes, binds, defs, label, path),
+        TargetKind::Path => resolve_path(out, bytes, defs, path),
     }
 }
 

@@ -1,6 +1,7 @@
 -- What each step of the check of an input does with its numbers. These are no rules of 01: the contract of the whole check cites specs/Rows
 -- alone, and proofs/RowsFound shows that the search in rising order finds what rows 3 to 6 say.
 use Rattle.std.specs.Prelude.{ℕ, zero, suc, ◌+◌, ◌*◌, ◌/◌, ◌%◌, ◌≤◌, ◌<◌, ◌≡◌, Bool, false, not, cond, List, eqb, length, get_or, set}
+use Rattle.std.specs.Prelude.{Option as Maybe, Some, None}
 use Rattle.std.proofs.Math.Option.{Option, some, none}
 use Rattle.input.specs.meaning.Input.{record_count, kind_at, next_at, child_at, second_at}
 use Rattle.input.specs.meaning.Place.{InputPlace, items, node_parts, property_parts, directive_parts, values, cells, expressions, names}
@@ -8,13 +9,11 @@ use Rattle.input.specs.meaning.Place.{macros, no_place, child_place, second_plac
 use Rattle.input.specs.meaning.Rows.{Verdict, accepted, linked_below, bad_text, row_three, Visit, unfit, bad_head, row_four, bad_name}
 use Rattle.input.specs.meaning.Rows.{row_five, too_deep, row_six, or_else, lowest}
 use Rattle.input.specs.machine.Rising.{visit, known}
-use Rattle.input.specs.declared.refusal.Found.{Found}
-use Rattle.input.specs.declared.refusal.Found.TheVariants.{Nothing, Record}
 
 -- what a search for a record found
-abbrev pub found_in : Found → Option ℕ
-found_in Nothing = none
-found_in (Record r) = some r
+abbrev pub found_in : Maybe ℕ → Option ℕ
+found_in None = none
+found_in (Some r) = some r
 
 -- where a record stands, by number
 abbrev pub number_of : InputPlace → ℕ
@@ -86,6 +85,10 @@ led_on words r stand stands =
 pub record Stands (words : List ℕ) (r : ℕ) (stands : List ℕ) : Type 0 where
   pub room : record_count words ≤ length stands
   pub tell : (k : ℕ) → k < length stands → get_or stands k 0 ≡ stand_of (known words r k)
+
+-- whether a record but record 0 is reached
+abbrev pub is_reached : List ℕ → ℕ → Bool
+is_reached stands r = cond (eqb r 0) false (not (eqb (get_or stands r 0) 0))
 
 -- whether a reached record breaks a row, of rows 4 to 6
 unfoldable pub breaks : ℕ → List ℕ → List ℕ → Visit → Bool

@@ -1,5 +1,5 @@
 -- What the search for where a reference leads answers, as the resolution that it stands for.
-use Rattle.std.specs.Prelude.{ℕ, ◌≡◌, Bool, true, false, cond, List, [], ◌∷◌, ◌++◌, eqb}
+use Rattle.std.specs.Prelude.{ℕ, ◌≡◌, Bool, true, false, cond, List, [], ◌∷◌, ◌++◌, eqb, Result}
 use Rattle.std.proofs.Math.Option.{Option, some, none}
 use Rattle.paths_numbers.specs.meaning.Text.{same}
 use Rattle.paths_numbers.specs.meaning.Path.{joined}
@@ -15,7 +15,8 @@ use Rattle.paths_numbers.specs.meaning.Lists.{any}
 use Rattle.queries.specs.meaning.Live.{contains_node}
 use Rattle.input.specs.meaning.Report.{report}
 use Rattle.input.specs.machine.PhandleRead.{label_at, path_at, phandle_read}
-use Rattle.input.specs.declared.phandle.PhandleRead.{PhandleRead}
+use Rattle.input.specs.declared.report.Report.{Report}
+use Rattle.definition_log.specs.declared.parts.TargetKind.{TargetKind}
 use Rattle.resolving.specs.meaning.Resolve.{first_binding, Resolution, reaches, missing, live_at, by_label, below_label, resolve}
 use Rattle.resolving.specs.declared.resolve.Found.{Found}
 use Rattle.resolving.specs.declared.resolve.Resolved.{Resolved}
@@ -107,7 +108,7 @@ AnswersTarget words bytes binds defs r v =
     × Leads words bytes binds defs (target_label words bytes r) (second_text words bytes r) v
 
 -- of the input's reference r, if it can be read
-abbrev pub AnswersPhandle : List ℕ → List ℕ → ℕ → PhandleRead → List ℕ → List ℕ → ℕ → ℕ → Resolved → Type 0
+abbrev pub AnswersPhandle : List ℕ → List ℕ → ℕ → Result TargetKind Report → List ℕ → List ℕ → ℕ → ℕ → Resolved → Type 0
 AnswersPhandle input text r read words bytes binds defs v =
     ((t : Target) → (phandle_read input text r read).result ≡ some t
     → resolution words bytes (label_at input text r) (path_at input text r) v

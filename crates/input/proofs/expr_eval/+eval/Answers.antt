@@ -3,13 +3,14 @@ use Rattle.std.proofs.Common.{sym, ap, ◌∙◌, arith, rules}
 use Rattle.paths_numbers.proofs.Integers.{read}
 use Rattle.paths_numbers.proofs.Casts.{signed_is}
 use Rattle.paths_numbers.proofs.Relations.{read_truth}
+use Rattle.std.proofs.lemmas.Result.{err_from_is_err_and}
 use Rattle.levels.specs.machine.Held.{rules_at}
-use Rattle.input.specs.meaning.Expr.{value, eval}
+use Rattle.input.specs.meaning.Expr.{value, eval, applied}
 use Rattle.input.specs.meaning.Input.{span_at}
 use Rattle.input.specs.machine.At.{record_at}
 use Rattle.input.proofs.Read.{before_some, chain_first, chain_after, some_nesting, children_in}
 use Rattle.input.proofs.Evaluation.{infix_short, conditional_short, decided}
-use Rattle.input.proofs.Evaluation.{second_decides, plain_infix}
+use Rattle.input.proofs.Evaluation.{value_passes, second_decides, second_fails, plain_infix}
 use Rattle.input.proofs.Evaluation.{no_first, first_is_lem, eval_kind, eval_macro, eval_other, binary_fails, binary_value}
 use Rattle.input.proofs.Evaluation.{conditional_fails, conditional_value}
 use Rattle.input.proofs.Levels.{character_at}
@@ -111,8 +112,8 @@ eval_binary-returns-then-y-eq0 t c =
     infix_short c.args.level c.args.words.now c.args.text.now c.requires.linked c.args.op (span_at c.args.words.now c.args.r)
     c.args.x _ c.after-y.ensures c.requires.chain_in.at c.if-y-eq0.true
 
-pub eval_binary-eval-e-requires : goal.eval_binary-eval-e-requires
-eval_binary-eval-e-requires t c = (
+pub eval_binary-eval-requires : goal.eval_binary-eval-requires
+eval_binary-eval-requires t c = (
   omega arith,
   (
     c.requires.linked,
@@ -121,11 +122,13 @@ eval_binary-eval-e-requires t c = (
   ),
 )
 
-pub eval_binary-returns-in_default : goal.eval_binary-returns-in_default
-eval_binary-returns-in_default t c =
-    binary_fails c.args.level c.args.words.now c.args.text.now c.requires.linked (span_at c.args.words.now c.args.r)
-    c.args.nesting c.args.x c.requires.chain_in c.eval-e.result c.eval-e.ensures _ c.after-y.ensures c.args.op
-    c.requires.fact.0 c.requires.fact.1 c.if-y-eq0.false c.in_default.not-Value
+pub eval_binary-returns-in_err-a : goal.eval_binary-returns-in_err-a
+eval_binary-returns-in_err-a t c =
+    let p = err_from_is_err_and c.from_residual.result c.from_residual.ensures.1 in
+    rw (p.1, p.2)
+    (binary_fails c.args.level c.args.words.now c.args.text.now c.requires.linked (span_at c.args.words.now c.args.r)
+    c.args.nesting c.args.x c.requires.chain_in c.eval.result c.eval.ensures _ c.after-y.ensures c.args.op
+    c.requires.fact.0 c.requires.fact.1 c.if-y-eq0.false _ c.in_err-a.was)
 
 pub eval_binary-eval_second-requires : goal.eval_binary-eval_second-requires
 eval_binary-eval_second-requires t c = (
@@ -142,10 +145,10 @@ eval_binary-eval_second-requires t c = (
 pub eval_binary-returns : goal.eval_binary-returns
 eval_binary-returns t c =
     c.eval_second.ensures
-    ∙ rw (read {z = c.in-Value.a} (record { sfits = omega arith }))
+    ∙ rw (read {z = c.in_ok-a.a} (record { sfits = omega arith }))
     (binary_value c.args.level c.args.words.now c.args.text.now c.requires.linked (span_at c.args.words.now c.args.r)
-    c.args.nesting c.args.x c.requires.chain_in c.eval-e.result c.eval-e.ensures _ c.after-y.ensures c.args.op
-    c.requires.fact.0 c.requires.fact.1 c.if-y-eq0.false _ c.in-Value.is)
+    c.args.nesting c.args.x c.requires.chain_in c.eval.result c.eval.ensures _ c.after-y.ensures c.args.op
+    c.requires.fact.0 c.requires.fact.1 c.if-y-eq0.false _ c.in_ok-a.was)
 
 pub eval_conditional_at-returns-then-z-eq0 : goal.eval_conditional_at-returns-then-z-eq0
 eval_conditional_at-returns-then-z-eq0 t c =
@@ -155,8 +158,8 @@ eval_conditional_at-returns-then-z-eq0 t c =
     c.requires.chain_in).at
     c.if-z-eq0.true
 
-pub eval_conditional_at-eval-e-requires : goal.eval_conditional_at-eval-e-requires
-eval_conditional_at-eval-e-requires t c =
+pub eval_conditional_at-eval-requires : goal.eval_conditional_at-eval-requires
+eval_conditional_at-eval-requires t c =
     let words = c.args.words.now in
     let text = c.args.text.now in (
       omega arith,
@@ -168,14 +171,16 @@ eval_conditional_at-eval-e-requires t c =
       ),
     )
 
-pub eval_conditional_at-returns-in_default : goal.eval_conditional_at-returns-in_default
-eval_conditional_at-returns-in_default t c =
-    λ span. conditional_fails c.args.level c.args.words.now c.args.text.now c.requires.linked span c.args.nesting c.args.x
-    c.requires.chain_in c.eval-e.result c.eval-e.ensures
-    _ c.after-y.ensures _ c.after-z.ensures c.if-z-eq0.false c.in_default.not-Value
+pub eval_conditional_at-returns-in_err-a : goal.eval_conditional_at-returns-in_err-a
+eval_conditional_at-returns-in_err-a t c =
+    let p = err_from_is_err_and c.from_residual.result c.from_residual.ensures.1 in
+    λ span. rw (p.1, p.2)
+    (conditional_fails c.args.level c.args.words.now c.args.text.now c.requires.linked span c.args.nesting c.args.x
+    c.requires.chain_in c.eval.result c.eval.ensures
+    _ c.after-y.ensures _ c.after-z.ensures c.if-z-eq0.false _ c.in_err-a.was)
 
-pub eval_conditional_at-eval-requires : goal.eval_conditional_at-eval-requires
-eval_conditional_at-eval-requires t c =
+pub eval_conditional_at-eval-requires-then-is_true : goal.eval_conditional_at-eval-requires-then-is_true
+eval_conditional_at-eval-requires-then-is_true t c =
     let words = c.args.words.now in
     let text = c.args.text.now in (
       omega arith,
@@ -190,11 +195,11 @@ eval_conditional_at-eval-requires t c =
 
 pub eval_conditional_at-returns-then-is_true : goal.eval_conditional_at-returns-then-is_true
 eval_conditional_at-returns-then-is_true t c =
-    λ span. c.eval.ensures
-    ∙ rw (rw (read {z = c.in-Value.a} (record { sfits = omega arith })) at (sym c.is_true.ensures ∙ c.if-is_true.true)) at
+    λ span. c.eval-then-is_true.ensures
+    ∙ rw (rw (read {z = c.in_ok-a.a} (record { sfits = omega arith })) at (sym c.is_true.ensures ∙ c.if-is_true.true)) at
     (conditional_value c.args.level c.args.words.now c.args.text.now c.requires.linked span c.args.nesting c.args.x
-    c.requires.chain_in c.eval-e.result c.eval-e.ensures _ c.after-y.ensures _ c.after-z.ensures c.if-z-eq0.false _
-    c.in-Value.is)
+    c.requires.chain_in c.eval.result c.eval.ensures _ c.after-y.ensures _ c.after-z.ensures c.if-z-eq0.false _
+    c.in_ok-a.was)
 
 pub eval_conditional_at-eval-requires-2 : goal.eval_conditional_at-eval-requires-2
 eval_conditional_at-eval-requires-2 t c =
@@ -214,10 +219,10 @@ eval_conditional_at-eval-requires-2 t c =
 pub eval_conditional_at-returns : goal.eval_conditional_at-returns
 eval_conditional_at-returns t c =
     λ span. c.eval-2.ensures
-    ∙ rw (rw (read {z = c.in-Value.a} (record { sfits = omega arith })) at (sym c.is_true.ensures ∙ c.if-is_true.false)) at
+    ∙ rw (rw (read {z = c.in_ok-a.a} (record { sfits = omega arith })) at (sym c.is_true.ensures ∙ c.if-is_true.false)) at
     (conditional_value c.args.level c.args.words.now c.args.text.now c.requires.linked span c.args.nesting c.args.x
-    c.requires.chain_in c.eval-e.result c.eval-e.ensures _ c.after-y.ensures _ c.after-z.ensures c.if-z-eq0.false _
-    c.in-Value.is)
+    c.requires.chain_in c.eval.result c.eval.ensures _ c.after-y.ensures _ c.after-z.ensures c.if-z-eq0.false _
+    c.in_ok-a.was)
 
 pub eval_second-returns-then-first_decides : goal.eval_second-returns-then-first_decides
 eval_second-returns-then-first_decides t c =
@@ -226,19 +231,28 @@ eval_second-returns-then-first_decides t c =
     (eval (rules_at c.args.level) (record_at c.args.words.now c.args.text.now c.args.y))
     (rw (read c.ranges.a) at (sym c.first_decides.ensures ∙ c.if-first_decides.true)))
 
+pub eval_second-returns-in_err-b : goal.eval_second-returns-in_err-b
+eval_second-returns-in_err-b t c =
+    let p = err_from_is_err_and c.from_residual.result c.from_residual.ensures.1 in
+    rw (p.1, p.2)
+    (second_fails c.args.level c.args.op (span_at c.args.words.now c.args.r) c.args.a _
+    (rw (read c.ranges.a) at (sym c.first_decides.ensures ∙ c.if-first_decides.false))
+    ∙ ap (applied (rules_at c.args.level) c.args.op (span_at c.args.words.now c.args.r) c.args.a) c.in_err-b.ensures)
+
 pub eval_second-returns-then-is_logical : goal.eval_second-returns-then-is_logical
 eval_second-returns-then-is_logical t c =
-    c.truth_in.ensures c.args.words.now c.args.text.now
-    ∙ rw c.eval-e.ensures
-    (second_decides c.args.level c.args.op (span_at c.args.words.now c.args.r) c.args.a
-    (eval (rules_at c.args.level) (record_at c.args.words.now c.args.text.now c.args.y))
+    rw (read_truth, c.is_true-then-is_logical.ensures, read {z = c.in_ok-b.b} (record { sfits = omega arith }))
+    (second_decides c.args.level c.args.op (span_at c.args.words.now c.args.r) c.args.a (value c.in_ok-b.b)
     (rw (read c.ranges.a) at (sym c.first_decides.ensures ∙ c.if-first_decides.false))
-    (sym c.is_logical.ensures ∙ c.if-is_logical.true))
+    (sym c.is_logical.ensures ∙ c.if-is_logical.true)
+    ∙ ap (applied (rules_at c.args.level) c.args.op (span_at c.args.words.now c.args.r) c.args.a)
+    (value_passes c.args.words.now c.args.text.now _ _ _ c.in_ok-b.was c.eval.ensures))
 
 pub eval_second-returns : goal.eval_second-returns
 eval_second-returns t c =
-    c.infix_of.ensures c.args.words.now c.args.text.now
-    ∙ rw (c.eval-e.ensures, read c.ranges.a)
-    (plain_infix c.args.level c.args.op (span_at c.args.words.now c.args.r) c.args.a
-    (eval (rules_at c.args.level) (record_at c.args.words.now c.args.text.now c.args.y))
-    (sym c.is_logical.ensures ∙ c.if-is_logical.false))
+    c.evaluation_of.ensures c.args.words.now c.args.text.now
+    ∙ rw (c.binary.ensures, read c.ranges.a, read {z = c.in_ok-b.b} (record { sfits = omega arith }))
+    (plain_infix c.args.level c.args.op (span_at c.args.words.now c.args.r) c.args.a (value c.in_ok-b.b)
+    (sym c.is_logical.ensures ∙ c.if-is_logical.false)
+    ∙ ap (applied (rules_at c.args.level) c.args.op (span_at c.args.words.now c.args.r) c.args.a)
+    (value_passes c.args.words.now c.args.text.now _ _ _ c.in_ok-b.was c.eval.ensures))

@@ -10,8 +10,8 @@ pub returns-then-u-eq0 : goal.returns-then-u-eq0
 returns-then-u-eq0 c = full_alone _ _ c.name_or_macro-name.result c.name_or_macro-name.ensures _
     c.first_of-u.ensures c.if-u-eq0.true
 
-pub name_or_macro-unit-requires : goal.name_or_macro-unit-requires
-name_or_macro-unit-requires c =
+pub name_or_macro-requires : goal.name_or_macro-requires
+name_or_macro-requires c =
     let s = c in
     let u = c.first_of-u in record { linked = s.requires.linked; at = rw c.child_at.ensures (s.requires.linked.all u.result (u.ensures.at c.if-u-eq0.false)).child.within }
 
@@ -20,6 +20,6 @@ returns c =
     let s = c in
     let name = c.name_or_macro-name in
     full_addressed s.args.words.now s.args.first name.result name.ensures _ c.first_of-u.ensures
-    c.if-u-eq0.false c.name_or_macro-unit.result
-    (λ text. c.name_or_macro-unit.ensures text ∙ ap (λ (r : ℕ). name_or_macro (chain_at s.args.words.now text r))
+    c.if-u-eq0.false c.name_or_macro.result
+    (λ text. c.name_or_macro.ensures text ∙ ap (λ (r : ℕ). name_or_macro (chain_at s.args.words.now text r))
     c.child_at.ensures)

@@ -1,12 +1,14 @@
--- By whether W is a link.
-use mathlib.Core.Path.{refl, sym, ◌∙◌}
-use Rattle.input.specs.meaning.Input.{number_at}
+-- By the kind.
+use mathlib.Core.Path.{refl, sym, ap, ◌∙◌}
+use Rattle.input.specs.meaning.Input.{links_by_w, number_at}
 use Rattle.input.proofs.record.number_at.Goals as goal
 
 pub returns-then-links_by_w : goal.returns-then-links_by_w
 unfolding number_at
-returns-then-links_by_w c = rw (sym c.links_by_w.ensures ∙ c.if-links_by_w.true) refl
+returns-then-links_by_w c =
+    rw (ap links_by_w (sym c.kind_at.ensures) ∙ sym c.links_by_w.ensures ∙ c.if-links_by_w.true) refl
 
 pub returns : goal.returns
 unfolding number_at
-returns c = c.w_at.ensures ∙ rw (sym c.links_by_w.ensures ∙ c.if-links_by_w.false) refl
+returns c =
+    c.w_at.ensures ∙ rw (ap links_by_w (sym c.kind_at.ensures) ∙ sym c.links_by_w.ensures ∙ c.if-links_by_w.false) refl

@@ -5,4 +5,4 @@ use Rattle.input.proofs.refusal.bad_text.Goals as goal
 
 pub returns : goal.returns
 unfolding bad_text
-returns c = rw (c.word_at.ensures, c.word_at-2.ensures) refl
+returns c = rw (c.field.ensures, c.field-2.ensures) refl

@@ -11,30 +11,26 @@ returns-then-wrong_size c =
     let a = c.args in
     verdict_one a.words.now a.text.now (sym c.wrong_size.ensures ∙ c.if-wrong_size.true)
 
-pub first_bad_links-found-requires : goal.first_bad_links-found-requires
-first_bad_links-found-requires c =
+pub first_bad_links-requires : goal.first_bad_links-requires
+first_bad_links-requires c =
     let a = c.args in
     let z = sizes a.words.now a.text.now (sym c.wrong_size.ensures ∙ c.if-wrong_size.false) in record { words_bound = z.most; marks = marks_start a.words.now _ 2048 refl z.most }
 
 pub check_linked-requires : goal.check_linked-requires
 check_linked-requires c = record {
-  text_value = sym c.wrong_size.ensures
-      ∙ c.if-wrong_size.false;
-  words_value = sym c.first_bad_links-found.ensures
-      ∙ ap found_in c.in-Nothing.is;
+  text_value = sym c.wrong_size.ensures ∙ c.if-wrong_size.false;
+  words_value = sym c.first_bad_links.ensures ∙ ap found_in c.in_default.is;
 }
 
-pub returns-in-Record : goal.returns-in-Record
-returns-in-Record c =
+pub returns-in-Some : goal.returns-in-Some
+returns-in-Some c =
     let a = c.args in
-    verdict_two a.words.now a.text.now _ (sym c.wrong_size.ensures
-    ∙ c.if-wrong_size.false)
-    (sym c.first_bad_links-found.ensures ∙ ap found_in c.in-Record.is)
+    verdict_two a.words.now a.text.now _ (sym c.wrong_size.ensures ∙ c.if-wrong_size.false)
+    (sym c.first_bad_links.ensures ∙ ap found_in c.in-Some.is)
 
-pub returns-in-Nothing : goal.returns-in-Nothing
-returns-in-Nothing c =
+pub returns : goal.returns
+returns c =
     let a = c.args in
     c.check_linked.ensures
-    ∙ verdict_later a.words.now a.text.now (sym c.wrong_size.ensures
-    ∙ c.if-wrong_size.false)
-    (sym c.first_bad_links-found.ensures ∙ ap found_in c.in-Nothing.is)
+    ∙ verdict_later a.words.now a.text.now (sym c.wrong_size.ensures ∙ c.if-wrong_size.false)
+    (sym c.first_bad_links.ensures ∙ ap found_in c.in_default.is)

@@ -1,31 +1,45 @@
-use mathlib.Core.Path.{refl, ap}
-use native.Mathlib.Omega.{arith}
-use Rattle.input.specs.machine.RowsPass.{found_in}
-use Rattle.input.proofs.RowsLoops.{row_here, row_later, row_done}
+-- The rows in turn.
+use mathlib.Core.Path.{refl, sym, ap, ◌∙◌}
+use Rattle.input.specs.machine.RowsPass.{found_in, rows_from}
 use Rattle.input.proofs.refusal.check_reached.Goals as goal
 
-pub loop-row-init : goal.loop-row-init
-loop-row-init c = (omega arith, refl)
+pub returns-in-Some : goal.returns-in-Some
+unfolding rows_from
+returns-in-Some c = rw (sym (c.first_bad_text.ensures c.args.stands.now) ∙ ap found_in c.in-Some.is) refl
 
-pub returns-in-Record : goal.returns-in-Record
-returns-in-Record c =
-    let a = c.args in
-    let l = c.loop-row in
-    row_here a.words.now a.text.now a.stands.now l.row _ l.invariant.1 _ _
-    c.loop-row-test.true c.first_fault-found.ensures
-    (ap found_in c.in-Record.is)
+pub returns-in-Some-first_unfit : goal.returns-in-Some-first_unfit
+unfolding rows_from
+returns-in-Some-first_unfit c =
+    rw (
+      sym (c.first_bad_text.ensures c.args.stands.now) ∙ ap found_in c.in_default.is,
+      sym (c.first_unfit.ensures c.args.text.now) ∙ ap found_in c.in-Some-first_unfit.is,
+    ) refl
 
-pub loop-row-preserved : goal.loop-row-preserved
-loop-row-preserved c =
-    let a = c.args in
-    let l = c.loop-row in (
-      omega arith,
-      row_later a.words.now a.text.now a.stands.now l.row _ l.invariant.1 _
-          c.loop-row-test.true c.first_fault-found.ensures (ap found_in c.in_default.is),
-    )
+pub returns-in-Some-first_misnamed : goal.returns-in-Some-first_misnamed
+unfolding rows_from
+returns-in-Some-first_misnamed c =
+    rw (
+      sym (c.first_bad_text.ensures c.args.stands.now) ∙ ap found_in c.in_default.is,
+      sym (c.first_unfit.ensures c.args.text.now) ∙ ap found_in c.in_default-first_unfit.is,
+      sym c.first_misnamed.ensures ∙ ap found_in c.in-Some-first_misnamed.is,
+    ) refl
+
+pub returns-in-Some-first_too_deep : goal.returns-in-Some-first_too_deep
+unfolding rows_from
+returns-in-Some-first_too_deep c =
+    rw (
+      sym (c.first_bad_text.ensures c.args.stands.now) ∙ ap found_in c.in_default.is,
+      sym (c.first_unfit.ensures c.args.text.now) ∙ ap found_in c.in_default-first_unfit.is,
+      sym c.first_misnamed.ensures ∙ ap found_in c.in_default-first_misnamed.is,
+      sym (c.first_too_deep.ensures c.args.text.now) ∙ ap found_in c.in-Some-first_too_deep.is,
+    ) refl
 
 pub returns : goal.returns
+unfolding rows_from
 returns c =
-    let a = c.args in
-    let l = c.loop-row in
-    row_done a.words.now a.text.now a.stands.now l.row _ l.invariant.1 c.loop-row-test.false
+    rw (
+      sym (c.first_bad_text.ensures c.args.stands.now) ∙ ap found_in c.in_default.is,
+      sym (c.first_unfit.ensures c.args.text.now) ∙ ap found_in c.in_default-first_unfit.is,
+      sym c.first_misnamed.ensures ∙ ap found_in c.in_default-first_misnamed.is,
+      sym (c.first_too_deep.ensures c.args.text.now) ∙ ap found_in c.in_default-first_too_deep.is,
+    ) refl

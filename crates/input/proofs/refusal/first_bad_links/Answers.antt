@@ -1,36 +1,30 @@
 use Prim.Native.Nat.{ℕ}
-use mathlib.Core.Path.{refl, ap, ◌∙◌}
-use native.Mathlib.Omega.{arith}
+use mathlib.Core.Path.{ap, ◌∙◌}
 use Rattle.input.specs.meaning.Rows.{bad_links, lowest, row_two}
 use Rattle.input.proofs.RowsLoops.{lowest_starts, lowest_here, lowest_later, lowest_done}
 use Rattle.input.proofs.RowsMarks.{marks_more}
 use Rattle.input.proofs.refusal.first_bad_links.Goals as goal
 
 pub loop-r-init : goal.loop-r-init
-loop-r-init c =
-    let s = c in
-    (omega arith, refl, s.requires.marks, lowest_starts (bad_links s.args.words.now) c.record_count-n.result)
+loop-r-init c = (c.requires.marks, lowest_starts (bad_links c.args.words.now) c.record_count-r-end.result)
 
 pub bad_links-requires : goal.bad_links-requires
-bad_links-requires c = record { words_bound = c.requires.words_bound; marks = c.loop-r.invariant.2 }
+bad_links-requires c = record { words_bound = c.requires.words_bound; marks = c.loop-r.invariant.0 }
 
 pub returns-then-bad_links : goal.returns-then-bad_links
 unfolding row_two
 returns-then-bad_links c =
     let test = bad_links c.args.words.now in
     let l = c.loop-r in
-    lowest_here test _ l.r _ l.invariant.3 _ c.loop-r-test.true c.bad_links.ensures c.if-bad_links.true
-    ∙ ap (λ (k : ℕ). lowest test k 0) c.record_count-n.ensures
+    lowest_here test _ l.r _ l.invariant.1 _ c.loop-r-test.true c.bad_links.ensures c.if-bad_links.true
+    ∙ ap (λ (k : ℕ). lowest test k 0) c.record_count-r-end.ensures
 
 pub loop-r-preserved : goal.loop-r-preserved
 loop-r-preserved c =
     let w = c.args.words.now in
     let l = c.loop-r in (
-      omega arith,
-      c.mark_links.auto.marks ∙ l.invariant.1,
-      marks_more w l.r _ _ l.invariant.2 c.mark_links.ensures,
-      lowest_later (bad_links w) _ l.r _ l.invariant.3 _ c.loop-r-test.true
-          c.bad_links.ensures c.if-bad_links.false,
+      marks_more w l.r _ _ l.invariant.0 c.mark_links.ensures,
+      lowest_later (bad_links w) _ l.r _ l.invariant.1 _ c.loop-r-test.true c.bad_links.ensures c.if-bad_links.false,
     )
 
 pub returns : goal.returns
@@ -38,5 +32,5 @@ unfolding row_two
 returns c =
     let test = bad_links c.args.words.now in
     let l = c.loop-r in
-    lowest_done test _ l.r _ l.invariant.3 c.loop-r-test.false
-    ∙ ap (λ (k : ℕ). lowest test k 0) c.record_count-n.ensures
+    lowest_done test _ l.r _ l.invariant.1 c.loop-r-test.false
+    ∙ ap (λ (k : ℕ). lowest test k 0) c.record_count-r-end.ensures

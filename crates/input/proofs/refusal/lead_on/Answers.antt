@@ -14,7 +14,7 @@ returns-then-stand-eq0 c = rw (eq-eqb _ _ c.if-stand-eq0.true) refl
 
 pub overflow_add-deeper-2 : goal.overflow_add-deeper-2
 overflow_add-deeper-2 c =
-    omega (arith, c.second_place.ensures, (in_places (second_place c.word_at-kind.result)).most)
+    omega (arith, c.second_place.ensures, (in_places (second_place c.kind_at-kind.result)).most)
 
 pub overflow_add-deeper-3 : goal.overflow_add-deeper-3
 overflow_add-deeper-3 c =
@@ -22,16 +22,16 @@ overflow_add-deeper-3 c =
       arith,
       c.child_place.ensures,
       (in_places (child_place
-          c.word_at-kind.result)).most,
+          c.kind_at-kind.result)).most,
     )
 
 pub returns : goal.returns
 returns c =
     let a = c.args in
     led_three a.words.now a.r a.stand a.stands.now _ _ _ _ _ _ _ _ _
-    c.word_at-kind.ensures
-    c.word_at-2.ensures
-    c.word_at.ensures
+    c.kind_at-kind.ensures
+    c.next_at.ensures
+    c.child_at.ensures
     c.second_at.ensures
     c.second_place.ensures c.child_place.ensures
     c.if-stand-eq0.false

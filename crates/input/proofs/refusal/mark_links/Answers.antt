@@ -8,6 +8,6 @@ returns c =
     mark_three a.words.now a.r a.marks.now _ _ _ _ _ _
     c.store.ensures
     c.store-2.ensures c.store-3.ensures
-    c.word_at.ensures
-    c.word_at-2.ensures
+    c.next_at.ensures
+    c.child_at.ensures
     c.second_at.ensures

@@ -1,10 +1,9 @@
 -- By the kind of the record (ValueRead).
 use Rattle.std.proofs.Common.{arith}
 use Rattle.input.proofs.ValueRead.{cell_kind_lem, cell_reference, cell_other}
-use Rattle.input.specs.meaning.Property.{lower_cell, reference_cell}
-use Rattle.input.specs.meaning.Input.{span_at}
+use Rattle.input.specs.meaning.Property.{lower_cell}
 use Rattle.input.specs.machine.At.{record_at}
-use mathlib.Core.Path.{sym, ap, ◌∙◌}
+use mathlib.Core.Path.{sym, ◌∙◌}
 use Rattle.input.proofs.value_read.read_cell.Goals as goal
 
 pub returns-in-15 : goal.returns-in-15
@@ -31,9 +30,7 @@ returns-in-17 c = let a = c.args in
 
 pub returns-in-8 : goal.returns-in-8
 returns-in-8 c = let a = c.args in
-    c.reference_cell.ensures a.words.now a.text.now
-    ∙ ap (reference_cell a.size (span_at a.words.now a.r))
-    (c.target_read.ensures a.words.now a.text.now a.r ∙ c.lower_phandle.ensures)
+    c.reference_cell.ensures
     ∙ cell_reference a.words.now a.text.now a.r a.level a.size
     (sym c.kind_at.ensures ∙ c.in-8.is)
 

@@ -1,9 +1,9 @@
 -- By the kind of the record (ValueRead).
 use Rattle.std.proofs.Common.{arith}
 use Rattle.input.proofs.ValueRead.{value_kind_lem, value_reference, value_other}
-use Rattle.input.specs.meaning.Property.{lower_value, reference_value}
+use Rattle.input.specs.meaning.Property.{lower_value}
 use Rattle.input.specs.machine.At.{record_at}
-use mathlib.Core.Path.{sym, ap, ◌∙◌}
+use mathlib.Core.Path.{sym, ◌∙◌}
 use Rattle.input.proofs.value_read.read_value.Goals as goal
 
 pub returns-in-12 : goal.returns-in-12
@@ -29,8 +29,7 @@ returns-in-14 c = let a = c.args in λ level.
 
 pub returns-in-8 : goal.returns-in-8
 returns-in-8 c = let a = c.args in λ level.
-    c.reference_value.ensures level a.words.now a.text.now a.r
-    ∙ ap reference_value (c.target_read.ensures a.words.now a.text.now a.r ∙ c.lower_phandle.ensures)
+    c.reference_value.ensures level
     ∙ value_reference a.words.now a.text.now a.r level (sym c.kind_at.ensures
     ∙ c.in-8.is)
 

@@ -1,11 +1,13 @@
 -- By the cases of the reference.
+use Rattle.std.proofs.lemmas.Result.{err_from_is_err_and}
 use Rattle.input.specs.meaning.Property.{reference_value}
-use Rattle.input.specs.machine.ValueRead.{target_got}
-use mathlib.Core.Path.{sym, ap}
+use mathlib.Core.Path.{ap}
 use Rattle.input.proofs.value_read.reference_value.Goals as goal
 
-pub returns-in-Failed : goal.returns-in-Failed
-returns-in-Failed c = λ level words text r. sym (ap (λ t. reference_value (target_got words text r t)) c.in-Failed.is)
+pub returns-in_err-kind : goal.returns-in_err-kind
+returns-in_err-kind c =
+    let p = err_from_is_err_and c.from_residual.result c.from_residual.ensures.1 in
+    λ level. rw (p.1, p.2) (ap reference_value c.in_err-kind.ensures)
 
-pub returns-in-Target : goal.returns-in-Target
-returns-in-Target c = λ level words text r. sym (ap (λ t. reference_value (target_got words text r t)) c.in-Target.is)
+pub returns : goal.returns
+returns c = λ level. ap reference_value c.in_ok-kind.ensures
