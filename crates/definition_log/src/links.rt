@@ -37,7 +37,8 @@ pub(crate) enum Chain {
 const CHAINS: u32 = 9;
 
 impl Chain {
-    // Its number; kept: the queue has a record and its chain in one word, for a walk's memory is fixed.
+    // Its number.
+    // kept: the queue has a record and its chain in one word, for a walk's memory is fixed and on the stack.
     fn number(self) -> u32
         ensures small { result < chains }
         ensures same { place_of result ≡ place_told self }
@@ -116,6 +117,7 @@ impl<const N: usize> Walk<N> {
         ensures { self.new.marks ≡ all_marks words.now self.old.marks self.old.queue }
     {
         self.heads(words);
+        // kept: an index, for the queue grows while it is walked.
         for i in 0..N {
             if self.met <= i {
                 return;
