@@ -83,6 +83,7 @@ fn put(value: u64, out: &mut [u8])
     ensures { out.new ≡ packed_bytes (length out.old) value }
 {
     let mut rest = value;
+    // kept: an index, for a proof does not learn what was written through `iter_mut().rev()`.
     for i in (0..out.len()).rev() {
         out[i] = packed(rest % 100);
         rest /= 100;

@@ -82,6 +82,18 @@ unfolding follow_all
 follow_append w [] b s = refl
 follow_append w (l ∷ a) b s = follow_append w a b (follow w l s)
 
+-- the room stays
+pub room_all : (w : List ℕ) (ls : List Link) (s : Held) → (follow_all w ls s).room ≡ s.room
+unfolding follow_all follow
+room_all w [] s = refl
+room_all w (l ∷ ls) s = room_all w ls (follow w l s)
+
+-- so the queue keeps its length
+pub same_length : (w : List ℕ) (ls : List Link) (m m' : List Mark) (q q' : List ℕ) (n n' : ℕ)
+    → held m' q' n' ≡ follow_all w ls (held m q n) → length q' ≡ length q
+unfolding held
+same_length w ls m m' q q' n n' e = ap (λ (h : Held). h.room) e ∙ room_all w ls (held m q n)
+
 -- a link that counts only where a test holds
 link_if : (w : List ℕ) (t : Bool) (r : ℕ) (p : Place) → link_to w (cond t r 0) p ≡ cond t (link_to w r p) []
 unfolding link_to

@@ -19,6 +19,7 @@ use Rattle.definition_log.specs.declared.links.Mark.{Mark}
 use Rattle.definition_log.specs.declared.links.Mark.TheVariants.{Unmet, Met}
 use Rattle.definition_log.specs.machine.Walk.{link_of, stored, unmet, first_mark, next_mark, Held, held, follow, follow_all, expand, all_marks}
 use Rattle.definition_log.proofs.Walk.{Inside, one, inside_of, inside_heads, length_of, length_heads, leads_below}
+use Rattle.definition_log.proofs.Follow.{room_all}
 use Rattle.definition_log.proofs.Marks.{marked}
 
 -- how many of the first n records are not met yet
@@ -216,12 +217,6 @@ module _ (w : List ℕ) (head r : ℕ) (final : Mark) (lt : r < log_count w) whe
       let h = (leads_below w l.to t).1 in
       went_links ls left (follow w l s) (l.to ∷ met) i (ready_after w head left s met l ls y h)
       (e ∙ rw (waits_after w head left s met l ls y h, ← (mark_after w head left s met l ls y h r lt)) refl)
-
--- the room stays
-room_all : (w : List ℕ) (ls : List Link) (s : Held) → (follow_all w ls s).room ≡ s.room
-unfolding follow_all follow
-room_all w [] s = refl
-room_all w (l ∷ ls) s = room_all w ls (follow w l s)
 
 module _ (w : List ℕ) (r : ℕ) (final : Mark) (lt : r < log_count w) where
   -- no record to come

@@ -1,6 +1,6 @@
 // What a call answers, by 01's table: what is returned with number 0, or a refusal.
 ghost use Rattle.std.specs.Prelude.{◌≡◌};
-ghost use Rattle.definition_log.specs.meaning.Answer.{refused, told};
+ghost use Rattle.definition_log.specs.meaning.Answer.{refused, told, told_done};
 
 // The rows of the table, with what they return where that is not 0.
 #[derive(Clone, Copy, Debug, PartialEq, Eq)]
@@ -97,5 +97,13 @@ impl From<Result<u32, Refusal>> for Numbers {
                 returned: refusal.returned(),
             },
         }
+    }
+}
+
+impl From<Result<(), Refusal>> for Numbers {
+    ghost from_gives = { λ answer n. n ≡ record { number = (told_done answer).number; returned = (told_done answer).returned } };
+
+    fn from(answer: Result<(), Refusal>) -> Numbers {
+        Numbers::from(answer.map(|()| 0))
     }
 }

@@ -1,4 +1,5 @@
 // The kinds of output records, by 01's numbers, and what they have.
+// kept: numbers, for a caller lends the words of a log, and any number may stand in them.
 ghost use Rattle.std.specs.Prelude.{◌≡◌};
 ghost use Rattle.definition_log.specs.meaning.Record.{one_of, def_kinds, has_children, has_span, has_name_span};
 

@@ -37,7 +37,8 @@ pub(crate) enum Chain {
 const CHAINS: u32 = 9;
 
 impl Chain {
-    // Its number; kept: the queue has a record and its chain in one word, for a walk's memory is fixed.
+    // Its number.
+    // kept: the queue has a record and its chain in one word, for a walk's memory is fixed and on the stack.
     fn number(self) -> u32
         ensures small { result < chains }
         ensures same { place_of result ≡ place_told self }
@@ -101,118 +102,91 @@ impl Chain {
     }
 }
 
-// All links followed: those of record 0, then those of each record that was met, in order. The queue holds the records that were met.
-pub(crate) fn walk(words: &[u32], marks: &mut [Mark], queue: &mut [u32])
-    ensures { marks.new ≡ all_marks words.now marks.old queue.old }
-{
-    let mut n = walk_heads(words, marks, queue);
-    for i in 0..queue.len() {
-        if n <= i {
+// The records' marks, and the records that were met, in order, each in one word with its chain.
+#[derive(Drop)]
+pub(crate) struct Walk<const N: usize> {
+    pub(crate) marks: [Mark; N],
+    pub(crate) queue: [u32; N],
+    pub(crate) met: usize,
+}
+
+impl<const N: usize> Walk<N> {
+    // All links followed: those of record 0, then those of each record that was met, in order.
+    pub(crate) fn all(&mut self, words: &[u32])
+        requires { self.old.met ≡ 0 }
+        ensures { self.new.marks ≡ all_marks words.now self.old.marks self.old.queue }
+    {
+        self.heads(words);
+        // kept: an index, for the queue grows while it is walked.
+        for i in 0..N {
+            if self.met <= i {
+                return;
+            }
+            self.record(words, self.queue[i]);
+        }
+    }
+
+    // Record 0's links followed.
+    fn heads(&mut self, words: &[u32])
+        ensures { held self.new.marks self.new.queue self.new.met ≡ follow_all words.now (head_links words.now)
+            (held self.old.marks self.old.queue self.old.met) }
+    {
+        self.follow(
+            words,
+            out_field(words, 0, layout::FIRST_DEFINITION),
+            Chain::Definitions,
+        );
+        self.follow(
+            words,
+            out_field(words, 0, layout::FIRST_EXTENSION),
+            Chain::Extensions,
+        );
+        self.follow(
+            words,
+            out_field(words, 0, layout::FIRST_BINDING),
+            Chain::Bindings,
+        );
+        self.follow(
+            words,
+            out_field(words, 0, layout::FIRST_DIAGNOSTIC),
+            Chain::Diagnostics,
+        );
+        self.follow(
+            words,
+            out_field(words, 0, layout::FIRST_POST),
+            Chain::Diagnostics,
+        );
+    }
+
+    // The links of a record followed; code has the record and the chain that it was met in.
+    fn record(&mut self, words: &[u32], code: u32)
+        ensures { held self.new.marks self.new.queue self.new.met ≡ follow_all words.now
+            (links_of words.now (link_of code)) (held self.old.marks self.old.queue self.old.met) }
+    {
+        let r = code / CHAINS;
+        self.follow(words, next_of(words, r), Chain::of(code % CHAINS));
+        self.follow(words, child_of(words, r), Chain::below(kind_of(words, r)));
+        self.follow(words, body_link(words, r), Chain::Definitions);
+    }
+
+    // A link followed, if it leads to a record: the record is marked, and put in the queue if it was not met before.
+    fn follow(&mut self, words: &[u32], r: u32, chain: Chain)
+        ensures { held self.new.marks self.new.queue self.new.met ≡ follow_all words.now
+            (link_to words.now r (place_told chain)) (held self.old.marks self.old.queue self.old.met) }
+    {
+        if !leads_to(words, r) {
             return;
         }
-        n = walk_record(words, queue[i], marks, queue, n);
+        if mark_at(&self.marks, r) != Mark::Unmet {
+            set_mark(&mut self.marks, r, Mark::Wrong);
+            return;
+        }
+        set_mark(&mut self.marks, r, first_mark(words, r, chain));
+        if self.met < N {
+            self.queue[self.met] = r * CHAINS + chain.number();
+            self.met += 1;
+        }
     }
-}
-
-// Record 0's links followed.
-fn walk_heads(words: &[u32], marks: &mut [Mark], queue: &mut [u32]) -> usize
-    ensures { held marks.new queue.new result ≡ follow_all words.now (head_links words.now)
-        (held marks.old queue.old 0) }
-{
-    let a = follow(
-        words,
-        out_field(words, 0, layout::FIRST_DEFINITION),
-        Chain::Definitions,
-        marks,
-        queue,
-        0,
-    );
-    let b = follow(
-        words,
-        out_field(words, 0, layout::FIRST_EXTENSION),
-        Chain::Extensions,
-        marks,
-        queue,
-        a,
-    );
-    let c = follow(
-        words,
-        out_field(words, 0, layout::FIRST_BINDING),
-        Chain::Bindings,
-        marks,
-        queue,
-        b,
-    );
-    let d = follow(
-        words,
-        out_field(words, 0, layout::FIRST_DIAGNOSTIC),
-        Chain::Diagnostics,
-        marks,
-        queue,
-        c,
-    );
-    follow(
-        words,
-        out_field(words, 0, layout::FIRST_POST),
-        Chain::Diagnostics,
-        marks,
-        queue,
-        d,
-    )
-}
-
-// The links of a record followed; code has the record and the chain that it was met in.
-fn walk_record(words: &[u32], code: u32, marks: &mut [Mark], queue: &mut [u32], n: usize) -> usize
-    ensures { held marks.new queue.new result ≡ follow_all words.now
-        (links_of words.now (link_of code)) (held marks.old queue.old n) }
-{
-    let r = code / CHAINS;
-    let a = follow(
-        words,
-        next_of(words, r),
-        Chain::of(code % CHAINS),
-        marks,
-        queue,
-        n,
-    );
-    let below = Chain::below(kind_of(words, r));
-    let b = follow(words, child_of(words, r), below, marks, queue, a);
-    follow(
-        words,
-        body_link(words, r),
-        Chain::Definitions,
-        marks,
-        queue,
-        b,
-    )
-}
-
-// A link followed, if it leads to a record: the record is marked, and put in the queue if it was not met before. Returns how many are in
-// it.
-fn follow(
-    words: &[u32],
-    r: u32,
-    chain: Chain,
-    marks: &mut [Mark],
-    queue: &mut [u32],
-    n: usize,
-) -> usize
-    ensures { held marks.new queue.new result ≡ follow_all words.now
-        (link_to words.now r (place_told chain)) (held marks.old queue.old n) }
-{
-    if !leads_to(words, r) {
-        return n;
-    }
-    if mark_at(marks, r) != Mark::Unmet {
-        set_mark(marks, r, Mark::Wrong);
-        return n;
-    }
-    set_mark(marks, r, first_mark(words, r, chain));
-    if queue.len() <= n {
-        return n;
-    }
-    queue[n] = r * CHAINS + chain.number();
-    n + 1
 }
 
 // A record's mark.

@@ -13,7 +13,7 @@ ghost use Rattle.definition_log.specs.machine.Walk.{record_wrong, fault_by, firs
 use crate::answer::Refusal;
 use crate::kinds::{has_children, has_name_span, has_span, is_def};
 use crate::limits::{FEW_RECORDS, MOST_RECORDS};
-use crate::links::{Mark, mark_at, walk};
+use crate::links::{Mark, Walk, mark_at};
 use crate::lists::one_of;
 use crate::record::{child_of, first_text, kind_of, log_count, out_field, second_text};
 use crate::{kinds, layout};
@@ -69,10 +69,13 @@ fn check_within<const N: usize>(words: &[u32], bytes: &[u8]) -> Result<(), Broke
     requires whole { wrong_count words.now ≡ false }
     ensures { told result ≡ soundness words.now bytes.now }
 {
-    let mut marks = [Mark::Unmet; N];
-    let mut queue = [0u32; N];
-    walk(words, &mut marks, &mut queue);
-    first_fault(words, bytes, &marks)
+    let mut walk = Walk {
+        marks: [Mark::Unmet; N],
+        queue: [0; N],
+        met: 0,
+    };
+    walk.all(words);
+    first_fault(words, bytes, &walk.marks)
 }
 
 // The lowest record at fault, by the marks.
