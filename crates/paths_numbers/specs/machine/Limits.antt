@@ -1,4 +1,4 @@
--- What the code keeps within limits on its way.
+-- What the code works with on its way.
 use Rattle.std.specs.Prelude.{ℕ, cond, List, []}
 use Rattle.paths_numbers.specs.meaning.Text.{same}
 use Rattle.paths_numbers.specs.meaning.Path.{root}
