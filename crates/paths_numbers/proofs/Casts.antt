@@ -1,8 +1,9 @@
 -- Signed numbers of 64 bits as the machine reads them: the test of the sign, the cast, and -1 minus one of them.
-use Rattle.std.proofs.Common.{◌≡◌, ℕ, zero, suc, ◌+◌, ◌-◌, ◌%◌, ◌^◌, ◌<◌, ◌≤◌, true, false, T, ℤ, pos, negsuc, ◌-ℤ◌, neg_ℤ, nat_abs, refl, ap, ◌∙◌, arith, w64, Fits, SFits, to_z, of_z, le-ltb}
+use Rattle.std.proofs.Common.{◌≡◌, ℕ, zero, suc, ◌+◌, ◌-◌, ◌%◌, ◌^◌, ◌<◌, ◌≤◌, true, false, T, ℤ, pos, negsuc, ◌-ℤ◌, neg_ℤ, nat_abs, refl, ap, ◌∙◌, arith, w64, SFits, to_z, le-ltb}
 use lib.Dec.{leb-zero}
-use lib.Signed.{le_z, non_neg, nat_abs-le, pos-nat_abs}
-use mir.ValLaws.{to_z-of_z, to_z_pos, to_z-neg}
+use lib.Signed.{le_z, non_neg, pos-nat_abs}
+use mir.ValLaws.{to_z_pos, to_z-neg}
+use Rattle.paths_numbers.proofs.Integers.{Z, read}
 
 -- -1 minus z: n and -(n + 1) change places
 abbrev pub flip : ℤ → ℤ
@@ -34,57 +35,21 @@ below_zero : (z : ℤ) → le_z (pos 0) z ≡ false → T (non_neg (flip z))
 below_zero (pos n) t = let o : ◌≡◌ {A = ℕ} 0 1 = cc (leb-zero n) in absurd (omega arith)
 below_zero (negsuc n) t = tt
 
--- bits k that are read as z
-module _ (k : ℕ) (z : ℤ) (e : to_z w64 k ≡ z) (f : SFits w64 z) where
-  -- -1 minus z fits, and is read as it is
-  pub minus_fits : SFits w64 (negsuc 0 -ℤ to_z w64 k)
-  minus_fits = rw (e, minus_one) (flip_fits z f)
-
-  pub minus_is : to_z w64 (of_z w64 (negsuc 0 -ℤ to_z w64 k)) ≡ flip z
-  minus_is = to_z-of_z w64 _ minus_fits ∙ rw e (minus_one z)
-
-  -- where z is not below 0, an unsigned type holds it as it is
-  cast_fits : T (non_neg z) → T (non_neg (to_z w64 k)) × Fits w64 (nat_abs (to_z w64 k))
-  cast_fits t = rw e (t, record { fits = omega (arith, nat_abs-le z f.sfits) })
-
-  cast_is : T (non_neg z) → pos (nat_abs (to_z w64 k)) ≡ z
-  cast_is t = rw e (pos-nat_abs z t)
-
--- the machine's reading of a number
-abbrev pub Z : ℤ → ℤ
-Z a = to_z w64 (of_z w64 a)
-
 module _ (a : ℤ) (f : SFits w64 a) where
-  -- it is the number, where that fits
-  read : Z a ≡ a
-  read = to_z-of_z w64 a f
-
   -- a from 0 on, cast to an unsigned type
-  pub plain_fits : le_z (pos 0) (Z a) ≡ true → T (non_neg (Z a)) × Fits w64 (nat_abs (Z a))
-  plain_fits t = cast_fits (of_z w64 a) a read f (from_zero a (rw read at t))
-
   pub plain_is : le_z (pos 0) (Z a) ≡ true → pos (nat_abs (Z a)) ≡ a
-  plain_is t = cast_is (of_z w64 a) a read f (from_zero a (rw read at t))
+  plain_is t = rw (read f) (pos-nat_abs a (from_zero a (rw (read f) at t)))
 
   -- a below 0, whose -1 minus a is cast
-  pub less_fits : SFits w64 (negsuc 0 -ℤ Z a)
-  less_fits = minus_fits (of_z w64 a) a read f
-
-  pub less_cast_fits : le_z (pos 0) (Z a) ≡ false → T (non_neg (Z (negsuc 0 -ℤ Z a))) × Fits w64 (nat_abs (Z (negsuc 0 -ℤ Z a)))
-  less_cast_fits t = cast_fits (of_z w64 (negsuc 0 -ℤ Z a)) (flip a) (minus_is (of_z w64 a) a read f) (flip_fits a f)
-      (below_zero a (rw read at t))
+  less_is : Z (negsuc 0 -ℤ Z a) ≡ flip a
+  less_is = rw (read f, minus_one) (read (flip_fits a f))
 
   pub less_cast_is : le_z (pos 0) (Z a) ≡ false → negsuc (nat_abs (Z (negsuc 0 -ℤ Z a))) ≡ a
-  less_cast_is t = ap flip (cast_is (of_z w64 (negsuc 0 -ℤ Z a)) (flip a) (minus_is (of_z w64 a) a read f) (flip_fits a f)
-      (below_zero a (rw read at t))) ∙ flip_flip a
+  less_cast_is t = rw less_is (ap flip (pos-nat_abs (flip a) (below_zero a (rw (read f) at t))) ∙ flip_flip a)
 
 -- n below 2 ^ 63 as a signed number
-module _ (n : ℕ) (h : n < 2 ^ 63) where
-  pub signed_fits : SFits w64 (pos n)
-  signed_fits = record { sfits = h }
-
-  pub signed_is : to_z w64 n ≡ pos n
-  signed_is = to_z_pos w64 n h
+pub signed_is : (n : ℕ) → n < 2 ^ 63 → to_z w64 n ≡ pos n
+signed_is n h = to_z_pos w64 n h
 
 -- the bits of the opposite of n
 pub negated : (n r : ℕ) → n ≤ 2 ^ 63 → r < 2 ^ 64 → (r + n) % 2 ^ 64 ≡ 0 → to_z w64 r ≡ neg_ℤ (pos n)

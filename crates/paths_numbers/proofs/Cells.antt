@@ -1,11 +1,9 @@
 -- Which numbers a width holds, with its largest unsigned number in place of its power of two.
-use Rattle.std.proofs.Common.{◌≡◌, ℕ, suc, ◌+◌, ◌-◌, ◌/◌, ◌^◌, ◌<◌, ◌≤◌, List, [], ◌∷◌, length, pos, negsuc, refl, ap, ◌∙◌, mod-eq_of_lt, arith, pow_pos, pow_mono, le-ltb, lt-ltb, ne_eqb}
+use Rattle.std.proofs.Common.{◌≡◌, ℕ, suc, ◌+◌, ◌-◌, ◌/◌, ◌^◌, ◌<◌, ◌≤◌, pos, negsuc, refl, ap, ◌∙◌, mod-eq_of_lt, arith, pow_pos, le-ltb, lt-ltb}
 use native.Mathlib.Nat.{two-pow-succ}
-use Rattle.paths_numbers.specs.meaning.Cell.{bits_of, largest, sized, size_of, expr_cell, char_cell}
-use Rattle.paths_numbers.specs.meaning.Number.{unsigned_number}
-use Rattle.paths_numbers.specs.meaning.Text.{is_empty}
-use Rattle.paths_numbers.specs.meaning.Code.{width_unsupported, character_too_large, cell_outside}
-use Rattle.paths_numbers.specs.meaning.Reading.{Reading, value, fails}
+use Rattle.paths_numbers.specs.meaning.Cell.{bits_of, largest, expr_cell, char_cell}
+use Rattle.paths_numbers.specs.meaning.Code.{character_too_large, cell_outside}
+use Rattle.paths_numbers.specs.meaning.Reading.{value, fails}
 use Rattle.paths_numbers.specs.declared.dt_property.BitsSize.{BitsSize}
 use Rattle.paths_numbers.specs.declared.dt_property.BitsSize.TheVariants.{Bits8, Bits16, Bits32, Bits64}
 
@@ -19,20 +17,6 @@ wide Bits64 = omega arith
 -- every width has a bit
 pub some_bit : (s : BitsSize) → 1 ≤ bits_of s
 some_bit s = omega (arith, wide s)
-
--- every width holds a digit of each base
-pub some_room : (s : BitsSize) → 15 ≤ largest s
-some_room s = omega (arith, pow_mono (wide s))
-
--- what a width's text names, where there is one
-pub width_read : (s : List ℕ) (p : Reading ℕ) → (length s ≡ 0 → ⊥) → p ≡ unsigned_number (largest Bits32) s → sized p ≡ size_of s
-unfolding size_of is_empty
-width_read [] p h e = absurd (h refl)
-width_read (b ∷ s) p h e = ap sized e
-
--- a number that is none of the widths
-pub width_none : (n : ℕ) → (n ≡ 8 → ⊥) → (n ≡ 16 → ⊥) → (n ≡ 32 → ⊥) → (n ≡ 64 → ⊥) → fails width_unsupported ≡ sized (value n)
-width_none n a b c d = simp (ne_eqb _ _ a, ne_eqb _ _ b, ne_eqb _ _ c, ne_eqb _ _ d)
 
 -- a width's numbers are twice those of one bit less
 pub half : (bits : ℕ) → 1 ≤ bits → 2 ^ bits ≡ 2 ^ (bits - 1) + 2 ^ (bits - 1)

@@ -1,3 +1,1 @@
-pub mod Widths
 pub mod Apart
-pub mod Codes

@@ -3,27 +3,29 @@
 #![tactic(auto)]
 
 ghost use Rattle.std.specs.Prelude.{◌≡◌, length};
-ghost use Rattle.paths_numbers.specs.meaning.Bytestring.{count_of, count_told, written_told, bytes_answer, bytes_out};
-ghost use Rattle.paths_numbers.specs.meaning.Cell.{size_of, size_told, cell_told};
+ghost use Rattle.paths_numbers.specs.meaning.Bytestring.{count_of, written_told, bytes_answer, bytes_out};
+ghost use Rattle.paths_numbers.specs.meaning.Cell.{size_of, size_told};
 ghost use Rattle.paths_numbers.specs.meaning.Expression.{eval_prefix, eval_infix, eval_conditional, eval_told};
-ghost use Rattle.paths_numbers.specs.meaning.Number.{signed_number, int_told, i64_told};
+ghost use Rattle.paths_numbers.specs.meaning.Number.{signed_number};
 ghost use Rattle.paths_numbers.specs.meaning.Path.{at_or_under, stripped, good_path, joined, joined_len, built_told, built_answer, built_out};
+ghost use Rattle.paths_numbers.specs.meaning.Reading.{told};
 ghost use Rattle.paths_numbers.specs.meaning.Reference.{target};
 ghost use Rattle.paths_numbers.specs.meaning.Text.{same};
 ghost use Rattle.paths_numbers_c.specs.meaning.Told.{truth, number_told, integer_told, result_told, length_told, bytes_told, path_told};
-ghost use Rattle.paths_numbers_c.specs.meaning.Told.{width_told, width_of, int_at, expr_at, char_at, target_told, place_told};
+ghost use Rattle.paths_numbers_c.specs.meaning.Told.{width_told, int_at, expr_at, char_at, target_told, place_told};
 ghost use Rattle.slashes.specs.meaning.Slash.{next_slash, found_told};
 
+use paths_numbers::codes::Code;
 use paths_numbers::dt_node::{
     Built, build_path, is_path, lies_under_path, path_len, path_lies_under,
 };
 use paths_numbers::dt_property::{
-    BitsSize, ByteCount, BytesWritten, Cell, SizeRead, bytestring_len, cell_code, char_cell,
-    count_code, expr_cell, lower_bytestring, size_code,
+    BitsSize, BytesError, MissingDigit, SizeError, bytestring_len, char_cell, expr_cell,
+    lower_bytestring,
 };
-use paths_numbers::expr_eval::{ParsedI64, ParsedInt, int_code, parse_int_tok, parse_int_tok_i64};
+use paths_numbers::expr_eval::{parse_int_tok, parse_int_tok_i64};
 use paths_numbers::mir::{good_path, lies_under, strip_base};
-use paths_numbers::operators::{Evaluated, eval_code, eval_conditional, eval_infix, eval_prefix};
+use paths_numbers::operators::{EvalError, eval_conditional, eval_infix, eval_prefix};
 use paths_numbers::phandle::{lower_phandle, phandle_label, phandle_path, target_number};
 use slashes::slash::{Found, next_slash};
 
@@ -158,14 +160,14 @@ pub extern "C" fn pn_path_lies_under(parent: &[u8], name: &[u8], unit: &[u8], ba
 }
 
 // An unsigned number's text, read at a width of 8, 16, 32 or 64 bits.
+#[tactic(auto, unfolding(crate::specs::meaning::Told::at_width))]
 #[unsafe(no_mangle)]
 pub extern "C" fn pn_parse_int(text: &[u8], bits: u32) -> PnNumber
     ensures { result ≡ int_at bits text.now }
 {
-    let read = size_of(bits);
-    match read {
-        SizeRead::Size(size) => told_int(parse_int_tok(text, size)),
-        _ => told_width(read),
+    match BitsSize::try_from(bits as u64) {
+        Ok(size) => told_number(parse_int_tok(text, size)),
+        Err(e) => told_width(Err(e)),
     }
 }
 
@@ -174,7 +176,7 @@ pub extern "C" fn pn_parse_int(text: &[u8], bits: u32) -> PnNumber
 pub extern "C" fn pn_parse_i64(text: &[u8]) -> PnInteger
     ensures { result ≡ integer_told (signed_number text.now) }
 {
-    told_i64(parse_int_tok_i64(text))
+    told_integer(parse_int_tok_i64(text))
 }
 
 // A cell list's width, in bits; the text is empty where there is none.
@@ -186,26 +188,26 @@ pub extern "C" fn pn_width(text: &[u8]) -> PnNumber
 }
 
 // What an expression's result is as a cell of 8, 16, 32 or 64 bits.
+#[tactic(auto, unfolding(crate::specs::meaning::Told::at_width))]
 #[unsafe(no_mangle)]
 pub extern "C" fn pn_expr_cell(num: i64, bits: u32) -> PnNumber
     ensures { result ≡ expr_at bits num }
 {
-    let read = size_of(bits);
-    match read {
-        SizeRead::Size(size) => told_cell(expr_cell(num, size)),
-        _ => told_width(read),
+    match BitsSize::try_from(bits as u64) {
+        Ok(size) => told_number(expr_cell(num, size)),
+        Err(e) => told_width(Err(e)),
     }
 }
 
 // What a character is as a cell of 8, 16, 32 or 64 bits.
+#[tactic(auto, unfolding(crate::specs::meaning::Told::at_width))]
 #[unsafe(no_mangle)]
 pub extern "C" fn pn_char_cell(ch: u32, bits: u32) -> PnNumber
     ensures { result ≡ char_at bits ch }
 {
-    let read = size_of(bits);
-    match read {
-        SizeRead::Size(size) => told_cell(char_cell(ch, size)),
-        _ => told_width(read),
+    match BitsSize::try_from(bits as u64) {
+        Ok(size) => told_number(char_cell(ch, size)),
+        Err(e) => told_width(Err(e)),
     }
 }
 
@@ -238,7 +240,7 @@ pub extern "C" fn pn_conditional(a: i64, b: i64, c: i64) -> i64
 pub extern "C" fn pn_bytestring_len(text: &[u8]) -> PnWritten
     ensures { result ≡ length_told (count_of text.now) }
 {
-    told_count(bytestring_len(text))
+    told_length(bytestring_len(text))
 }
 
 // Writes the bytes that the text of a bytestring stands for into `out` from `at` on.
@@ -262,19 +264,6 @@ pub extern "C" fn pn_reference(raw: &[u8]) -> PnReference
         kind,
         label_len: label.len(),
         path_len: path.len(),
-    }
-}
-
-// The width of this many bits.
-fn size_of(bits: u32) -> SizeRead
-    ensures { size_told result ≡ width_of bits }
-{
-    match bits {
-        8 => SizeRead::Size(BitsSize::Bits8),
-        16 => SizeRead::Size(BitsSize::Bits16),
-        32 => SizeRead::Size(BitsSize::Bits32),
-        64 => SizeRead::Size(BitsSize::Bits64),
-        _ => SizeRead::Unsupported,
     }
 }
 
@@ -309,95 +298,68 @@ fn told_built(b: Built) -> PnWritten
     }
 }
 
-fn told_int(p: ParsedInt) -> PnNumber
-    ensures { result ≡ number_told (int_told p) }
+fn told_number<E: Code>(r: Result<u64, E>) -> PnNumber
+    ensures { result ≡ number_told (told E.code_of r) }
 {
-    match p {
-        ParsedInt::Value(value) => PnNumber { code: 0, value },
-        ParsedInt::Failed(e) => PnNumber {
-            code: int_code(e),
+    match r {
+        Ok(value) => PnNumber { code: 0, value },
+        Err(e) => PnNumber {
+            code: e.code(),
             value: 0,
         },
     }
 }
 
-fn told_i64(p: ParsedI64) -> PnInteger
-    ensures { result ≡ integer_told (i64_told p) }
+fn told_integer<E: Code>(r: Result<i64, E>) -> PnInteger
+    ensures { result ≡ integer_told (told E.code_of r) }
 {
-    match p {
-        ParsedI64::Value(value) => PnInteger { code: 0, value },
-        ParsedI64::Failed(e) => PnInteger {
-            code: int_code(e),
+    match r {
+        Ok(value) => PnInteger { code: 0, value },
+        Err(e) => PnInteger {
+            code: e.code(),
             value: 0,
         },
     }
 }
 
-fn told_width(s: SizeRead) -> PnNumber
-    ensures { result ≡ width_told (size_told s) }
+fn told_length<E: Code>(r: Result<usize, E>) -> PnWritten
+    ensures { result ≡ length_told (told E.code_of r) }
 {
-    match s {
-        SizeRead::Size(size) => PnNumber {
-            code: 0,
-            value: size.bits() as u64,
-        },
-        _ => PnNumber {
-            code: size_code(s),
-            value: 0,
+    match r {
+        Ok(len) => PnWritten { number: 0, len },
+        Err(e) => PnWritten {
+            number: e.code(),
+            len: 0,
         },
     }
 }
 
-fn told_cell(c: Cell) -> PnNumber
-    ensures { result ≡ number_told (cell_told c) }
+#[tactic(auto, unfolding(crate::specs::meaning::Told::at_width))]
+fn told_width(r: Result<BitsSize, SizeError>) -> PnNumber
+    ensures { result ≡ width_told (size_told r) }
 {
-    match c {
-        Cell::Number(value) => PnNumber { code: 0, value },
-        _ => PnNumber {
-            code: cell_code(c),
-            value: 0,
-        },
-    }
+    told_number(r.map(|size| size.bits() as u64))
 }
 
-fn told_eval(e: Evaluated) -> PnInteger
-    ensures { result ≡ result_told (eval_told e) }
+fn told_eval(r: Result<i64, EvalError>) -> PnInteger
+    ensures { result ≡ result_told (eval_told r) }
 {
-    match e {
-        Evaluated::Value(value) => PnInteger { code: 0, value },
-        Evaluated::Missing => PnInteger {
+    match r {
+        Err(EvalError::Missing) => PnInteger {
             code: MISSING,
             value: 0,
         },
-        _ => PnInteger {
-            code: eval_code(e),
-            value: 0,
-        },
+        _ => told_integer(r),
     }
 }
 
-fn told_count(c: ByteCount) -> PnWritten
-    ensures { result ≡ length_told (count_told c) }
-{
-    match c {
-        ByteCount::Bytes(len) => PnWritten { number: 0, len },
-        ByteCount::MissingDigit => PnWritten {
-            number: count_code(c),
-            len: 0,
-        },
-    }
-}
-
-fn told_written(w: BytesWritten) -> PnWritten
+fn told_written(w: Result<usize, BytesError>) -> PnWritten
     ensures { result ≡ bytes_told (written_told w) }
 {
     match w {
-        BytesWritten::Bytes(len) => PnWritten { number: 0, len },
-        BytesWritten::MissingDigit => PnWritten {
-            number: count_code(ByteCount::MissingDigit),
-            len: 0,
-        },
-        BytesWritten::NoRoom => PnWritten {
+        Ok(len) => PnWritten { number: 0, len },
+        Err(BytesError::MissingDigit) => told_length(Err(MissingDigit)),
+        Err(BytesError::NoRoom) => PnWritten {
             number: NO_ROOM,
             len: 0,
         },

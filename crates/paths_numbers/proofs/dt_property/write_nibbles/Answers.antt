@@ -1,7 +1,7 @@
-use Rattle.std.proofs.Common.{refl, sym, ap, ◌∙◌, arith, Some}
+use Rattle.std.proofs.Common.{refl, ap, ◌∙◌, arith}
 use Rattle.std.specs.Char.{digit_value}
 use Rattle.paths_numbers.proofs.Bytestring.{nibbles_stop, nibbles_skip, nibbles_digit, nibbles_done, left_start}
-use Rattle.paths_numbers.proofs.Bytestring.{digits_left, left_end, left_skip, left_wait, left_pair, write_room, write_pair, write_end}
+use Rattle.paths_numbers.proofs.Bytestring.{left_end, left_skip, left_wait, left_pair, write_room, write_pair, write_end}
 use Rattle.paths_numbers.proofs.dt_property.write_nibbles.Goals as goal
 use Rattle.paths_numbers.proofs.dt_property.write_nibbles.Goals.{in-Some-first, in_default-first}
 

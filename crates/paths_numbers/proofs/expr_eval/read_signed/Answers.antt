@@ -1,5 +1,5 @@
 -- The signed reading: behind a minus, and else the unsigned one; what was read is within the limit it was read at.
-use Rattle.std.proofs.Common.{◌≡◌, Err, get_or, refl, sym, ap, ◌∙◌, arith, rules, w64, to_z, of_z}
+use Rattle.std.proofs.Common.{◌≡◌, Err, get_or, sym, ap, ◌∙◌, arith, rules, w64, to_z, of_z}
 use mir.ValLaws.{to_z-of_z}
 use Rattle.paths_numbers.specs.meaning.Byte.{minus}
 use Rattle.paths_numbers.specs.meaning.Reading.{value}
