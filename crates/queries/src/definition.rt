@@ -1,7 +1,6 @@
 // One definition of a chain: what it is, and what it does to a path.
-ghost use Rattle.std.specs.Prelude.{◌≡◌, true, false};
+ghost use Rattle.std.specs.Prelude.{◌≡◌};
 ghost use Rattle.paths_numbers.specs.meaning.Text.{same};
-ghost use Rattle.paths_numbers.specs.meaning.Path.{joined};
 ghost use Rattle.definition_log.specs.meaning.ReadBack.{def_at, read_labels};
 ghost use Rattle.paths_numbers.specs.meaning.Lists.{any};
 ghost use Rattle.queries.specs.meaning.Live.{deletes, overwrites, node_at};
@@ -10,90 +9,41 @@ ghost use Rattle.queries.specs.meaning.Labels.{has_label_at};
 ghost use Rattle.queries.specs.machine.Table.{deleted_at};
 ghost use Rattle.queries.specs.machine.Pass.{goes_on};
 
+use crate::path::PathLike;
 use definition_log::chain::chain;
 use definition_log::kinds::{DELETED_NODE, DELETED_PROPERTY, NODE, PROPERTY};
 use definition_log::record::{child_of, first_text, kind_of, leads_to};
-use paths_numbers::dt_node::{is_path, path_lies_under};
-use paths_numbers::mir::lies_under;
 use paths_numbers::text::equals;
 
 // Whether a definition is a node at a path.
-pub fn is_node_at(words: &[u32], bytes: &[u8], r: u32, path: &[u8]) -> bool
-    ensures { result ≡ node_at path.now (def_at words.now bytes.now r) }
+pub fn is_node_at<P: PathLike>(words: &[u32], bytes: &[u8], r: u32, path: P) -> bool
+    ensures { result ≡ node_at (P.path path) (def_at words.now bytes.now r) }
 {
-    if kind_of(words, r) != NODE {
-        return false;
-    }
-    equals(first_text(words, bytes, r), path)
-}
-
-// Whether a definition is a node at the path of a parent and a name.
-pub fn is_node_at_path(
-    words: &[u32],
-    bytes: &[u8],
-    r: u32,
-    parent: &[u8],
-    name: &[u8],
-    unit: &[u8],
-) -> bool
-    ensures { result ≡ node_at (joined parent.now name.now unit.now)
-        (def_at words.now bytes.now r) }
-{
-    if kind_of(words, r) != NODE {
-        return false;
-    }
-    is_path(first_text(words, bytes, r), parent, name, unit)
+    kind_of(words, r) == NODE && path.is(first_text(words, bytes, r))
 }
 
 // Whether a definition is a deleted node at or above a path.
-pub fn deletes_above(words: &[u32], bytes: &[u8], r: u32, path: &[u8]) -> bool
-    ensures { result ≡ deletes path.now (def_at words.now bytes.now r) }
+pub fn deletes_above<P: PathLike>(words: &[u32], bytes: &[u8], r: u32, path: P) -> bool
+    ensures { result ≡ deletes (P.path path) (def_at words.now bytes.now r) }
 {
-    if kind_of(words, r) != DELETED_NODE {
-        return false;
-    }
-    lies_under(path, first_text(words, bytes, r))
-}
-
-// Whether a definition is a deleted node at or above the path of a parent and a name.
-pub fn deletes_above_path(
-    words: &[u32],
-    bytes: &[u8],
-    r: u32,
-    parent: &[u8],
-    name: &[u8],
-    unit: &[u8],
-) -> bool
-    ensures { result ≡ deletes (joined parent.now name.now unit.now)
-        (def_at words.now bytes.now r) }
-{
-    if kind_of(words, r) != DELETED_NODE {
-        return false;
-    }
-    path_lies_under(parent, name, unit, first_text(words, bytes, r))
+    kind_of(words, r) == DELETED_NODE && path.lies_under(first_text(words, bytes, r))
 }
 
 // Whether a definition is a deleted node at a path.
 pub fn is_deleted_at(words: &[u32], bytes: &[u8], r: u32, path: &[u8]) -> bool
     ensures { result ≡ deleted_at path.now (def_at words.now bytes.now r) }
 {
-    if kind_of(words, r) != DELETED_NODE {
-        return false;
-    }
-    equals(first_text(words, bytes, r), path)
+    kind_of(words, r) == DELETED_NODE && equals(first_text(words, bytes, r), path)
 }
 
 // Whether a definition is a property or a deleted property at a path.
 pub fn overwrites_at(words: &[u32], bytes: &[u8], r: u32, path: &[u8]) -> bool
     ensures { result ≡ overwrites path.now (def_at words.now bytes.now r) }
 {
-    let kind = kind_of(words, r);
-    if kind != PROPERTY {
-        if kind != DELETED_PROPERTY {
-            return false;
-        }
+    match kind_of(words, r) {
+        PROPERTY | DELETED_PROPERTY => equals(first_text(words, bytes, r), path),
+        _ => false,
     }
-    equals(first_text(words, bytes, r), path)
 }
 
 // Whether a path is defined after a definition at it.
@@ -111,10 +61,7 @@ pub fn defined_by(words: &[u32], bytes: &[u8], r: u32, defined: bool) -> bool
 pub fn has_label_at(words: &[u32], bytes: &[u8], r: u32, label: &[u8], path: &[u8]) -> bool
     ensures { result ≡ has_label_at label.now path.now (def_at words.now bytes.now r) }
 {
-    if !is_node_at(words, bytes, r, path) {
-        return false;
-    }
-    has_label(words, bytes, child_of(words, r), label)
+    is_node_at(words, bytes, r, path) && has_label(words, bytes, child_of(words, r), label)
 }
 
 // Whether a chain of labels has a label.
@@ -128,8 +75,5 @@ pub fn has_label(words: &[u32], bytes: &[u8], first: u32, label: &[u8]) -> bool
 pub fn goes_on(words: &[u32], r: u32, left: u32) -> bool
     ensures { result ≡ goes_on words.now r left }
 {
-    if left == 0 {
-        return false;
-    }
-    leads_to(words, r)
+    left != 0 && leads_to(words, r)
 }

@@ -8,7 +8,8 @@ ghost use Rattle.short_paths.specs.machine.Front.{front_of};
 ghost use Rattle.definition_log.specs.meaning.ReadBack.{def_at, read_defs};
 ghost use Rattle.queries.specs.machine.Looked.{AnswersLookup, AnswersShort, another, elsewhere};
 
-use crate::mir::{contains_node_in, contains_node_path};
+use crate::mir::contains_node_in;
+use crate::path::Joined;
 use definition_log::chain::chain;
 use definition_log::kinds::NODE;
 use definition_log::record::{first_text, kind_of};
@@ -48,7 +49,12 @@ pub fn lookup_in(words: &[u32], bytes: &[u8], first: u32, path: &[u8]) -> Lookup
 pub fn lookup_path(words: &[u32], bytes: &[u8], first: u32, parent: &[u8], name: &[u8]) -> Lookup
     ensures { AnswersLookup words.now bytes.now first (joined parent.now name.now []) result }
 {
-    if contains_node_path(words, bytes, first, parent, name, &name[..0]) {
+    let path = Joined {
+        parent,
+        name,
+        unit: &name[..0],
+    };
+    if contains_node_in(words, bytes, first, path) {
         return Lookup::Exact;
     }
     if !has_components(parent, name) {

@@ -3,10 +3,10 @@ use borrow.Author.Tests.{eq-eqb, ne_eqb}
 use Rattle.queries.specs.machine.Pass.{goes_on}
 use Rattle.queries.proofs.definition.goes_on.Goals as goal
 
-pub returns-then-left-eq0 : goal.returns-then-left-eq0
+pub returns-then-left-ne0 : goal.returns-then-left-ne0
 unfolding goes_on
-returns-then-left-eq0 c = simp (eq-eqb _ _ c.if-left-eq0.true)
+returns-then-left-ne0 c = rw c.leads_to.ensures (simp (ne_eqb _ _ c.if-left-ne0.true))
 
-pub returns : goal.returns
+pub returns-else-left-ne0 : goal.returns-else-left-ne0
 unfolding goes_on
-returns c = rw c.leads_to.ensures (simp (ne_eqb _ _ c.if-left-eq0.false))
+returns-else-left-ne0 c = simp (eq-eqb _ _ c.if-left-ne0.false)

@@ -7,19 +7,19 @@ use Rattle.queries.proofs.mir.contains_node_in.Goals as goal
 
 pub loop-r-init : goal.loop-r-init
 unfolding read_defs contains_node
-loop-r-init c =
+loop-r-init g c =
     let a = c.args in
-    live_found_at (nodes_at a.path.now) (map (def_at a.words.now a.bytes.now) (chain_of a.words.now a.first))
+    live_found_at (nodes_at (g.P.PathLike.path a.path)) (map (def_at a.words.now a.bytes.now) (chain_of a.words.now a.first))
     ∙ rw (c.into_iter-r-iterator.ensures.into_iter_gives, c.chain-r-items.ensures) refl
 
 pub loop-r-preserved : goal.loop-r-preserved
-loop-r-preserved c =
+loop-r-preserved g c =
     let a = c.args in
-    found_step (def_at a.words.now a.bytes.now) (node_at a.path.now) (deletes a.path.now) c.loop-r.found c.loop-r.invariant
+    found_step (def_at a.words.now a.bytes.now) (node_at (g.P.PathLike.path a.path)) (deletes (g.P.PathLike.path a.path)) c.loop-r.found c.loop-r.invariant
     c.in-Some.ensures.steps c.contains_node_after-found.ensures
 
 pub returns : goal.returns
-returns c =
+returns g c =
     let a = c.args in
-    found_end (def_at a.words.now a.bytes.now) (node_at a.path.now) (deletes a.path.now) c.loop-r.found c.loop-r.invariant
+    found_end (def_at a.words.now a.bytes.now) (node_at (g.P.PathLike.path a.path)) (deletes (g.P.PathLike.path a.path)) c.loop-r.found c.loop-r.invariant
     c.in-None.ensures.steps.0

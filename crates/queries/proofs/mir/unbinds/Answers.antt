@@ -4,15 +4,14 @@ use Rattle.definition_log.specs.meaning.ReadBack.{read_defs}
 use Rattle.queries.proofs.Fold.{labels_at, live_base}
 use Rattle.queries.proofs.mir.unbinds.Goals as goal
 
-pub returns-then-not-lies_under : goal.returns-then-not-lies_under
-returns-then-not-lies_under c =
+pub returns-then-holds : goal.returns-then-holds
+returns-then-holds g c =
     let a = c.args in
-    sym (live_base (labels_at a.label.now a.path.now) a.base.now (read_defs a.words.now a.bytes.now a.first)
-    ∙ rw (sym c.lies_under.ensures ∙ c.if-not-lies_under.true) refl)
+    c.unbinds_in.ensures ∙ sym (live_base (labels_at a.label.now a.path.now) (g.B.PathLike.path a.base)
+    (read_defs a.words.now a.bytes.now a.first) ∙ rw (sym c.holds.ensures ∙ c.if-holds.true) refl)
 
-pub returns : goal.returns
-returns c =
+pub returns-else-holds : goal.returns-else-holds
+returns-else-holds g c =
     let a = c.args in
-    c.unbinds_in.ensures ∙ sym (live_base (labels_at a.label.now a.path.now) a.base.now
-    (read_defs a.words.now a.bytes.now a.first) ∙ rw
-    (sym c.lies_under.ensures ∙ c.if-not-lies_under.false) refl)
+    c.if-holds.false ∙ sym (live_base (labels_at a.label.now a.path.now) (g.B.PathLike.path a.base)
+    (read_defs a.words.now a.bytes.now a.first) ∙ rw (sym c.holds.ensures ∙ c.if-holds.false) refl)
