@@ -1,23 +1,25 @@
--- Rows 8 and 9 first, then 1 or 0 (Answers).
-use mathlib.Core.Path.{refl}
+-- Rows 8 and 9 first, then 1 or 0 (QueryAnswers).
+use mathlib.Core.Path.{◌≡◌, refl}
+use mathlib.Core.Bool.{Bool, true, false, cond}
+use mir.Val.{bool_byte}
+use Rattle.std.proofs.lemmas.Result.{err_from_is_err_and}
+use Rattle.definition_log.proofs.Answers.{refused_number}
 use Rattle.queries.proofs.QueryAnswers.{contains_refused, contains_answered}
 use Rattle.queries.proofs.query.contains_node.Goals as goal
 
-pub returns-then-refusal-ne-SUCCESS : goal.returns-then-refusal-ne-SUCCESS
-returns-then-refusal-ne-SUCCESS c =
+pub returns-in_err-refused : goal.returns-in_err-refused
+returns-in_err-refused c =
     let a = c.args in
-    contains_refused a.words.now a.bytes.now a.path.now _ c.refused-refusal.ensures c.if-refusal-ne-SUCCESS.true
+    let p = err_from_is_err_and c.from_residual.result c.from_residual.ensures.1 in
+    rw (p.1, p.2) (contains_refused a.words.now a.bytes.now a.path.now _ c.in_err-refused.ensures (refused_number _))
 
-pub returns-then-contains_node_in : goal.returns-then-contains_node_in
-returns-then-contains_node_in c =
-    let a = c.args in
-    contains_answered a.words.now a.bytes.now a.path.now _ _ _ _ c.refused-refusal.ensures
-    c.if-refusal-ne-SUCCESS.false c.out_field.ensures
-    c.contains_node_in.ensures (rw c.if-contains_node_in.true refl)
+-- a truth as a number
+as_number : (t : Bool) → bool_byte t ≡ cond t 1 0
+as_number true = refl
+as_number false = refl
 
 pub returns : goal.returns
 returns c =
     let a = c.args in
-    contains_answered a.words.now a.bytes.now a.path.now _ _ _ _ c.refused-refusal.ensures
-    c.if-refusal-ne-SUCCESS.false c.out_field.ensures
-    c.contains_node_in.ensures (rw c.if-contains_node_in.false refl)
+    contains_answered a.words.now a.bytes.now a.path.now _ _ _ _ c.in_ok-refused.ensures refl c.out_field-first.ensures
+    c.contains_node_in-found.ensures (as_number c.contains_node_in-found.result)
