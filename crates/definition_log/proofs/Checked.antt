@@ -31,7 +31,8 @@ count_some w t =
     (λ m. absurd (not_both {t = true} refl (rw (z, m) at t))))
 
 -- the lowest record at fault by marks that are those of the links: record 0 by its own links, the others by the marks
-lowest_by_marks : (w b : List ℕ) (x : List Mark) → 1 ≤ log_count w → ((k : ℕ) → k < log_count w → get_or x k Unmet ≡ marked w (followed w) k Unmet)
+lowest_by_marks : (w b : List ℕ) (x : List Mark) → 1 ≤ log_count w
+    → ((k : ℕ) → k < log_count w → get_or x k Unmet ≡ marked w (followed w) k Unmet)
     → first_by (log_count w) w b x 0 ≡ lowest_fault w b
 unfolding lowest_fault first_by fault_by
 lowest_by_marks w b x s h =
@@ -45,7 +46,8 @@ lowest_by_marks w b x s h =
     go n k e rest = rw (e, rest) refl
 
 -- the lowest record at fault, of marks that start as zeros
-pub checked : (n : ℕ) (w b : List ℕ) (m : List Mark) (q : List ℕ) (x : List Mark) (f : Soundness) → x ≡ all_marks w m q → f ≡ first_by (log_count w) w b x 0 → m ≡ replicate n Unmet
+pub checked : (n : ℕ) (w b : List ℕ) (m : List Mark) (q : List ℕ) (x : List Mark) (f : Soundness) → x ≡ all_marks w m q
+    → f ≡ first_by (log_count w) w b x 0 → m ≡ replicate n Unmet
     → q ≡ replicate n 0 → log_count w ≤ n
     → wrong_count w ≡ false → f ≡ soundness w b
 unfolding soundness

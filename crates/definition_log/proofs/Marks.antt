@@ -96,7 +96,8 @@ fault_by_mark w b ls r z =
     (λ t. rw t refl))
 
 -- and so is the lowest of them found
-pub first_by_marks : (left : ℕ) (w b : List ℕ) (m : List Mark) (ls : List Link) (r : ℕ) → 1 ≤ r → ((k : ℕ) → k < r + left → get_or m k Unmet ≡ marked w ls k Unmet)
+pub first_by_marks : (left : ℕ) (w b : List ℕ) (m : List Mark) (ls : List Link) (r : ℕ) → 1 ≤ r
+    → ((k : ℕ) → k < r + left → get_or m k Unmet ≡ marked w ls k Unmet)
     → first_by left w b m r ≡ first_fault left w b ls r
 unfolding first_by first_fault
 first_by_marks zero w b m ls r p h = refl

@@ -33,13 +33,15 @@ unfolding held
 held_link m q n i h = met_at q n i h
 
 -- those that record 0's links lead to
-pub walk_all : (w : List ℕ) (m : List Mark) (q : List ℕ) (m' : List Mark) (q' : List ℕ) (n : ℕ) → length q' ≡ length q → held m' q' n ≡ follow_all w (head_links w) (held m q 0)
+pub walk_all : (w : List ℕ) (m : List Mark) (q : List ℕ) (m' : List Mark) (q' : List ℕ) (n : ℕ) → length q' ≡ length q
+    → held m' q' n ≡ follow_all w (head_links w) (held m q 0)
     → (expand (length q') w 0 (held m' q' n)).marks ≡ all_marks w m q
 unfolding all_marks
 walk_all w m q m' q' n l e = rw (l, e) refl
 
 -- x is what the marks are in the end, and the invariant says that it is decided by the records that are left
-module _ (w : List ℕ) (m : List Mark) (q : List ℕ) (n i : ℕ) (x : List Mark) (inv : x ≡ (expand (length q - i) w i (held m q n)).marks) where
+module _ (w : List ℕ) (m : List Mark) (q : List ℕ) (n i : ℕ) (x : List Mark)
+    (inv : x ≡ (expand (length q - i) w i (held m q n)).marks) where
   -- the queue has no more
   pub walk_end : length q ≤ i → m ≡ x
   unfolding expand held

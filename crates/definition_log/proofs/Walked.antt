@@ -253,7 +253,8 @@ module _ (w : List ℕ) (r : ℕ) (final : Mark) (lt : r < log_count w) where
       (λ t. rw t (went_end head s g (ltb-false _ _ t)))
 
 -- the start: no record is met, and record 0's links wait
-ready_start : (w : List ℕ) (m : List Mark) (q : List ℕ) → ((r : ℕ) → r < log_count w → get_or m r Unmet ≡ Unmet) → log_count w ≤ length m → log_count w ≤ length q
+ready_start : (w : List ℕ) (m : List Mark) (q : List ℕ)
+    → ((r : ℕ) → r < log_count w → get_or m r Unmet ≡ Unmet) → log_count w ≤ length m → log_count w ≤ length q
     → Ready w 0 (most_links w) (held m q 0) [] (head_links w)
 unfolding held flat times
 ready_start w m q z a b =
@@ -281,11 +282,13 @@ unfolding held
 start_room m q = refl
 
 -- the marks in the end are those after all links that are followed
-pub marks_say : (w : List ℕ) (m : List Mark) (q : List ℕ) → ((r : ℕ) → r < log_count w → get_or m r Unmet ≡ Unmet) → log_count w ≤ length m → log_count w ≤ length q
+pub marks_say : (w : List ℕ) (m : List Mark) (q : List ℕ)
+    → ((r : ℕ) → r < log_count w → get_or m r Unmet ≡ Unmet) → log_count w ≤ length m → log_count w ≤ length q
     → (r : ℕ) → r < log_count w → get_or (all_marks w m q) r Unmet ≡ marked w (followed w) r Unmet
 unfolding all_marks followed
 marks_say w m q z a b r h =
     went_all w r (marked w (followed w) r Unmet) h (length q) 0 (follow_all w (head_links w) (held m q 0))
-    (went_links w 0 r (marked w (followed w) r Unmet) h (head_links w) (most_links w) (held m q 0) [] (inside_heads w) (ready_start w m q z a b)
+    (went_links w 0 r (marked w (followed w) r Unmet) h (head_links w) (most_links w) (held m q 0) [] (inside_heads w)
+    (ready_start w m q z a b)
     (rw (start_waits w m q, start_marks m q, z r h) refl))
     (omega (arith, room_all w (head_links w) (held m q 0), start_room m q))

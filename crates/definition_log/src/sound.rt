@@ -1,5 +1,7 @@
 // Row 8's test of a log that a caller lends, any words and any bytes: first every link that can be reached is followed and marks the record
 // that it leads to (links), then the records are tried in rising order.
+#![tactic(auto, unfolding(crate::specs::meaning::Sound::heads_out, crate::specs::meaning::Sound::links_out, crate::specs::meaning::Sound::texts_out, crate::specs::meaning::Sound::spans_reversed, crate::specs::meaning::Sound::path_wrong, crate::specs::meaning::Sound::any_of, crate::specs::machine::Walk::record_wrong, crate::specs::machine::Walk::fault_by))]
+
 ghost use Rattle.std.specs.Prelude.{◌≤◌, false, not, cond, ◌≡◌, eqb, ltb};
 ghost use Rattle.definition_log.specs.meaning.Record.{one_of, has_children, has_span, has_name_span, log_count, kind_of, child_of, m_of};
 ghost use Rattle.definition_log.specs.meaning.Record.{out_field, span_start, span_end, name_start, name_end, leads_out, extension_kind};

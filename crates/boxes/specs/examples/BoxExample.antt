@@ -4,7 +4,8 @@ use Rattle.boxes.specs.meaning.Box.{is_packed, two_digits, pack, value_behind, p
 use Rattle.boxes.specs.meaning.Box.{no_box, read_answer, returns0, write_number, write_answer, write_out}
 
 -- high digit first, in a byte and along the bytes
-pub digits : (packed_value (0x12 ∷ 0x34 ∷ []) ≡ Some 1234) × (packed_value (0x00 ∷ 0x07 ∷ []) ≡ Some 7) × (packed_value (0x99 ∷ []) ≡ Some 99)
+pub digits : (packed_value (0x12 ∷ 0x34 ∷ []) ≡ Some 1234)
+    × (packed_value (0x00 ∷ 0x07 ∷ []) ≡ Some 7) × (packed_value (0x99 ∷ []) ≡ Some 99)
 unfolding packed_value value_behind is_packed two_digits
 digits = (refl, refl, refl)
 

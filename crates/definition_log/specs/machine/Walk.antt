@@ -121,4 +121,5 @@ fault_by words bytes mark r = cond (eqb r 0) (heads_out words) (fault_marked mar
 -- the lowest record at fault by the marks, of so many from r on
 unfoldable pub first_by : ℕ → List ℕ → List ℕ → List Mark → ℕ → Soundness
 first_by zero words bytes marks r = sound
-first_by (suc left) words bytes marks r = cond (fault_by words bytes (get_or marks r Unmet) r) (broken r) (first_by left words bytes marks (r + 1))
+first_by (suc left) words bytes marks r =
+    cond (fault_by words bytes (get_or marks r Unmet) r) (broken r) (first_by left words bytes marks (r + 1))

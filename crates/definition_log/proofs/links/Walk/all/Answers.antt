@@ -25,7 +25,8 @@ pub loop-i-preserved : goal.loop-i-preserved
 loop-i-preserved g c =
     let s = c.loop-i.self in
     let k = same_length _ _ _ _ _ _ _ _ c.record.ensures in
-    (omega (arith, k), walk_next c.args.words.now s.marks s.queue s.met c.loop-i.i _ c.loop-i.invariant.1 _ _ _ (omega arith) (omega arith) k c.record.ensures)
+    let next = walk_next c.args.words.now s.marks s.queue s.met c.loop-i.i _ c.loop-i.invariant.1 _ _ _ in
+    (omega (arith, k), next (omega arith) (omega arith) k c.record.ensures)
 
 pub returns : goal.returns
 returns g c =
