@@ -1,14 +1,16 @@
 -- Starts of files, one by one.
-use Prim.Native.Nat.{ℕ, suc, ◌+◌, ◌-◌, ◌≤◌, ◌<◌}
+use Prim.Native.Nat.{ℕ, zero, suc, ◌+◌, ◌≤◌, ◌<◌}
 use mathlib.Core.Path.{◌≡◌, refl, sym, ap, ◌∙◌}
 use mathlib.Core.Bool.{Bool, true, false, cond}
 use mathlib.Core.List.{List, [], ◌∷◌}
 use native.Mathlib.Omega.{arith}
-use borrow.Author.Tests.{eqb-true, leb-true, leb-false, ltb-true, lt-ltb, le-ltb, le-leb, lt-leb, eq-eqb, ne_eqb}
+use borrow.Author.Tests.{eqb-true, leb-true, ltb-true, le-leb, lt-leb}
 use lib.Dec.{eqb, leb, ltb}
 use Rattle.paths_numbers.proofs.Texts.{by_test, not_both, both}
 use lib.ListN.{length, get_or, drop, drop_of_length-le}
 use lib.Seq.{drop-cons}
+use native.Mathlib.Numerals.{add-one}
+use Rattle.std.specs.List.{IsAllAdjacentAnswer}
 use Rattle.files.specs.meaning.Files.{most_files, rises, good_files, last_from, file_of}
 
 -- the last start not above a place: one more, and none left
@@ -24,66 +26,43 @@ pub last_done : (found i place : ℕ) (s : List ℕ) → length s ≤ i → last
 unfolding last_from
 last_done found i place s h = rw (drop_of_length-le s h) refl
 
--- a rising list, two entries at a time
-pub rise_here : (s : List ℕ) (j : ℕ) → j + 1 < length s
-    → rises (drop j s) ≡ cond (ltb (get_or s j 0) (get_or s (j + 1) 0)) (rises (drop (j + 1) s)) false
+-- a list rises where each entry is above the one before it, and does not where one is not
+all_rise : (s : List ℕ) → ((k d : ℕ) → suc k < length s → true ≡ ltb (get_or s k d) (get_or s (suc k) d)) → rises s ≡ true
 unfolding rises
-rise_here s j h =
-    let i : suc j ≡ j + 1 = omega arith in
-    let e : drop j s ≡ get_or s j 0 ∷ drop (j + 1) s = drop-cons s j 0 (omega arith) ∙ ap (λ (k : ℕ). get_or s j 0 ∷ drop k s) i in
-    let d = drop-cons s (j + 1) 0 h in
-    ap rises (e ∙ ap (λ (l : List ℕ). get_or s j 0 ∷ l) d)
-    ∙ ap (λ (l : List ℕ). cond (ltb (get_or s j 0) (get_or s (j + 1) 0)) (rises l) false) (sym d)
+all_rise [] f = refl
+all_rise (a ∷ []) f = refl
+all_rise (a ∷ b ∷ l) f = rw (sym (f 0 0 (omega arith))) (all_rise (b ∷ l) (λ k d h. f (suc k) d (omega arith)))
 
-pub rise_done : (s : List ℕ) (j : ℕ) → length s ≤ j + 1 → rises (drop j s) ≡ true
+one_falls : (s : List ℕ) (k : ℕ) → suc k < length s → ((d : ℕ) → false ≡ ltb (get_or s k d) (get_or s (suc k) d)) → rises s ≡ false
 unfolding rises
-rise_done s j h =
-    by_test (leb (length s) j)
-    (λ t. rw (drop_of_length-le s (leb-true (length s) j t)) refl)
-    (λ t.
-    let i : suc j ≡ j + 1 = omega arith in
-    rw (drop-cons s j 0 (leb-false (length s) j t), i, drop_of_length-le s h) refl)
+one_falls [] k h f = absurd (omega arith)
+one_falls (a ∷ []) k h f = absurd (omega arith)
+one_falls (a ∷ b ∷ l) zero h f = rw (sym (f 0)) refl
+one_falls (a ∷ b ∷ l) (suc k) h f =
+    let e = one_falls (b ∷ l) k (omega arith) f in
+    by_test (ltb a b) (λ t. rw t e) (λ t. rw t refl)
 
--- the same by the later of the two
-module _ (s : List ℕ) (i : ℕ) (o : 1 ≤ i) (h : i < length s) where
-  later : i - 1 + 1 ≡ i
-  later = omega arith
-
-  two : rises (drop (i - 1) s) ≡ cond (ltb (get_or s (i - 1) 0) (get_or s i 0)) (rises (drop i s)) false
-  two =
-      rise_here s (i - 1) (omega (arith, later))
-      ∙ ap (λ (k : ℕ). cond (ltb (get_or s (i - 1) 0) (get_or s k 0)) (rises (drop k s)) false) later
-
-  pub falls : get_or s i 0 ≤ get_or s (i - 1) 0 → rises (drop (i - 1) s) ≡ false
-  falls e = two ∙ simp (le-ltb (get_or s (i - 1) 0) (get_or s i 0) e)
-
-  pub goes_up : get_or s (i - 1) 0 < get_or s i 0 → rises (drop (i - 1) s) ≡ rises (drop (i + 1 - 1) s)
-  goes_up e =
-      let k : i + 1 - 1 ≡ i = omega arith in
-      two ∙ ap (λ (t : Bool). cond t (rises (drop i s)) false) (lt-ltb (get_or s (i - 1) 0) (get_or s i 0) e)
-      ∙ ap (λ (j : ℕ). rises (drop j s)) (sym k)
+-- so the library's answer is that
+pub rises_by : (s : List ℕ) (r : Bool) → IsAllAdjacentAnswer (λ a b t. t ≡ ltb a b) s r → r ≡ rises s
+rises_by s true f = sym (all_rise s (λ k d h. let q : k + 1 < length s = omega arith in rw add-one at (f k d q)))
+rises_by s false (k, h, f) = sym (one_falls s k (omega arith) (λ d. rw add-one at (f d)))
 
 -- a list by its tests
-pub no_files_lem : (s : List ℕ) → length s ≡ 0 → good_files s ≡ false
-unfolding good_files
-no_files_lem [] e = refl
-no_files_lem (a ∷ l) e = absurd (omega arith)
-
 pub too_many : (s : List ℕ) → most_files < length s → good_files s ≡ false
 unfolding good_files
 too_many [] h = refl
 too_many (a ∷ l) h = rw (lt-leb (length (a ∷ l)) most_files h) refl
 
-pub not_from_0 : (s : List ℕ) → (get_or s 0 0 ≡ 0 → ⊥) → good_files s ≡ false
+-- 1 stands for a first entry that is not there
+pub not_from_0 : (s : List ℕ) → eqb (get_or s 0 1) 0 ≡ false → good_files s ≡ false
 unfolding good_files
-not_from_0 [] n = absurd (n refl)
-not_from_0 (a ∷ l) n =
-    by_test (leb (length (a ∷ l)) most_files) (λ t. rw (t, ne_eqb a 0 n) refl) (λ t. rw t refl)
+not_from_0 [] e = refl
+not_from_0 (a ∷ l) e = by_test (leb (length (a ∷ l)) most_files) (λ t. rw (t, e) refl) (λ t. rw t refl)
 
-pub from_0 : (s : List ℕ) → (length s ≡ 0 → ⊥) → length s ≤ most_files → get_or s 0 0 ≡ 0 → rises s ≡ good_files s
+pub from_0 : (s : List ℕ) → length s ≤ most_files → eqb (get_or s 0 1) 0 ≡ true → rises s ≡ good_files s
 unfolding good_files
-from_0 [] n h e = absurd (n refl)
-from_0 (a ∷ l) n h e = sym (rw (le-leb (length (a ∷ l)) most_files h, eq-eqb a 0 e) refl)
+from_0 [] h e = absurd (not_both e refl)
+from_0 (a ∷ l) h e = sym (rw (le-leb (length (a ∷ l)) most_files h, e) refl)
 
 -- a good list is short
 pub good_few : (s : List ℕ) → good_files s ≡ true → length s ≤ most_files

@@ -1,21 +1,23 @@
-use mathlib.Core.Path.{refl, sym, ◌∙◌}
-use native.Mathlib.Omega.{arith}
+use Rattle.std.proofs.Common.{refl, sym, ◌∙◌, arith, le-leb}
+use borrow.Author.Tests.{lt-leb}
 use Rattle.files.specs.meaning.Files.{file_of}
 use Rattle.files.proofs.Starts.{last_here, last_done}
 use Rattle.files.proofs.files.file_of.Goals as goal
+use Rattle.files.proofs.files.file_of.Goals.{then-start-place, else-start-place}
 
 pub loop-i-init : goal.loop-i-init
 unfolding file_of
-loop-i-init c = (omega arith, refl)
+loop-i-init c = refl
 
 pub loop-i-preserved : goal.loop-i-preserved
 loop-i-preserved c =
-    let s = c.args.starts.now in
     let l = c.loop-i in
-    (omega arith, l.invariant.1 ∙ last_here l.found l.i _ s (omega arith) ∙ rw c.later-found.ensures refl)
+    elim c.if-start-place.branch [
+      | then-start-place w ↦ l.invariant ∙ last_here l.found l.i _ c.args.starts.now (omega arith) ∙ rw (le-leb _ _ w.if-start-place.true, w.found-is) refl
+      | else-start-place w ↦ l.invariant ∙ last_here l.found l.i _ c.args.starts.now (omega arith) ∙ rw (lt-leb _ _ w.if-start-place.false, w.found-is) refl
+    ]
 
 pub returns : goal.returns
 returns c =
-    let s = c.args.starts.now in
     let l = c.loop-i in
-    sym (l.invariant.1 ∙ last_done l.found l.i _ s (omega arith))
+    sym (l.invariant ∙ last_done l.found l.i _ c.args.starts.now (omega arith))
