@@ -4,10 +4,13 @@ ghost use Rattle.std.specs.Prelude.{◌≤◌, length};
 use crate::field::{FIELD, first};
 use boxes::box_number::{read_box, write_box};
 use definition_log::answer::SUCCESS;
-use paths_numbers::dt_property::BitsSize;
+use paths_numbers::codes::Code;
+use paths_numbers::dt_property::{BitsSize, BytesError, MissingDigit};
+use paths_numbers::operators::EvalError;
 use paths_numbers::text::equals;
 use paths_numbers::{dt_node, dt_property, expr_eval, mir, operators, phandle};
 use slashes::slash::{Found, next_slash};
+use std::fmt::Display;
 use std::io;
 use std::io::Write;
 
@@ -49,16 +52,16 @@ fn answer_number<W: Write>(
     c: &[u8],
 ) -> io::Result<()> {
     if equals(kind, b"i64") {
-        return signed(out, a);
+        return number_or_code(out, expr_eval::parse_int_tok_i64(a));
     }
     if equals(kind, b"width") {
-        return width(out, a);
+        return number_or_code(out, BitsSize::from_token(a).map(|size| size.bits() as u64));
     }
     if equals(kind, b"cell") {
-        return cell(out, dt_property::expr_cell(value_of(b), size_of(a)));
+        return number_or_code(out, dt_property::expr_cell(value_of(b), size_of(a)));
     }
     if equals(kind, b"char") {
-        return cell(out, dt_property::char_cell(small_of(b), size_of(a)));
+        return number_or_code(out, dt_property::char_cell(small_of(b), size_of(a)));
     }
     if equals(kind, b"prefix") {
         return evaluated(out, operators::eval_prefix(small_of(a), value_of(b)));
@@ -70,7 +73,7 @@ fn answer_number<W: Write>(
         );
     }
     if 1 <= kind.len() {
-        return unsigned(out, a, size_of(&kind[1..]));
+        return number_or_code(out, expr_eval::parse_int_tok(a, size_of(&kind[1..])));
     }
     Ok(())
 }
@@ -108,19 +111,13 @@ fn join<W: Write>(out: &mut W, parent: &[u8], name: &[u8]) -> io::Result<()> {
 // The bytes of a bytestring in hex digits.
 fn bytes<W: Write>(out: &mut W, text: &[u8]) -> io::Result<()> {
     let mut room = [0u8; FIELD];
-    let written = dt_property::lower_bytestring(text, &mut room, 0);
-    match written {
-        dt_property::BytesWritten::Bytes(n) => {
+    match dt_property::lower_bytestring(text, &mut room, 0) {
+        Ok(n) => {
             equal_sign(out)?;
             print_hex(out, first(&room, n))
         }
-        dt_property::BytesWritten::MissingDigit => {
-            code(
-                out,
-                dt_property::count_code(dt_property::ByteCount::MissingDigit),
-            )
-        }
-        dt_property::BytesWritten::NoRoom => print(out, b"?"),
+        Err(BytesError::MissingDigit) => code(out, MissingDigit.code()),
+        Err(BytesError::NoRoom) => print(out, b"?"),
     }
 }
 
@@ -177,45 +174,22 @@ fn write_packed<W: Write>(out: &mut W, n: usize, value: u64, room: &mut [u8]) ->
     code(out, done.number)
 }
 
-// A number's reading at an unsigned width.
-fn unsigned<W: Write>(out: &mut W, text: &[u8], size: BitsSize) -> io::Result<()> {
-    let parsed = expr_eval::parse_int_tok(text, size);
-    match parsed {
-        expr_eval::ParsedInt::Value(n) => number(out, n),
-        expr_eval::ParsedInt::Failed(e) => code(out, expr_eval::int_code(e)),
+// A number, or the code of why there is none.
+fn number_or_code<W: Write, T: Display + Drop, E: Code>(
+    out: &mut W,
+    r: Result<T, E>,
+) -> io::Result<()> {
+    match r {
+        Ok(n) => number(out, n),
+        Err(e) => code(out, e.code()),
     }
 }
 
-// A number's signed reading.
-fn signed<W: Write>(out: &mut W, text: &[u8]) -> io::Result<()> {
-    let parsed = expr_eval::parse_int_tok_i64(text);
-    match parsed {
-        expr_eval::ParsedI64::Value(n) => integer(out, n),
-        expr_eval::ParsedI64::Failed(e) => code(out, expr_eval::int_code(e)),
-    }
-}
-
-// A cell list's width.
-fn width<W: Write>(out: &mut W, text: &[u8]) -> io::Result<()> {
-    let read = BitsSize::from_token(text);
-    match read {
-        dt_property::SizeRead::Size(size) => number(out, size.bits() as u64),
-        _ => code(out, dt_property::size_code(read)),
-    }
-}
-
-fn cell<W: Write>(out: &mut W, c: dt_property::Cell) -> io::Result<()> {
-    match c {
-        dt_property::Cell::Number(n) => number(out, n),
-        _ => code(out, dt_property::cell_code(c)),
-    }
-}
-
-fn evaluated<W: Write>(out: &mut W, e: operators::Evaluated) -> io::Result<()> {
-    match e {
-        operators::Evaluated::Value(n) => integer(out, n),
-        operators::Evaluated::Missing => print(out, b"!"),
-        _ => code(out, operators::eval_code(e)),
+// An operator's result, or the code of why there is none; a missing operator has no code.
+fn evaluated<W: Write>(out: &mut W, r: Result<i64, EvalError>) -> io::Result<()> {
+    match r {
+        Err(EvalError::Missing) => print(out, b"!"),
+        _ => number_or_code(out, r),
     }
 }
 
@@ -235,25 +209,17 @@ fn size_of(text: &[u8]) -> BitsSize {
 
 // The value of a field, 0 where it is none.
 fn value_of(text: &[u8]) -> i64 {
-    let parsed = expr_eval::parse_int_tok_i64(text);
-    if let expr_eval::ParsedI64::Value(n) = parsed {
-        return n;
-    }
-    0
+    expr_eval::parse_int_tok_i64(text).unwrap_or(0)
 }
 
 // The 32-bit value of a field, 0 where it is none.
 fn small_of(text: &[u8]) -> u32 {
-    (unsigned_of(text, BitsSize::Bits32) % 4294967296) as u32
+    u32::try_from(unsigned_of(text, BitsSize::Bits32)).unwrap_or(0)
 }
 
 // The value of a field at an unsigned width, 0 where it is none.
 fn unsigned_of(text: &[u8], size: BitsSize) -> u64 {
-    let parsed = expr_eval::parse_int_tok(text, size);
-    if let expr_eval::ParsedInt::Value(n) = parsed {
-        return n;
-    }
-    0
+    expr_eval::parse_int_tok(text, size).unwrap_or(0)
 }
 
 fn equal_sign<W: Write>(out: &mut W) -> io::Result<()> {
@@ -265,18 +231,9 @@ fn code<W: Write>(out: &mut W, n: u32) -> io::Result<()> {
     write!(out, "{n}")
 }
 
-fn number<W: Write>(out: &mut W, n: u64) -> io::Result<()> {
+fn number<W: Write, T: Display + Drop>(out: &mut W, n: T) -> io::Result<()> {
     equal_sign(out)?;
     write!(out, "{n}")
-}
-
-fn integer<W: Write>(out: &mut W, n: i64) -> io::Result<()> {
-    equal_sign(out)?;
-    if n < 0 {
-        print(out, b"-")?;
-    }
-    let size = operators::size(n);
-    write!(out, "{size}")
 }
 
 fn print<W: Write>(out: &mut W, s: &[u8]) -> io::Result<()> {
