@@ -18,38 +18,132 @@ use definition_log::limits::{FEW_RECORDS, MOST_RECORDS};
 // The hash of "/".
 const ROOT_HASH: u32 = 47;
 
-// Enters a definition with a path, behind which so many are later, into its list.
-pub fn enter_at(heads: &mut [u32], links: &mut [u32], deleted: bool, path: &[u8], later: usize)
-    requires { RoomForOne heads.old links.old later }
-    ensures heads_after { heads.new ≡ set heads.old
-        (slot_of (length heads.old) deleted (hash_from 0 path.now)) (later + 1) }
-    ensures links_after { links.new ≡ set links.old later
-        (get_or heads.old (slot_of (length heads.old) deleted (hash_from 0 path.now)) 0) }
-{
-    enter(heads, links, deleted, hash_of(path), later);
+// The arrays of such a table.
+#[derive(Drop)]
+pub struct LaterTable<'a> {
+    pub heads: &'a mut [u32],
+    pub links: &'a mut [u32],
 }
 
-// The same, with the path's hash.
-pub fn enter(heads: &mut [u32], links: &mut [u32], deleted: bool, hash: u32, later: usize)
-    requires { RoomForOne heads.old links.old later }
-    ensures heads_after { heads.new ≡ set heads.old (slot_of (length heads.old) deleted hash) (later + 1) }
-    ensures links_after { links.new ≡ set links.old later
-        (get_or heads.old (slot_of (length heads.old) deleted hash) 0) }
-{
-    let slot = slot_of(heads.len(), deleted, hash);
-    links[later] = heads[slot];
-    heads[slot] = (later + 1) as u32;
+impl LaterTable<'_> {
+    // Enters a definition with a path, behind which so many are later, into its list.
+    pub fn enter_at(&mut self, deleted: bool, path: &[u8], later: usize)
+        requires { RoomForOne self.old.heads.now self.old.links.now later }
+        ensures heads_after { self.new.heads.now ≡ set self.old.heads.now
+            (slot_of (length self.old.heads.now) deleted (hash_from 0 path.now)) (later + 1) }
+        ensures links_after { self.new.links.now ≡ set self.old.links.now later
+            (get_or self.old.heads.now (slot_of (length self.old.heads.now) deleted (hash_from 0 path.now)) 0) }
+    {
+        self.enter(deleted, hash_of(path), later);
+    }
+
+    // The same, with the path's hash.
+    pub fn enter(&mut self, deleted: bool, hash: u32, later: usize)
+        requires { RoomForOne self.old.heads.now self.old.links.now later }
+        ensures heads_after { self.new.heads.now ≡ set self.old.heads.now
+            (slot_of (length self.old.heads.now) deleted hash) (later + 1) }
+        ensures links_after { self.new.links.now ≡ set self.old.links.now later
+            (get_or self.old.heads.now (slot_of (length self.old.heads.now) deleted hash) 0) }
+    {
+        let slot = slot_of(self.heads.len(), deleted, hash);
+        self.links[later] = self.heads[slot];
+        self.heads[slot] = (later + 1) as u32;
+    }
+
+    // Whether a later definition is a deleted node at a path, which has this hash, or a property or
+    // deleted property there.
+    pub fn holds(
+        &self,
+        words: &[u32],
+        bytes: &[u8],
+        later: &[u32],
+        deleted: bool,
+        path: &[u8],
+        hash: u32,
+    ) -> bool
+        requires holds { Holds (def_at words.now bytes.now) (takes_at deleted path.now) self.now.links.now later.now
+            (get_or self.now.heads.now (slot_of (length self.now.heads.now) deleted hash) 0) }
+        requires sized { Sized self.now.heads.now self.now.links.now later.now }
+        ensures { result ≡ any (takes_at deleted path.now)
+            (map (def_at words.now bytes.now) later.now) }
+    {
+        let slot = slot_of(self.heads.len(), deleted, hash);
+        finds(words, bytes, later, self.links, self.heads[slot], deleted, path)
+    }
+
+    // Whether a later definition deletes the node at a path or one above it, and the path's hash. Each
+    // byte goes into the hash, so that the loop goes byte by byte.
+    pub fn look_above(&self, words: &[u32], bytes: &[u8], later: &[u32], path: &[u8]) -> Above
+        requires deleted { Deleted (def_at words.now bytes.now) self.now.heads.now self.now.links.now later.now }
+        requires sized { Sized self.now.heads.now self.now.links.now later.now }
+        ensures { result ≡ record {
+          deleted = any (deletes path.now)
+              (map (def_at words.now bytes.now) later.now);
+          hash = hash_from 0 path.now;
+        } }
+    {
+        let mut deleted = self.root_deleted(words, bytes, later, path);
+        let mut hash: u32 = 0;
+        for (i, b) in path.iter().enumerate() {
+            if *b == b'/' {
+                deleted = self.or_deleted(words, bytes, later, &path[..i], hash, deleted);
+            }
+            hash = mix(hash, *b);
+        }
+        Above {
+            deleted: self.or_deleted(words, bytes, later, path, hash, deleted),
+            hash,
+        }
+    }
+
+    // Whether a later definition deletes "/", where a path lies under it.
+    fn root_deleted(&self, words: &[u32], bytes: &[u8], later: &[u32], path: &[u8]) -> bool
+        requires deleted { Deleted (def_at words.now bytes.now) self.now.heads.now self.now.links.now later.now }
+        requires sized { Sized self.now.heads.now self.now.links.now later.now }
+        ensures { result ≡ cond (starts_with slash path.now)
+            (any (deleted_at root) (map (def_at words.now bytes.now) later.now)) false }
+    {
+        if path.len() == 0 {
+            return false;
+        }
+        if path[0] != b'/' {
+            return false;
+        }
+        self.or_deleted(words, bytes, later, &path[..1], ROOT_HASH, false)
+    }
+
+    // Whether a later definition deletes the node at a path, which has this hash, if none was found before.
+    fn or_deleted(
+        &self,
+        words: &[u32],
+        bytes: &[u8],
+        later: &[u32],
+        path: &[u8],
+        hash: u32,
+        found: bool,
+    ) -> bool
+        requires deleted { Deleted (def_at words.now bytes.now) self.now.heads.now self.now.links.now later.now }
+        requires sized { Sized self.now.heads.now self.now.links.now later.now }
+        requires hash_value { hash ≡ hash_from 0 path.now }
+        ensures { result ≡ cond found true (any (deleted_at path.now)
+            (map (def_at words.now bytes.now) later.now)) }
+    {
+        found || self.holds(words, bytes, later, true, path, hash)
+    }
+}
+
+// Whether a later definition deletes the node at a path or one above it, and the path's hash.
+#[derive(Clone, Copy, Debug, PartialEq, Eq)]
+pub struct Above {
+    pub deleted: bool,
+    pub hash: u32,
 }
 
 // The slot of a hash among so many heads.
 fn slot_of(heads: usize, deleted: bool, hash: u32) -> usize
     ensures { result ≡ slot_of heads deleted hash }
 {
-    let place = place_of(heads, hash);
-    if deleted {
-        return place * 2 + 1;
-    }
-    place * 2
+    place_of(heads, hash) * 2 + usize::from(deleted)
 }
 
 // The place of a hash in either half of so many heads.
@@ -63,28 +157,6 @@ fn place_of(heads: usize, hash: u32) -> usize
         return (hash % 4096) as usize;
     }
     (hash % 32768) as usize
-}
-
-// Whether a later definition is a deleted node at a path, which has this hash, or a property or
-// deleted property there.
-pub fn holds(
-    words: &[u32],
-    bytes: &[u8],
-    later: &[u32],
-    heads: &[u32],
-    links: &[u32],
-    deleted: bool,
-    path: &[u8],
-    hash: u32,
-) -> bool
-    requires holds { Holds (def_at words.now bytes.now) (takes_at deleted path.now) links.now later.now
-        (get_or heads.now (slot_of (length heads.now) deleted hash) 0) }
-    requires sized { Sized heads.now links.now later.now }
-    ensures { result ≡ any (takes_at deleted path.now)
-        (map (def_at words.now bytes.now) later.now) }
-{
-    let slot = slot_of(heads.len(), deleted, hash);
-    finds(words, bytes, later, links, heads[slot], deleted, path)
 }
 
 // Whether a list holds a deleted node at a path, or a property or deleted property there.
@@ -102,6 +174,7 @@ fn finds(
     ensures { result ≡ any (takes_at deleted path.now)
         (map (def_at words.now bytes.now) later.now) }
 {
+    // kept: an entry is found by the one before it, which no iterator of the library does over an array
     let mut e = first as usize;
     while 0 < e {
         if takes_at(words, bytes, later[later.len() - e], deleted, path) {
@@ -120,99 +193,6 @@ fn takes_at(words: &[u32], bytes: &[u8], r: u32, deleted: bool, path: &[u8]) -> 
         return is_deleted_at(words, bytes, r, path);
     }
     overwrites_at(words, bytes, r, path)
-}
-
-// Whether a later definition deletes the node at a path or one above it, and the path's hash.
-#[derive(Clone, Copy, Debug, PartialEq, Eq)]
-pub struct Above {
-    pub deleted: bool,
-    pub hash: u32,
-}
-
-// The same of a path. Each byte goes into the hash, so that the loop goes byte by byte.
-pub fn look_above(
-    words: &[u32],
-    bytes: &[u8],
-    later: &[u32],
-    heads: &[u32],
-    links: &[u32],
-    path: &[u8],
-) -> Above
-    requires deleted { Deleted (def_at words.now bytes.now) heads.now links.now later.now }
-    requires sized { Sized heads.now links.now later.now }
-    ensures { result ≡ record {
-      deleted = any (deletes path.now)
-          (map (def_at words.now bytes.now) later.now);
-      hash = hash_from 0 path.now;
-    } }
-{
-    let mut deleted = root_deleted(words, bytes, later, heads, links, path);
-    let mut hash: u32 = 0;
-    for (i, b) in path.iter().enumerate() {
-        if *b == b'/' {
-            deleted = or_deleted(words, bytes, later, heads, links, &path[..i], hash, deleted);
-        }
-        hash = mix(hash, *b);
-    }
-    Above {
-        deleted: or_deleted(words, bytes, later, heads, links, path, hash, deleted),
-        hash,
-    }
-}
-
-// Whether a later definition deletes "/", where a path lies under it.
-fn root_deleted(
-    words: &[u32],
-    bytes: &[u8],
-    later: &[u32],
-    heads: &[u32],
-    links: &[u32],
-    path: &[u8],
-) -> bool
-    requires deleted { Deleted (def_at words.now bytes.now) heads.now links.now later.now }
-    requires sized { Sized heads.now links.now later.now }
-    ensures { result ≡ cond (starts_with slash path.now)
-        (any (deleted_at root) (map (def_at words.now bytes.now) later.now)) false }
-{
-    if path.len() == 0 {
-        return false;
-    }
-    if path[0] != b'/' {
-        return false;
-    }
-    or_deleted(
-        words,
-        bytes,
-        later,
-        heads,
-        links,
-        &path[..1],
-        ROOT_HASH,
-        false,
-    )
-}
-
-// Whether a later definition deletes the node at a path, which has this hash, if none was found before.
-fn or_deleted(
-    words: &[u32],
-    bytes: &[u8],
-    later: &[u32],
-    heads: &[u32],
-    links: &[u32],
-    path: &[u8],
-    hash: u32,
-    found: bool,
-) -> bool
-    requires deleted { Deleted (def_at words.now bytes.now) heads.now links.now later.now }
-    requires sized { Sized heads.now links.now later.now }
-    requires hash_value { hash ≡ hash_from 0 path.now }
-    ensures { result ≡ cond found true (any (deleted_at path.now)
-        (map (def_at words.now bytes.now) later.now)) }
-{
-    if found {
-        return true;
-    }
-    holds(words, bytes, later, heads, links, true, path, hash)
 }
 
 // The hash of a path.

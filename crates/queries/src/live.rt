@@ -8,7 +8,7 @@ ghost use Rattle.queries.specs.meaning.Query.{live_numbers};
 ghost use Rattle.queries.specs.machine.Lists.{live_in};
 ghost use Rattle.queries.specs.machine.Table.{least_heads, many_heads, Table, Room, RoomForOne, Listed};
 
-use crate::later::{enter, enter_at, holds, look_above};
+use crate::later::LaterTable;
 use crate::list::fit;
 use definition_log::chain::chain;
 use definition_log::kinds::{DELETED_NODE, DELETED_PROPERTY, PROPERTY};
@@ -52,9 +52,11 @@ fn live_within<const N: usize>(
     let mut links = [0u32; N];
     let mut room = [0u32; N];
     let order = chain_order(words, first, &mut numbers);
-    let live = live_of(
-        words, bytes, base, order, &mut heads, &mut links, &mut room,
-    );
+    let mut table = LaterTable {
+        heads: &mut heads,
+        links: &mut links,
+    };
+    let live = live_of(words, bytes, base, order, &mut table, &mut room);
     fit(list, live);
     live.len() as u32
 }
@@ -78,17 +80,16 @@ fn live_of<'a>(
     bytes: &[u8],
     base: &[u8],
     order: &[u32],
-    heads: &mut [u32],
-    links: &mut [u32],
+    table: &mut LaterTable<'_>,
     live: &'a mut [u32],
 ) -> &'a [u32]
-    requires { Room (length order.now) order.now heads.old links.old live.old }
+    requires { Room (length order.now) order.now table.old.heads.now table.old.links.now live.old }
     ensures { result.now ≡ live_numbers (def_at words.now bytes.now) base.now order.now }
 {
     let mut count = 0;
     for i in (0..order.len()).rev() {
         let r = order[i];
-        if pass(words, bytes, base, r, &order[i + 1..], heads, links) {
+        if pass(words, bytes, base, r, &order[i + 1..], table) {
             live[count] = r;
             count += 1;
         }
@@ -104,37 +105,36 @@ fn pass(
     base: &[u8],
     r: u32,
     later: &[u32],
-    heads: &mut [u32],
-    links: &mut [u32],
+    table: &mut LaterTable<'_>,
 ) -> bool
-    requires table { Table (def_at words.now bytes.now) base.now (length heads.old) heads.old links.old later.now }
-    requires room_for_one { RoomForOne heads.old links.old (length later.now) }
+    requires table { Table (def_at words.now bytes.now) base.now (length table.old.heads.now)
+        table.old.heads.now table.old.links.now later.now }
+    requires room_for_one { RoomForOne table.old.heads.now table.old.links.now (length later.now) }
     ensures value { result ≡ is_live base.now (def_at words.now bytes.now r)
         (map (def_at words.now bytes.now) later.now) }
-    ensures table_2 { Table (def_at words.now bytes.now) base.now (length heads.new)
-        heads.new links.new (r ∷ later.now) }
+    ensures table_2 { Table (def_at words.now bytes.now) base.now (length table.new.heads.now)
+        table.new.heads.now table.new.links.now (r ∷ later.now) }
+    ensures lengths { (length table.new.heads.now ≡ length table.old.heads.now)
+        × (length table.new.links.now ≡ length table.old.links.now) }
 {
     let kind = kind_of(words, r);
     let path = first_text(words, bytes, r);
     if kind == DELETED_NODE {
-        enter_at(heads, links, true, path, later.len());
+        table.enter_at(true, path, later.len());
         return false;
     }
     if !lies_under(path, base) {
         return false;
     }
     if kind == DELETED_PROPERTY {
-        enter_at(heads, links, false, path, later.len());
+        table.enter_at(false, path, later.len());
         return false;
     }
-    let above = look_above(words, bytes, later, heads, links, path);
+    let above = table.look_above(words, bytes, later, path);
     if kind != PROPERTY {
         return !above.deleted;
     }
-    let overwritten = holds(words, bytes, later, heads, links, false, path, above.hash);
-    enter(heads, links, false, above.hash, later.len());
-    if above.deleted {
-        return false;
-    }
-    !overwritten
+    let overwritten = table.holds(words, bytes, later, false, path, above.hash);
+    table.enter(false, above.hash, later.len());
+    !(above.deleted || overwritten)
 }

@@ -15,8 +15,10 @@ loop-i-init c =
     let a = c.args in
     (
       omega arith,
+      refl,
+      refl,
       rw (drop-length a.order.now)
-          (table_start (def_at a.words.now a.bytes.now) a.base.now a.heads.now a.links.now c.requires.zeros),
+          (table_start (def_at a.words.now a.bytes.now) a.base.now a.table.now.heads.now a.table.now.links.now c.requires.zeros),
       sym (live_none (def_at a.words.now a.bytes.now) a.base.now a.order.now),
     )
 
@@ -24,7 +26,7 @@ pub pass-requires-clause-table : goal.pass-requires-clause-table
 pass-requires-clause-table c =
     let l = c.loop-i in
     let n : l.i - 1 + 1 ≡ l.i = omega (arith, c.loop-i-test.true) in
-    rw (n, part_on c.args.order.now l.i) l.invariant.1
+    rw (n, part_on c.args.order.now l.i) l.invariant.3
 
 pub loop-i-preserved-then-pass : goal.loop-i-preserved-then-pass
 loop-i-preserved-then-pass c =
@@ -37,10 +39,12 @@ loop-i-preserved-then-pass c =
     (sym q.value ∙ c.if-pass.true) in
     (
       omega (arith, l.invariant.0, c.loop-i-test.true),
+      q.lengths.0 ∙ l.invariant.1,
+      q.lengths.1 ∙ l.invariant.2,
       rw (sym before) at q.table_2,
       take_more_set l.live l.count (get_or a.order.now (l.i - 1) 0)
           (omega (arith, l.invariant.0, c.loop-i-test.true, c.requires.for_live, l.auto.live))
-          ∙ rw (l.invariant.2, e) refl,
+          ∙ rw (l.invariant.4, e) refl,
     )
 
 pub loop-i-preserved : goal.loop-i-preserved
@@ -52,10 +56,16 @@ loop-i-preserved c =
     let before = one_before (def_at a.words.now a.bytes.now) a.base.now a.order.now l.i c.loop-i-test.true (omega (arith, l.invariant.0)) in
     let e = live_passed (def_at a.words.now a.bytes.now) a.base.now a.order.now l.i c.loop-i-test.true (omega (arith, l.invariant.0))
     (sym q.value ∙ c.if-pass.false) in
-    (omega (arith, l.invariant.0), rw (sym before) at q.table_2, l.invariant.2 ∙ sym e)
+    (
+      omega (arith, l.invariant.0),
+      q.lengths.0 ∙ l.invariant.1,
+      q.lengths.1 ∙ l.invariant.2,
+      rw (sym before) at q.table_2,
+      l.invariant.4 ∙ sym e,
+    )
 
 pub returns : goal.returns
 returns c =
     let l = c.loop-i in
     let z : l.i ≡ 0 = omega (arith, c.loop-i-test.false) in
-    rw z at l.invariant.2
+    rw z at l.invariant.4

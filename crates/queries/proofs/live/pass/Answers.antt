@@ -1,60 +1,62 @@
 -- By the kind, the base and what is looked up (Turn).
-use mathlib.Core.Path.{sym, ap, ◌∙◌}
-use mathlib.Core.Bool.{Bool, true, not, cond}
+use mathlib.Core.Path.{◌≡◌, refl, sym, ap, ◌∙◌}
+use mathlib.Core.Bool.{true, not, cond}
 use native.Mathlib.Omega.{arith}
+use lib.ListN.{length, length-set}
 use Rattle.definition_log.specs.meaning.ReadBack.{def_at}
 use Rattle.queries.specs.declared.later.Above.{Above}
 use Rattle.queries.proofs.Table.{deleted_held, overwrites_held}
 use Rattle.queries.proofs.Turn.{turn_deleted_node, turn_outside, turn_deleted_property, turn_other, turn_property}
 use Rattle.queries.proofs.live.pass.Goals as goal
+use Rattle.queries.proofs.live.pass.Goals.{then-above, else-above}
 
 pub returns-then-kind-eq-DELETED_NODE : goal.returns-then-kind-eq-DELETED_NODE
 returns-then-kind-eq-DELETED_NODE c =
     let a = c.args in
-    let told = turn_deleted_node a.words.now a.bytes.now a.r a.base.now a.heads.now a.links.now a.later.now _
+    let told = turn_deleted_node a.words.now a.bytes.now a.r a.base.now a.table.now.heads.now a.table.now.links.now a.later.now _
     c.kind_of-kind.ensures _
     c.first_text-path.ensures c.requires.room_for_one.0 c.requires.room_for_one.1 c.requires.table
     c.if-kind-eq-DELETED_NODE.true _ _
-    c.enter_at.ensures.heads_after c.enter_at.ensures.links_after in record { value = told.0; table_2 = told.1 }
+    c.enter_at.ensures.heads_after c.enter_at.ensures.links_after in record { value = told.0; table_2 = told.1; lengths = (ap length c.enter_at.ensures.heads_after ∙ simp length-set, ap length c.enter_at.ensures.links_after ∙ simp length-set) }
 
 pub returns-then-not-lies_under : goal.returns-then-not-lies_under
 returns-then-not-lies_under c =
     let a = c.args in
-    let told = turn_outside a.words.now a.bytes.now a.r a.base.now a.heads.now a.links.now a.later.now _
+    let told = turn_outside a.words.now a.bytes.now a.r a.base.now a.table.now.heads.now a.table.now.links.now a.later.now _
     c.kind_of-kind.ensures _ c.first_text-path.ensures c.requires.room_for_one.0 c.requires.room_for_one.1 c.requires.table
-    c.if-kind-eq-DELETED_NODE.false (sym c.lies_under.ensures ∙ c.if-not-lies_under.true) in record { value = told.0; table_2 = told.1 }
+    c.if-kind-eq-DELETED_NODE.false (sym c.lies_under.ensures ∙ c.if-not-lies_under.true) in record { value = told.0; table_2 = told.1; lengths = (refl, refl) }
 
 pub returns-then-kind-eq-DELETED_PROPERTY : goal.returns-then-kind-eq-DELETED_PROPERTY
 returns-then-kind-eq-DELETED_PROPERTY c =
     let a = c.args in
-    let told = turn_deleted_property a.words.now a.bytes.now a.r a.base.now a.heads.now a.links.now a.later.now _
+    let told = turn_deleted_property a.words.now a.bytes.now a.r a.base.now a.table.now.heads.now a.table.now.links.now a.later.now _
     c.kind_of-kind.ensures _
     c.first_text-path.ensures c.requires.room_for_one.0 c.requires.room_for_one.1
     c.requires.table c.if-kind-eq-DELETED_NODE.false
     (sym c.lies_under.ensures
     ∙ c.if-not-lies_under.false)
     c.if-kind-eq-DELETED_PROPERTY.true _ _
-    c.enter_at-then-kind-eq-DELETED_PROPERTY.ensures.heads_after c.enter_at-then-kind-eq-DELETED_PROPERTY.ensures.links_after in record { value = told.0; table_2 = told.1 }
+    c.enter_at-then-kind-eq-DELETED_PROPERTY.ensures.heads_after c.enter_at-then-kind-eq-DELETED_PROPERTY.ensures.links_after in record { value = told.0; table_2 = told.1; lengths = (ap length c.enter_at-then-kind-eq-DELETED_PROPERTY.ensures.heads_after ∙ simp length-set, ap length c.enter_at-then-kind-eq-DELETED_PROPERTY.ensures.links_after ∙ simp length-set) }
 
 pub look_above-above-requires : goal.look_above-above-requires
 look_above-above-requires c =
-    let a = c.args in record { deleted = deleted_held (def_at a.words.now a.bytes.now) a.base.now a.heads.now a.links.now a.later.now c.requires.room_for_one.0 c.requires.table; sized = (c.requires.room_for_one.0, omega arith) }
+    let a = c.args in record { deleted = deleted_held (def_at a.words.now a.bytes.now) a.base.now a.table.now.heads.now a.table.now.links.now a.later.now c.requires.room_for_one.0 c.requires.table; sized = (c.requires.room_for_one.0, omega arith) }
 
 pub returns-then-kind-ne-PROPERTY : goal.returns-then-kind-ne-PROPERTY
 returns-then-kind-ne-PROPERTY c =
     let a = c.args in
-    let told = turn_other a.words.now a.bytes.now a.r a.base.now a.heads.now a.links.now a.later.now _
+    let told = turn_other a.words.now a.bytes.now a.r a.base.now a.table.now.heads.now a.table.now.links.now a.later.now _
     c.kind_of-kind.ensures _
     c.first_text-path.ensures c.requires.room_for_one.0 c.requires.room_for_one.1 c.requires.table
     c.if-kind-eq-DELETED_NODE.false
     (sym c.lies_under.ensures
     ∙ c.if-not-lies_under.false) c.if-kind-eq-DELETED_PROPERTY.false
-    _ (ap (λ (b : Above). b.deleted) c.look_above-above.ensures) c.if-kind-ne-PROPERTY.true in record { value = told.0; table_2 = told.1 }
+    _ (ap (λ (b : Above). b.deleted) c.look_above-above.ensures) c.if-kind-ne-PROPERTY.true in record { value = told.0; table_2 = told.1; lengths = (refl, refl) }
 
 pub holds-overwritten-requires : goal.holds-overwritten-requires
 holds-overwritten-requires c =
     let a = c.args in record {
-      holds = overwrites_held (def_at a.words.now a.bytes.now) a.base.now a.heads.now a.links.now a.later.now c.requires.room_for_one.0
+      holds = overwrites_held (def_at a.words.now a.bytes.now) a.base.now a.table.now.heads.now a.table.now.links.now a.later.now c.requires.room_for_one.0
           c.requires.table
           _ (sym c.lies_under.ensures
           ∙ c.if-not-lies_under.false) _
@@ -66,30 +68,15 @@ pub enter-requires : goal.enter-requires
 enter-requires c =
     (c.requires.room_for_one.0, c.requires.room_for_one.1, c.requires.room_for_one.2)
 
-pub returns-then-above : goal.returns-then-above
-returns-then-above c =
-    let a = c.args in
-    let t = turn_property a.words.now a.bytes.now a.r a.base.now a.heads.now a.links.now a.later.now _
-    c.kind_of-kind.ensures _
-    c.first_text-path.ensures c.requires.room_for_one.0 c.requires.room_for_one.1 c.requires.table
-    c.if-kind-eq-DELETED_NODE.false (sym
-    c.lies_under.ensures ∙ c.if-not-lies_under.false)
-    c.if-kind-eq-DELETED_PROPERTY.false _ (ap (λ (b : Above). b.deleted)
-    c.look_above-above.ensures)
-    c.if-kind-ne-PROPERTY.false _
-    c.holds-overwritten.ensures _
-    (ap (λ (b : Above). b.hash)
-    c.look_above-above.ensures) _ _
-    c.enter.ensures.heads_after c.enter.ensures.links_after in record {
-      value = ap (λ (g : Bool). not (cond g true c.holds-overwritten.result))
-          (sym c.if-above.true) ∙ t.0;
-      table_2 = t.1;
-    }
-
 pub returns : goal.returns
 returns c =
     let a = c.args in
-    let t = turn_property a.words.now a.bytes.now a.r a.base.now a.heads.now a.links.now a.later.now _
+    let e : c.if-above.result ≡ cond c.look_above-above.result.deleted true c.holds-overwritten.result =
+    elim c.if-above.branch [
+      | then-above w ↦ w.result-is ∙ rw w.if-above.true refl
+      | else-above w ↦ w.result-is ∙ rw w.if-above.false refl
+    ] in
+    let t = turn_property a.words.now a.bytes.now a.r a.base.now a.table.now.heads.now a.table.now.links.now a.later.now _
     c.kind_of-kind.ensures _
     c.first_text-path.ensures c.requires.room_for_one.0 c.requires.room_for_one.1 c.requires.table
     c.if-kind-eq-DELETED_NODE.false (sym
@@ -101,7 +88,7 @@ returns c =
     (ap (λ (b : Above). b.hash)
     c.look_above-above.ensures) _ _
     c.enter.ensures.heads_after c.enter.ensures.links_after in record {
-      value = ap (λ (g : Bool). not (cond g true c.holds-overwritten.result))
-          (sym c.if-above.false) ∙ t.0;
+      value = ap not e ∙ t.0;
       table_2 = t.1;
+      lengths = (ap length c.enter.ensures.heads_after ∙ simp length-set, ap length c.enter.ensures.links_after ∙ simp length-set);
     }

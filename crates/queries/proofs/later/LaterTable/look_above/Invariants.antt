@@ -8,7 +8,7 @@ use Rattle.paths_numbers.specs.meaning.Lists.{any}
 use Rattle.queries.specs.meaning.Live.{deletes}
 use Rattle.queries.specs.machine.Table.{hash_from}
 use Rattle.queries.proofs.Fronts.{above_from, deleted_in}
-use Rattle.queries.proofs.later.look_above.Given as goal
+use Rattle.queries.proofs.later.LaterTable.look_above.Given as goal
 
 abbrev pub invariant-loop-i : goal.invariant-loop-i
 invariant-loop-i l = (l.hash ≡ hash_from 0 (take l.i l.path))

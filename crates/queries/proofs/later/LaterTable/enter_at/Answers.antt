@@ -1,5 +1,5 @@
 -- By its hash.
-use Rattle.queries.proofs.later.enter_at.Goals as goal
+use Rattle.queries.proofs.later.LaterTable.enter_at.Goals as goal
 
 pub returns : goal.returns
 returns c = rw (← c.hash_of.ensures) c.enter.ensures

@@ -2,25 +2,25 @@
 use native.Mathlib.Omega.{arith}
 use lib.ListN.{length}
 use Rattle.queries.proofs.Table.{slot_most}
-use Rattle.queries.proofs.later.holds.Goals as goal
+use Rattle.queries.proofs.later.LaterTable.holds.Goals as goal
 
-pub offset_bounds-heads-slot : goal.offset_bounds-heads-slot
-offset_bounds-heads-slot c =
+pub offset_bounds-self-slot : goal.offset_bounds-self-slot
+offset_bounds-self-slot c =
     let a = c.args in
     omega (
       arith,
       c.slot_of-slot.ensures,
-      slot_most (length a.heads.now) a.deleted a.hash
+      slot_most (length a.self.now.heads.now) a.deleted a.hash
           c.requires.sized.0,
     )
 
-pub bounds-heads-slot : goal.bounds-heads-slot
-bounds-heads-slot c =
+pub bounds-self-slot : goal.bounds-self-slot
+bounds-self-slot c =
     let a = c.args in
     omega (
       arith,
       c.slot_of-slot.ensures,
-      slot_most (length a.heads.now) a.deleted a.hash
+      slot_most (length a.self.now.heads.now) a.deleted a.hash
           c.requires.sized.0,
     )
 

@@ -4,7 +4,7 @@ use native.Mathlib.Omega.{arith}
 use Rattle.definition_log.specs.meaning.ReadBack.{def_at}
 use Rattle.queries.specs.machine.Table.{hash_from}
 use Rattle.queries.proofs.Fronts.{deleted_in, above_start, above_next, above_end, hash_step, hash_end}
-use Rattle.queries.proofs.later.look_above.Goals as goal
+use Rattle.queries.proofs.later.LaterTable.look_above.Goals as goal
 
 pub loop-i-init : goal.loop-i-init
 unfolding hash_from

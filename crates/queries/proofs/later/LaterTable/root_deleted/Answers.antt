@@ -4,7 +4,7 @@ use native.Mathlib.Omega.{arith}
 use lib.Seq.{length-take-le}
 use mathlib.Core.Path.{refl}
 use Rattle.queries.proofs.Fronts.{first_none, first_other, first_slash, root_hash}
-use Rattle.queries.proofs.later.root_deleted.Goals as goal
+use Rattle.queries.proofs.later.LaterTable.root_deleted.Goals as goal
 
 pub returns-then-path-eq0 : goal.returns-then-path-eq0
 returns-then-path-eq0 c = rw (first_none c.args.path.now c.if-path-eq0.true) refl
