@@ -51,7 +51,7 @@ bare_def k span name_span p = record { path = p; value = bare_value k; span = me
 -- the words of a record with these two spans
 abbrev pub spanned_rec : ℕ → ℕ → ℕ → declared.Span → declared.Span → Rec
 spanned_rec kind n m span name_span =
-    record { kind = kind; n = n; m = m; from = span.from; to = span.to; name_from = name_span.from; name_to = name_span.to }
+    record { kind = kind; n = n; m = m; span = span; name_span = name_span }
 
 -- and of one without
 abbrev pub no_span : declared.Span
