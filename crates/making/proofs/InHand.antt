@@ -1,21 +1,21 @@
 -- A log in the making read back by the heads of its chains, as queries read it.
 use Prim.Native.Nat.{ℕ, ◌+◌, ◌*◌, ◌-◌, ◌≤◌}
 use mathlib.Core.Path.{◌≡◌, refl, sym, ap, subst, ◌∙◌}
-use mathlib.Core.Bool.{Bool, true, false}
+use mathlib.Core.Bool.{true, false}
 use mathlib.Core.List.{List, [], ◌∷◌, ◌++◌, map}
 use native.Mathlib.Omega.{arith}
 use borrow.Author.Tests.{eqb-true}
 use lib.ListN.{length, replicate}
 use Rattle.paths_numbers.specs.meaning.Text.{is_empty}
 use Rattle.paths_numbers.specs.meaning.Path.{root}
-use Rattle.paths_numbers.proofs.Texts.{by_test, not_both, both}
+use Rattle.paths_numbers.proofs.Texts.{not_both, both}
 use Rattle.making.specs.declared.ctx.LowerCtx.{LowerCtx}
 use Rattle.making.specs.declared.place.PathAt.TheVariants as P
 use Rattle.definition_log.specs.meaning.Contents.{Def}
 use Rattle.making.specs.meaning.State.{State}
 use Rattle.definition_log.specs.meaning.Record.{log_count, out_field, text_start, text_length, second_start, second_length, first_text, second_text}
 use Rattle.definition_log.specs.meaning.ReadBack.{chain_of, read_defs, read_bindings}
-use Rattle.making.specs.machine.Events.{Event, defs_of, bindings, first, last, start_of, end_of, members, all_words, def_of, defs_in}
+use Rattle.making.specs.machine.Events.{Event, defs_of, bindings, first, start_of, end_of, members, all_words, def_of, defs_in}
 use Rattle.making.specs.machine.Events.{binding_of}
 use Rattle.making.specs.machine.Buffers.{Layout}
 use Rattle.making.specs.machine.PathPlaces.{place_len, path_in}

@@ -22,7 +22,7 @@ use Rattle.definition_log.specs.meaning.ReadBack.{chain_of}
 use Rattle.making.specs.machine.Events.{Event, defs_of, bindings, diagnostics, post_diagnostics, children_of, in_chain, first}
 use Rattle.making.specs.machine.Events.{last, start_of, words16, bytes_in, members}
 use Rattle.making.specs.machine.Buffers.{Layout}
-use Rattle.making.specs.machine.PathPlaces.{path_of, path_in}
+use Rattle.making.specs.machine.PathPlaces.{path_in}
 use Rattle.making.specs.machine.Made.{sixteen, set_link, end_link, with_diag, ran_short, one_more, makes, counted, made_words}
 use Rattle.making.specs.machine.Made.{made_bytes, Told}
 use Rattle.making.specs.machine.Holding.{diags_of, Runs}

@@ -1,14 +1,13 @@
 -- Paths that stand in the bytes: their lengths, and that what is written behind them leaves them.
-use Prim.Native.Nat.{ℕ, ◌+◌, ◌-◌, ◌≤◌, ◌<◌}
+use Prim.Native.Nat.{ℕ, ◌+◌, ◌≤◌, ◌<◌}
 use mathlib.Core.Path.{◌≡◌, refl, sym, ap, ◌∙◌}
-use mathlib.Core.Bool.{true, false}
 use mathlib.Core.List.{List, [], ◌∷◌, ◌++◌, append_assoc}
 use native.Mathlib.Omega.{arith}
-use borrow.Author.Tests.{le-leb, lt-leb, leb-true, leb-false}
+use borrow.Author.Tests.{le-leb, lt-leb, leb-true}
 use lib.Dec.{leb}
 use lib.ListN.{length, get_or, take, drop, set, get_or-append}
 use lib.Seq.{ext_get_or, get_or-take, length-take-le}
-use Rattle.paths_numbers.specs.meaning.Path.{root, joined, built_out}
+use Rattle.paths_numbers.specs.meaning.Path.{root}
 use Rattle.paths_numbers.specs.meaning.Text.{written}
 use Rattle.paths_numbers.proofs.Texts.{by_test}
 use Rattle.paths_numbers.proofs.Written.{written_nil, written_cons, written_length}
@@ -20,7 +19,7 @@ use Rattle.making.specs.declared.text.Piece.TheVariants as C
 use Rattle.making.specs.declared.text.Text.{Text}
 use Rattle.making.specs.declared.text.Text.TheVariants as T
 use Rattle.making.specs.machine.Texts.{piece_in, text_said}
-use Rattle.definition_log.proofs.Texts.{part, part_length, part_at, text_within}
+use Rattle.definition_log.proofs.Texts.{part, part_length, part_at}
 
 -- "/" is itself, and a place whose bytes do not lie among those in use is the empty one
 pub settled_root : (used : ℕ) (bytes : List ℕ) → P.Root ≡ settled used bytes P.Root

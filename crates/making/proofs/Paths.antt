@@ -1,7 +1,7 @@
 -- The paths of records that are there, read at their places in the bytes.
 use Prim.Native.Nat.{ℕ, ◌+◌, ◌-◌, ◌≤◌}
 use mathlib.Core.Path.{◌≡◌, refl, sym, ap, ◌∙◌}
-use mathlib.Core.Bool.{true, false}
+use mathlib.Core.Bool.{true}
 use mathlib.Core.List.{List, [], ◌∷◌, ◌++◌}
 use native.Mathlib.Omega.{arith}
 use lib.ListN.{length}
@@ -11,7 +11,7 @@ use Rattle.making.specs.declared.place.PathAt.TheVariants as P
 use Rattle.definition_log.specs.meaning.Record.{text_in}
 use Rattle.making.specs.machine.Events.{Event, start_of, end_of}
 use Rattle.making.specs.machine.Buffers.{Layout}
-use Rattle.making.specs.machine.PathPlaces.{path_in, path_of}
+use Rattle.making.specs.machine.PathPlaces.{path_in}
 use Rattle.making.proofs.PathPlaces.{path_bytes, settled_there}
 use Rattle.making.proofs.ReadEvents.{text_at_lem}
 use Rattle.making.proofs.Removing.{splits_of, end_above}

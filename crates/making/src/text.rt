@@ -81,14 +81,7 @@ fn write_path(used: u32, bytes: &mut [u8], at: usize, path: PathAt)
 }
 
 // Writes the path of a name under a path.
-fn write_joined(
-    used: u32,
-    bytes: &mut [u8],
-    at: usize,
-    path: PathAt,
-    name: Piece<'_>,
-    unit: &[u8],
-)
+fn write_joined(used: u32, bytes: &mut [u8], at: usize, path: PathAt, name: Piece<'_>, unit: &[u8])
     requires { (used ≤ at)
         × (at + length (joined (path_in used bytes.old path) (piece_in used bytes.old name) unit.now) ≤ length bytes.old) }
     ensures { bytes.new ≡ written bytes.old at

@@ -1,10 +1,8 @@
-use Rattle.std.proofs.Common.{◌≡◌, ◌+◌, ℕ, List, length, refl, sym, ap, ◌∙◌, arith, add-zero, length-set, get_or}
+use Rattle.std.proofs.Common.{◌≡◌, ◌+◌, length, refl, ◌∙◌, arith, add-zero, length-set}
 use lib.Seq.{get_or-set_other}
-use Rattle.paths_numbers.specs.meaning.Path.{joined, largest_usize}
+use Rattle.paths_numbers.specs.meaning.Path.{largest_usize}
 use Rattle.paths_numbers.proofs.Lengths.{kept}
 use Rattle.paths_numbers.proofs.Written.{written_byte, written_all}
-use Rattle.making.specs.machine.PathPlaces.{path_in}
-use Rattle.making.specs.machine.Texts.{piece_in}
 use Rattle.making.proofs.PathPlaces.{path_same, piece_same}
 use Rattle.making.proofs.text.write_joined.Invariants.{said}
 use Rattle.making.proofs.text.write_joined.Goals as goal

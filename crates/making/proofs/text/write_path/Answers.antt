@@ -1,5 +1,5 @@
 -- One byte, or a copy.
-use Rattle.std.proofs.Common.{◌≡◌, ℕ, ◌+◌, List, length, sym, ap, ◌∙◌, arith}
+use Rattle.std.proofs.Common.{length, sym, ap, ◌∙◌, arith}
 use Rattle.paths_numbers.specs.meaning.Text.{written}
 use Rattle.definition_log.proofs.Texts.{part_length}
 use Rattle.making.proofs.PathPlaces.{settled_in, path_root, path_bytes, written_one}

@@ -7,10 +7,11 @@ use Rattle.making.proofs.ctx.LowerCtx.admits.Goals.{then-self-via-then-self, the
 pub returns-then-self : goal.returns-then-self
 returns-then-self c =
     let a = c.args in
-    elim c.then-self.branch
-    [ then-self-via-then-self w ↦ makes_short a.self a.words.now a.bytes.now a.size a.link w.if-self.true
-    | then-self-via-else-self+then-words-link w ↦
-        makes_unlinked a.self a.words.now a.bytes.now a.size a.link w.if-self.false w.if-words-link.true ]
+    elim c.then-self.branch [
+      | then-self-via-then-self w ↦ makes_short a.self a.words.now a.bytes.now a.size a.link w.if-self.true
+      | then-self-via-else-self+then-words-link w ↦
+          makes_unlinked a.self a.words.now a.bytes.now a.size a.link w.if-self.false w.if-words-link.true
+    ]
 
 pub returns : goal.returns
 returns c =

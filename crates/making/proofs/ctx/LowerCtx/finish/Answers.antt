@@ -1,5 +1,5 @@
 -- The tests are those of `finished`, and the words are written at once (Ending).
-use Rattle.std.proofs.Common.{refl, sym, ◌∙◌, arith}
+use Rattle.std.proofs.Common.{refl, sym, ◌∙◌}
 use borrow.Author.Tests.{lt-ltb, le-ltb}
 use Rattle.making.specs.machine.Finished.{finished, head16}
 use Rattle.making.proofs.Ending.{finishing}
@@ -12,9 +12,10 @@ unfolding finished
 returns-then-self c =
     let a = c.args in
     finishing a.self a.words.now _ a.diags
-    (elim c.then-self.branch
-    [ then-self-via-then-self w ↦ simp w.if-self.true
-    | then-self-via-else-self+then-words-lt-RECORD_WORDS w ↦ simp (w.if-self.false, lt-ltb _ _ w.if-words-lt-RECORD_WORDS.true) ])
+    (elim c.then-self.branch [
+      | then-self-via-then-self w ↦ simp w.if-self.true
+      | then-self-via-else-self+then-words-lt-RECORD_WORDS w ↦ simp (w.if-self.false, lt-ltb _ _ w.if-words-lt-RECORD_WORDS.true)
+    ])
 
 pub returns : goal.returns
 unfolding finished head16

@@ -1,5 +1,5 @@
 -- By where the bytes end (PathPlaces).
-use Rattle.std.proofs.Common.{arith, le-leb, refl}
+use Rattle.std.proofs.Common.{le-leb, refl}
 use Rattle.making.specs.machine.PathPlaces.{settled, stands}
 use Rattle.making.proofs.PathPlaces.{settled_behind, settled_outside}
 use Rattle.making.proofs.place.PathAt.settle.Goals as goal
@@ -17,6 +17,7 @@ pub returns : goal.returns
 returns c =
     let a = c.args in
     rw c.in-Bytes.is
-    (elim c.else-end-used.branch
-    [ else-end-used-via-then-end-used+else-end-bytes w ↦ settled_outside a.used a.bytes.now _ _ w.if-end-bytes.false
-    | else-end-used-via-else-end-used w ↦ settled_behind a.used a.bytes.now _ _ w.if-end-used.false ])
+    (elim c.else-end-used.branch [
+      | else-end-used-via-then-end-used+else-end-bytes w ↦ settled_outside a.used a.bytes.now _ _ w.if-end-bytes.false
+      | else-end-used-via-else-end-used w ↦ settled_behind a.used a.bytes.now _ _ w.if-end-used.false
+    ])
