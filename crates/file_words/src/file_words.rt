@@ -23,10 +23,9 @@ pub fn put_files(words: &mut [u32], records: u32, starts: &[u32])
     requires starts_len_bound { length starts.now ≤ most_files }
     ensures { FilesPut starts.now words.old words.new records }
 {
-    let mut r: usize = 0;
-    while r < (records as usize) {
+    // kept: an index, since what `chunks_exact_mut` lends leaves no word of it known
+    for r in 0..(records as usize) {
         put_record(words, r * layout::RECORD_WORDS, starts);
-        r += 1;
     }
 }
 

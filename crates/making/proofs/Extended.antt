@@ -109,8 +109,8 @@ module _ (es : List Event) (x₀ log : ℕ) (r₁ r₂ : Rec) (u v : List ℕ) (
       → exts_in x₀ fs ≡ exts_in x₀ es ++ record {
         target = target;
         body = defs_in log es;
-        span = record { from = r₁.from; to = r₁.to };
-        name_span = record { from = r₁.name_from; to = r₁.name_to };
+        span = record { from = r₁.span.from; to = r₁.span.to };
+        name_span = record { from = r₁.name_span.from; to = r₁.name_span.to };
       } ∷ []
   unfolding exts_in ext_of
   ext_said target tells =
@@ -195,9 +195,9 @@ module _ (k : Context) (c d₁ c₁ d₂ d outer : LowerCtx) (words bytes w₁ b
   made = record {
     target = target;
     body = t.defs;
-    span = record { from = r₁.from; to = r₁.to };
+    span = record { from = r₁.span.from; to = r₁.span.to };
     name_span = record
-        { from = r₁.name_from; to = r₁.name_to };
+        { from = r₁.name_span.from; to = r₁.name_span.to };
   }
 
   short_kept : d₂.short ≡ true → TooMuch w b (extended made s t) → Represents k d w b (extended made s t)

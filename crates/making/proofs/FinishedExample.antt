@@ -31,7 +31,13 @@ use Rattle.making.proofs.Finished.{written_log}
 
 abbrev rec : ℕ → ℕ → ℕ → ℕ → ℕ → ℕ → ℕ → Rec
 rec kind n m from to name_from name_to =
-    record { kind = kind; n = n; m = m; from = from; to = to; name_from = name_from; name_to = name_to }
+    record {
+      kind = kind;
+      n = n;
+      m = m;
+      span = record { from = from; to = to };
+      name_span = record { from = name_from; to = name_to };
+    }
 
 -- the main log's number is 0, the body's 1
 abbrev body_too : ℕ → Type 0

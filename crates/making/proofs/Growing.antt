@@ -60,9 +60,9 @@ exts_same other es fs same x q h =
 -- a place stays
 pub stands_more : {es : List Event} {p : Place} (zs : List Event) → Stands es p → Stands (es ++ zs) p
 stands_more zs (at_root a b) = at_root a b
-stands_more zs (at_top a b c d) = at_top a b c d
-stands_more zs (at_definition xs e ys l q t i a b c d) = at_definition xs e (ys ++ zs) l
-    (ap (λ (l : List Event). l ++ zs) q ∙ append_assoc xs (e ∷ ys) zs) t i a b c d
+stands_more zs (at_top a b) = at_top a b
+stands_more zs (at_definition xs e ys l q t i a b) = at_definition xs e (ys ++ zs) l
+    (ap (λ (l : List Event). l ++ zs) q ∙ append_assoc xs (e ∷ ys) zs) t i a b
 
 pub places_more : {es : List Event} {ps : List Place} (zs : List Event) → AllStand es ps → AllStand (es ++ zs) ps
 places_more zs no_places = no_places

@@ -1,6 +1,6 @@
 -- The log in hand with one record more: the ends of its chains, where the link to the record stands, and what the state and the buffers
 -- then hold.
-use Prim.Native.Nat.{ℕ, suc, ◌+◌, ◌≤◌, ◌<◌}
+use Prim.Native.Nat.{ℕ, ◌+◌, ◌≤◌, ◌<◌}
 use mathlib.Core.Path.{◌≡◌, refl, sym, ap, ◌∙◌, subst}
 use mathlib.Core.Bool.{Bool, true, false}
 use mathlib.Core.List.{List, [], ◌∷◌, ◌++◌}
@@ -12,7 +12,7 @@ use Rattle.paths_numbers.proofs.Texts.{by_test, not_both, both}
 use Rattle.making.specs.declared.ctx.Chain.{Chain}
 use Rattle.making.specs.declared.ctx.LowerCtx.{LowerCtx}
 use Rattle.making.specs.declared.ctx.Rec.{Rec}
-use Rattle.making.specs.machine.Events.{Event, defs_of, exts_of, bindings, children_of, in_chain, first, last, Ordered, ordered_next}
+use Rattle.making.specs.machine.Events.{Event, defs_of, exts_of, bindings, children_of, in_chain, last, Ordered, ordered_next}
 use Rattle.making.specs.machine.Buffers.{event_of, Layout, Exceeds, records_exceed, bytes_exceed, most_exceed}
 use Rattle.making.specs.machine.Made.{ran_short, one_more, makes, counted, made_words, made_bytes, Told, end_link, child_link, grown}
 use Rattle.making.specs.machine.Made.{with_def, with_ext, with_bind, with_diag}

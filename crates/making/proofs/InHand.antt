@@ -1,24 +1,25 @@
 -- A log in the making read back by the heads of its chains, as queries read it.
 use Prim.Native.Nat.{ℕ, ◌+◌, ◌*◌, ◌-◌, ◌≤◌}
 use mathlib.Core.Path.{◌≡◌, refl, sym, ap, subst, ◌∙◌}
-use mathlib.Core.Bool.{Bool, true, false}
+use mathlib.Core.Bool.{true, false}
 use mathlib.Core.List.{List, [], ◌∷◌, ◌++◌, map}
 use native.Mathlib.Omega.{arith}
 use borrow.Author.Tests.{eqb-true}
 use lib.ListN.{length, replicate}
 use Rattle.paths_numbers.specs.meaning.Text.{is_empty}
 use Rattle.paths_numbers.specs.meaning.Path.{root}
-use Rattle.paths_numbers.proofs.Texts.{by_test, not_both, both}
+use Rattle.paths_numbers.proofs.Texts.{not_both, both}
 use Rattle.making.specs.declared.ctx.LowerCtx.{LowerCtx}
-use Rattle.making.specs.declared.place.PathAt.{PathAt}
+use Rattle.making.specs.declared.place.PathAt.TheVariants as P
 use Rattle.definition_log.specs.meaning.Contents.{Def}
 use Rattle.making.specs.meaning.State.{State}
 use Rattle.definition_log.specs.meaning.Record.{log_count, out_field, text_start, text_length, second_start, second_length, first_text, second_text}
 use Rattle.definition_log.specs.meaning.ReadBack.{chain_of, read_defs, read_bindings}
-use Rattle.making.specs.machine.Events.{Event, defs_of, bindings, first, last, start_of, end_of, members, all_words, def_of, defs_in}
+use Rattle.making.specs.machine.Events.{Event, defs_of, bindings, first, start_of, end_of, members, all_words, def_of, defs_in}
 use Rattle.making.specs.machine.Events.{binding_of}
 use Rattle.making.specs.machine.Buffers.{Layout}
-use Rattle.making.specs.machine.PathPlaces.{place_len, path_of, stands, settled, path_in}
+use Rattle.making.specs.machine.PathPlaces.{place_len, path_in}
+use Rattle.making.proofs.PathPlaces.{path_root, settled_root}
 use Rattle.making.specs.machine.Represents.{Place, Context, log_of, Open, Stands, at_root, at_top, at_definition}
 use Rattle.making.specs.machine.Represents.{more_places, Represents, going, over, with_place, Newest}
 use Rattle.making.proofs.ReadEvents.{numbers_of}
@@ -79,23 +80,16 @@ module _ {words bytes : List ℕ} {records used : ℕ} {es : List Event} (l : La
       in_use at (a ∷ text) most h = h
 
 -- what is read at a place
-place_is : (p : PathAt) {start size : ℕ} → p.root ≡ false → p.start ≡ start → p.size ≡ size → p ≡ place_of start size
-place_is p {start} {size} a b c =
-    ap (λ (r : Bool). record { root = r; start = p.start; size = p.size }) a
-    ∙ ap (λ (i : ℕ). place_of i p.size) b
-    ∙ ap (λ (i : ℕ). place_of start i) c
-
-root_read : (used : ℕ) (bytes : List ℕ) (p : PathAt) → p.root ≡ true → path_in used bytes p ≡ root
-unfolding path_of settled
-root_read used bytes p t = by_test (stands used bytes p) (λ a. rw (a, t) refl) (λ a. rw (a, t) refl)
+root_read : (used : ℕ) (bytes : List ℕ) → path_in used bytes P.Root ≡ root
+root_read used bytes = sym (path_root used bytes P.Root (settled_root used bytes))
 
 -- the place of a definition's text
 placed : {start size : ℕ} (es xs : List Event) (e : Event) (ys : List Event) (j : ℕ) (text path : List ℕ) → e.text ≡ text
     → es ≡ xs ++ e ∷ ys → e.alive ≡ true → e.chain ≡ defs_of j → start ≡ start_of (end_of 0 xs) text → size ≡ length text → path ≡ text
     → Stands es (record { at = place_of start size; path = path })
 unfolding is_empty
-placed es xs e ys j [] path z q t i x y p = at_top refl x y p
-placed es xs e ys j (v ∷ text) path z q t i x y p = at_definition xs e ys j q t i refl x (y ∙ ap length (sym z)) (p ∙ sym z)
+placed es xs e ys j [] path z q t i x y p = at_top (rw (x, y) refl) p
+placed es xs e ys j (v ∷ text) path z q t i x y p = at_definition xs e ys j q t i (rw (x, y ∙ ap length (sym z)) refl) (p ∙ sym z)
 
 -- of the log in hand
 module _ {k : Context} {c : LowerCtx} {words bytes : List ℕ} {s : State} where
@@ -135,13 +129,13 @@ module _ {k : Context} {c : LowerCtx} {words bytes : List ℕ} {s : State} where
       going es h l cr cb o (common_as refl refl refl refl refl refl refl m) st (more_places (f es l o) ps) ss mk
 
   -- of "/", and of the empty path
-  pub root_place : (p : Place) → p.at.root ≡ true → p.path ≡ root → Represents k c words bytes s
+  pub root_place : (p : Place) → p.at ≡ P.Root → p.path ≡ root → Represents k c words bytes s
       → Represents (with_place p k) c words bytes s
   root_place p a b h = gain_place p (λ es l o. at_root a b) h
 
-  pub top_place : (p : Place) → p.at.root ≡ false → p.at.start ≡ 0 → p.at.size ≡ 0 → p.path ≡ [] → Represents k c words bytes s
+  pub top_place : (p : Place) → p.at ≡ P.Bytes 0 0 → p.path ≡ [] → Represents k c words bytes s
       → Represents (with_place p k) c words bytes s
-  top_place p a b d e h = gain_place p (λ es l o. at_top a b d e) h
+  top_place p a b h = gain_place p (λ es l o. at_top a b) h
 
   -- of a definition's path
   pub def_place : Represents k c words bytes s → (ns ms : List ℕ) (r : ℕ) → chain_of words c.defs.first ≡ ns ++ r ∷ ms
@@ -174,11 +168,10 @@ module _ {k : Context} {c : LowerCtx} {words bytes : List ℕ} {s : State} where
   place_reads {p} (going es h l cr cb o m st (more_places x ps) ss mk) n = go x
     where
       go : Stands es p → path_in c.bytes bytes p.at ≡ p.path
-      go (at_root a b) = root_read c.bytes bytes p.at a ∙ sym b
-      go (at_top a b d e) = ap (path_in c.bytes bytes) (place_is p.at a b d)
-          ∙ path_read bytes c.bytes 0 0 [] refl (omega arith) (omega arith) ∙ sym e
-      go (at_definition xs e ys j q t i a b d f) =
-          ap (path_in c.bytes bytes) (place_is p.at a b d)
+      go (at_root a b) = ap (path_in c.bytes bytes) a ∙ root_read c.bytes bytes ∙ sym b
+      go (at_top a b) = ap (path_in c.bytes bytes) a ∙ path_read bytes c.bytes 0 0 [] refl (omega arith) (omega arith) ∙ sym b
+      go (at_definition xs e ys j q t i a f) =
+          ap (path_in c.bytes bytes) a
           ∙ path_first xs e ys (subst (λ (v : List Event). Layout words bytes c.records c.bytes v) q l) t ∙ sym f
 
   -- and as long as the place says
@@ -188,8 +181,8 @@ module _ {k : Context} {c : LowerCtx} {words bytes : List ℕ} {s : State} where
     where
       go : Stands es p → place_len p.at ≡ length p.path
       go (at_root a b) = rw (a, b) refl
-      go (at_top a b d e) = rw (a, d, e) refl
-      go (at_definition xs e ys j q t i a b d f) = rw (a, d, f) refl
+      go (at_top a b) = rw (a, b) refl
+      go (at_definition xs e ys j q t i a b) = rw (a, b) refl
 
 -- the newest definition's path
 pub newest : (c : LowerCtx) (words : List ℕ) (start size : ℕ) → start ≡ out_field words c.defs.last 2

@@ -22,14 +22,14 @@ use Rattle.definition_log.specs.meaning.ReadBack.{chain_of}
 use Rattle.making.specs.machine.Events.{Event, defs_of, bindings, diagnostics, post_diagnostics, children_of, in_chain, first}
 use Rattle.making.specs.machine.Events.{last, start_of, words16, bytes_in, members}
 use Rattle.making.specs.machine.Buffers.{Layout}
-use Rattle.making.specs.machine.PathPlaces.{path_of, path_in}
+use Rattle.making.specs.machine.PathPlaces.{path_in}
 use Rattle.making.specs.machine.Made.{sixteen, set_link, end_link, with_diag, ran_short, one_more, makes, counted, made_words}
 use Rattle.making.specs.machine.Made.{made_bytes, Told}
 use Rattle.making.specs.machine.Holding.{diags_of, Runs}
 use Rattle.making.specs.machine.Represents.{Context, log_of, Each, Sort, is_def, is_ext, is_binding, is_diag, is_part, Represents}
 use Rattle.making.specs.machine.Represents.{going, over}
 use Rattle.making.specs.machine.Kept.{Still, All, all_none, all_more, Kept, Keeps}
-use Rattle.making.proofs.PathPlaces.{written_below, path_written}
+use Rattle.making.proofs.PathPlaces.{written_below, part_written}
 use Rattle.making.proofs.ReadEvents.{Splits, splits_here, splits_later, splits_from, field_at, numbers_of, chain_end}
 use Rattle.making.proofs.ReadLog.{first_behind}
 use Rattle.making.proofs.Layouts.{length_link, count_words, same_count}
@@ -256,7 +256,7 @@ module _ {c d f : LowerCtx} {words bytes w b : List ℕ} {r : Rec} {x : List ℕ
   more : makes c words bytes (length x + 0) link ≡ true → ((r i : ℕ) → Still words c.records r → i < 16 → r * 16 + i ≡ link → link ≡ 0)
       → ((r : ℕ) → Still words c.records r → (text_start words r + text_length words r ≤ c.bytes)
       × (second_start words r + second_length words r ≤ c.bytes)) → Kept c f words bytes w b
-  unfolding counted made_words made_bytes one_more with_diag out_field path_of sixteen
+  unfolding counted made_words made_bytes one_more with_diag out_field sixteen
   more m other texts =
       let room = makes_is c words bytes (length x + 0) link m in
       let e : d ≡ one_more c (length x + 0) = told.state ∙ cond_true (makes c words bytes (length x + 0) link) _ _ m in
@@ -270,7 +270,7 @@ module _ {c d f : LowerCtx} {words bytes w b : List ℕ} {r : Rec} {x : List ℕ
       (put_below words c.records (sixteen c.bytes (length x) 0 r) link fits (r₁ * 16 + i) (omega (arith, h.made))
       (other r₁ i h l)) in
       let text : (start size : ℕ) → start + size ≤ c.bytes → text_in b start size ≡ text_in bytes start size = λ start size h. rw u
-      (path_written bytes c.bytes (x ++ []) (record { root = false; start = start; size = size }) h
+      (part_written bytes c.bytes (x ++ []) start size h
       (omega (arith, room.bytes_fit, length-append x []))) in
       record {
         records = rw (state, e) (omega arith);

@@ -9,7 +9,7 @@ use Rattle.paths_numbers.proofs.Texts.{by_test}
 use Rattle.making.specs.declared.ctx.LowerCtx.{LowerCtx}
 use Rattle.making.specs.meaning.State.{State}
 use Rattle.making.specs.meaning.State as S
-use Rattle.making.specs.machine.Events.{Event, defs_of, exts_of, bindings, diagnostics, children_of, last, defs_in, binding_of, diag_of}
+use Rattle.making.specs.machine.Events.{Event, defs_of, exts_of, bindings, diagnostics, children_of, defs_in, binding_of, diag_of}
 use Rattle.making.specs.machine.Buffers.{Layout}
 use Rattle.making.specs.machine.Dropped.{dropped, DropsFrom}
 use Rattle.making.specs.machine.Made.{left_dropped}

@@ -1,5 +1,6 @@
 pub mod Append
 pub mod PathPlaces
+pub mod Puts
 pub mod ReadEvents
 pub mod ReadLog
 pub mod Make

@@ -11,7 +11,7 @@ use Rattle.paths_numbers.proofs.Texts.{by_test}
 use Rattle.definition_log.specs.meaning.Record.{reference_kind, extension_kind, binding_kind, diagnostic_kind, one_of, def_kinds, has_children}
 use Rattle.definition_log.specs.meaning.Sound.{kinds_in, below as place_below}
 use Rattle.making.specs.machine.Events.{Event, defs_of, exts_of, bindings, diagnostics, post_diagnostics, children_of, in_chain, first}
-use Rattle.making.specs.machine.Events.{members, below}
+use Rattle.making.specs.machine.Events.{members}
 use Rattle.making.specs.machine.Whole.{At, at_here, at_later, There, Logged, logged_hand, logged_body, Stands, in_defs, in_exts}
 use Rattle.making.specs.machine.Whole.{in_bindings, in_diagnostics, in_post, in_children, Plain, Making}
 use Rattle.making.proofs.Append.{first_other}

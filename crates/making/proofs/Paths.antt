@@ -1,31 +1,31 @@
 -- The paths of records that are there, read at their places in the bytes.
 use Prim.Native.Nat.{ℕ, ◌+◌, ◌-◌, ◌≤◌}
 use mathlib.Core.Path.{◌≡◌, refl, sym, ap, ◌∙◌}
-use mathlib.Core.Bool.{true, false}
+use mathlib.Core.Bool.{true}
 use mathlib.Core.List.{List, [], ◌∷◌, ◌++◌}
 use native.Mathlib.Omega.{arith}
 use lib.ListN.{length}
 use Rattle.paths_numbers.specs.meaning.Text.{is_empty}
 use Rattle.making.specs.declared.place.PathAt.{PathAt}
+use Rattle.making.specs.declared.place.PathAt.TheVariants as P
 use Rattle.definition_log.specs.meaning.Record.{text_in}
 use Rattle.making.specs.machine.Events.{Event, start_of, end_of}
 use Rattle.making.specs.machine.Buffers.{Layout}
-use Rattle.making.specs.machine.PathPlaces.{path_in, path_of}
+use Rattle.making.specs.machine.PathPlaces.{path_in}
 use Rattle.making.proofs.PathPlaces.{path_bytes, settled_there}
 use Rattle.making.proofs.ReadEvents.{text_at_lem}
 use Rattle.making.proofs.Removing.{splits_of, end_above}
 
 -- the place of bytes
 abbrev pub place_of : ℕ → ℕ → PathAt
-place_of start size = record { root = false; start = start; size = size }
+place_of start size = P.Bytes start size
 
 -- a text that stands there is the path that is read
 pub path_read : (bytes : List ℕ) (used start size : ℕ) (text : List ℕ) → text_in bytes start size ≡ text → start + size ≤ used
     → start + size ≤ length bytes
     → path_in used bytes (place_of start size) ≡ text
 path_read bytes used start size text e h k =
-    ap (λ (p : PathAt). path_of bytes p) (sym (settled_there used bytes (place_of start size) h k))
-    ∙ sym (path_bytes bytes (place_of start size) refl) ∙ e
+    sym (path_bytes used bytes (place_of start size) start size (settled_there used bytes start size h k)) ∙ e
 
 -- a text by where the texts before it end
 from_start : (bytes : List ℕ) (at : ℕ) (text : List ℕ) → text_in bytes (start_of at text) (length text) ≡ text

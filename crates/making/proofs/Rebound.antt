@@ -9,6 +9,7 @@ use Rattle.making.specs.declared.ctx.LowerCtx.{LowerCtx}
 use Rattle.making.specs.meaning.State.{State}
 use Rattle.making.specs.machine.Events.{Event, defs_of, exts_of, bindings, children_of, first, last, bytes_in, end_of, members, defs_in}
 use Rattle.making.specs.machine.Removed.{dead}
+use Rattle.making.specs.declared.place.PathAt.TheVariants as P
 use Rattle.making.specs.machine.Represents.{Place, Waiting, log_of, exts_log, Each, each_none, each_next, Sort, is_def, is_ext}
 use Rattle.making.specs.machine.Represents.{is_binding, is_diag, is_part, Open, Stands, at_root, at_top, at_definition, AllStand}
 use Rattle.making.specs.machine.Represents.{no_places, more_places, Stack, bottom, above}
@@ -162,12 +163,12 @@ places_rebound {es} {fs} h (more_places {p} s q) = more_places (stands s) (place
   where
     stands : Stands es p → Stands fs p
     stands (at_root a b) = at_root a b
-    stands (at_top a b c d) = at_top a b c d
-    stands (at_definition xs e ys l i t c a b d f) =
+    stands (at_top a b) = at_top a b
+    stands (at_definition xs e ys l i t c a b) =
         let m = parted xs (subst (λ (z : List Event). Rebound z fs) i h) in
         let y = head_same (λ z. omega (arith, sym c ∙ z)) m.back_bound in
-        at_definition m.front e y.0 l (m.is ∙ ap (λ (z : List Event). m.front ++ z) y.1) t c a
-        (b ∙ sym (rebound_end 0 m.front_bound)) d f
+        at_definition m.front e y.0 l (m.is ∙ ap (λ (z : List Event). m.front ++ z) y.1) t c
+        (a ∙ ap (λ (i : ℕ). P.Bytes i (length e.text)) (sym (rebound_end 0 m.front_bound))) b
 
 -- a log
 pub open_rebound : {ws : List Waiting} {c d : LowerCtx} {s t : State} {es fs : List Event} → Rebound es fs → Open ws c es s

@@ -11,7 +11,7 @@ use Rattle.making.specs.machine.Made.{start_at, sixteen, set_link}
 -- the words with both texts' starts worked out
 abbrev laid : ℕ → ℕ → ℕ → ℕ → Rec → List ℕ
 laid s first t second r =
-    r.kind ∷ 0 ∷ s ∷ first ∷ t ∷ second ∷ 0 ∷ r.n ∷ r.m ∷ r.from ∷ r.to ∷ r.name_from ∷ r.name_to ∷ 0 ∷ 0 ∷ 0 ∷ []
+    r.kind ∷ 0 ∷ s ∷ first ∷ t ∷ second ∷ 0 ∷ r.n ∷ r.m ∷ r.span.from ∷ r.span.to ∷ r.name_span.from ∷ r.name_span.to ∷ 0 ∷ 0 ∷ 0 ∷ []
 
 module _ (d o : List ℕ) (number at first second link : ℕ) (r : Rec) (s t : ℕ) (w : o ≡ written d (number * 16) (laid s first t second r))
     (es : s ≡ start_at at first) (et : t ≡ start_at (at + first) second) where

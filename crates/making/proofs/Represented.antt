@@ -267,7 +267,7 @@ module _ {c d f : LowerCtx} {words bytes w b : List ℕ} {r : Rec} {x y : List �
     (at : link ≡ end_link c.binds)
     (with-bind : f ≡ with_bind d c.records) (kind : r.kind ≡ binding_kind) (plain : Plain (event_of bindings 0 r x y)) where
   abbrev made_binding : Binding
-  made_binding = record { label = x; path = y; span = record { from = r.from; to = r.to } }
+  made_binding = record { label = x; path = y; span = record { from = r.span.from; to = r.span.to } }
 
   bound : (k : Context) (s : State) → Represents k c words bytes s → c.short ≡ false → Represents k f w b (bind (made_binding ∷ []) s)
   unfolding bind bindings_bytes with_bind
@@ -309,9 +309,9 @@ module _ {c d f : LowerCtx} {words bytes w b : List ℕ} {r : Rec} {x : List ℕ
   made_diag = record {
     code = r.n;
     text = x;
-    span = record { from = r.from; to = r.to };
+    span = record { from = r.span.from; to = r.span.to };
     name_span = record
-        { from = r.name_from; to = r.name_to };
+        { from = r.name_span.from; to = r.name_span.to };
   }
 
   emitted : (k : Context) (s : State) → Represents k c words bytes s → c.short ≡ false → Represents k f w b (emit (made_diag ∷ []) s)

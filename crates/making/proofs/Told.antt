@@ -1,5 +1,5 @@
 -- What making a record answers and leaves, by whether it is made.
-use Prim.Native.Nat.{ℕ, ◌+◌, ◌*◌, ◌≤◌, ◌<◌}
+use Prim.Native.Nat.{ℕ, min, ◌+◌, ◌*◌, ◌≤◌, ◌<◌}
 use mathlib.Core.Path.{◌≡◌, refl, sym, ap, ◌∙◌}
 use mathlib.Core.Bool.{Bool, true, false, not, cond}
 use mathlib.Core.List.{List, ◌++◌}
@@ -10,7 +10,7 @@ use lib.ListN.{length}
 use Rattle.paths_numbers.specs.meaning.Text.{written}
 use Rattle.paths_numbers.specs.meaning.Path.{at_most, largest_usize}
 use Rattle.paths_numbers.proofs.Texts.{by_test, not_both, both}
-use Rattle.paths_numbers.proofs.Lengths.{kept, cut}
+use Rattle.paths_numbers.proofs.Lengths.{kept, cut, cut_sum}
 use Rattle.definition_log.specs.meaning.Record.{log_count, most_bytes}
 use Rattle.making.specs.declared.ctx.LowerCtx.{LowerCtx}
 use Rattle.making.specs.declared.ctx.Rec.{Rec}
@@ -91,11 +91,11 @@ makes_cut c words bytes n size link e =
     rw (x, y) refl)
 
 -- a test that the code turns round
-not_true : (t : Bool) → not t ≡ true → t ≡ false
+pub not_true : (t : Bool) → not t ≡ true → t ≡ false
 not_true true e = sym e
 not_true false e = refl
 
-not_false : (t : Bool) → not t ≡ false → t ≡ true
+pub not_false : (t : Bool) → not t ≡ false → t ≡ true
 not_false true e = refl
 not_false false e = sym e
 
@@ -115,13 +115,19 @@ module _ (c : LowerCtx) (words bytes : List ℕ) (r : Rec) (x y : List ℕ) (lin
   tested_made d w b n m f en em e1 e2 e3 =
       told_made c words bytes r x y link d w b (sym same ∙ sym test ∙ not_false t f) (rw (en, em) at e1) (rw (en, em) at e2) e3
 
--- a joined path's length that may be cut: it decides as the length does, and is the length where it has room
-pub makes_joined : (c : LowerCtx) (words bytes x : List ℕ) (link size : ℕ) (p : List ℕ) → p ≡ x → size ≡ at_most largest_usize (length p)
-    → makes c words bytes size link ≡ makes c words bytes (length x + 0) link
-makes_joined c words bytes x link size p j e =
-    let z : length x + 0 ≡ length p = omega (arith, ap length j) in
-    rw z (makes_cut c words bytes (length p) size link e)
+-- two texts' lengths, each cut, and their sum, which saturates: they decide as the lengths do
+saturated : (n s : ℕ) → s ≡ min n largest_usize → s ≡ at_most largest_usize n
+saturated n s e =
+    by_test (leb n largest_usize)
+    (λ t. omega (arith, leb-true _ _ t, kept largest_usize n (leb-true _ _ t)))
+    (λ t. omega (arith, leb-false _ _ t, cut largest_usize n (omega (arith, leb-false _ _ t))))
 
-pub joined_size : (x : List ℕ) (size : ℕ) (p : List ℕ) → p ≡ x → size ≡ at_most largest_usize (length p) → length x ≤ most_bytes
-    → size ≡ length x
-joined_size x size p j e h = e ∙ kept largest_usize (length p) (omega (arith, ap length j)) ∙ ap length j
+pub makes_texts : (c : LowerCtx) (words bytes x y : List ℕ) (link size more s : ℕ) → size ≡ at_most largest_usize (length x)
+    → more ≡ at_most largest_usize (length y) → s ≡ min (size + more) largest_usize
+    → makes c words bytes s link ≡ makes c words bytes (length x + length y) link
+makes_texts c words bytes x y link size more s e f g =
+    makes_cut c words bytes (length x + length y) s link (saturated (size + more) s g ∙ cut_sum largest_usize (length x) (length y) size more e f)
+
+-- and are the lengths where they have room
+pub text_size : (x : List ℕ) (size : ℕ) → size ≡ at_most largest_usize (length x) → length x ≤ most_bytes → size ≡ length x
+text_size x size e h = e ∙ kept largest_usize (length x) (omega arith)

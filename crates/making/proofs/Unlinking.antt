@@ -12,7 +12,7 @@ use Rattle.making.specs.declared.ctx.LowerCtx.{LowerCtx}
 use Rattle.making.specs.meaning.State.{State}
 use Rattle.making.specs.machine.Adding.{remove_at, unbind_at}
 use Rattle.definition_log.specs.meaning.ReadBack.{chain_of}
-use Rattle.making.specs.machine.Events.{Event, bindings, diagnostics, in_chain, first, last, Numbered, members, binding_of}
+use Rattle.making.specs.machine.Events.{Event, bindings, diagnostics, in_chain, last, Numbered, members, binding_of}
 use Rattle.making.specs.machine.Removed.{dead, without_bind, Removes}
 use Rattle.making.specs.machine.Holding.{diags_of, Holds}
 use Rattle.making.specs.machine.Holding as H

@@ -3,6 +3,7 @@ pub mod Adding
 pub mod Events
 pub mod Buffers
 pub mod PathPlaces
+pub mod Texts
 pub mod Made
 pub mod Holding
 pub mod Removed

@@ -3,15 +3,17 @@
 ghost use Rattle.std.specs.Prelude.{◌≡◌, [], ◌∷◌};
 ghost use Rattle.paths_numbers.specs.meaning.Path.{joined};
 ghost use Rattle.making.specs.machine.PathPlaces.{path_in};
+ghost use Rattle.making.specs.machine.Texts.{text_said};
 ghost use Rattle.making.specs.meaning.State.{define, bind, emit};
-ghost use Rattle.making.specs.machine.Made.{end_link, child_link, grown, with_def, with_ext, with_bind, with_diag};
+ghost use Rattle.making.specs.machine.Made.{child_link};
 ghost use Rattle.making.specs.machine.Recs.{bare_def, binding_made, diag_made};
 ghost use Rattle.making.specs.machine.Represents.{Steps};
 ghost use Rattle.making.specs.machine.Kept.{Keeps};
 
-use crate::ctx::{Chain, LowerCtx};
+use crate::ctx::{LowerCtx, Rec};
 use crate::place::PathAt;
-use crate::recs::{DefKind, kind_number, omit_number, spanned_rec};
+use crate::recs::{DefKind, NO_SPAN};
+use crate::text::{NONE, Piece, Text};
 use definition_log::kinds::{BINDING, DIAGNOSTIC};
 use definition_log::layout;
 use definition_log::parts::Span;
@@ -33,10 +35,12 @@ impl LowerCtx {
             (define (bare_def kind span name_span (joined (path_in self.bytes bytes.old path) name.now
             unit.now))) }
     {
-        let link = end_link(self.defs);
-        let rec = spanned_rec(kind_number(kind), omit_number(kind), 0, span, name_span);
-        let made = self.make_joined(words, bytes, rec, path, name, unit, link);
-        made.with_def(self.records)
+        let text = Text::Joined {
+            path,
+            name: Piece::Given(name),
+            unit,
+        };
+        self.add_def(words, bytes, kind, span, name_span, text)
     }
 
     // A definition at a path: a directive, or a node that is opened again.
@@ -52,10 +56,8 @@ impl LowerCtx {
         ensures { Steps self result words.old bytes.old words.new bytes.new
             (define (bare_def kind span name_span (path_in self.bytes bytes.old path))) }
     {
-        let link = end_link(self.defs);
-        let rec = spanned_rec(kind_number(kind), omit_number(kind), 0, span, name_span);
-        let made = self.make_copied(words, bytes, rec, path, link);
-        made.with_def(self.records)
+        let text = Text::Whole(Piece::At(path));
+        self.add_def(words, bytes, kind, span, name_span, text)
     }
 
     // A definition at a path that is given as a text: of a reference that names it.
@@ -71,10 +73,8 @@ impl LowerCtx {
         ensures { Steps self result words.old bytes.old words.new bytes.new
             (define (bare_def kind span name_span path.now)) }
     {
-        let link = end_link(self.defs);
-        let rec = spanned_rec(kind_number(kind), omit_number(kind), 0, span, name_span);
-        let made = self.make(words, bytes, rec, path, &path[0..0], link);
-        made.with_def(self.records)
+        let text = Text::Whole(Piece::Given(path));
+        self.add_def(words, bytes, kind, span, name_span, text)
     }
 
     // A binding of a label to a path.
@@ -89,10 +89,25 @@ impl LowerCtx {
         ensures { Steps self result words.old bytes.old words.new bytes.new
             (bind (binding_made label.now (path_in self.bytes bytes.old path) span ∷ [])) }
     {
-        let link = end_link(self.binds);
-        let rec = spanned_rec(BINDING, 0, 0, span, Span { from: 0, to: 0 });
-        let made = self.make_bound(words, bytes, rec, label, path, link);
-        made.with_bind(self.records)
+        let rec = Rec {
+            kind: BINDING,
+            n: 0,
+            m: 0,
+            span,
+            name_span: NO_SPAN,
+        };
+        let made = self.make(
+            words,
+            bytes,
+            rec,
+            Text::Whole(Piece::Given(label)),
+            Text::Whole(Piece::At(path)),
+            self.binds.end_link(),
+        );
+        LowerCtx {
+            binds: made.binds.grown(made.short, self.records),
+            ..made
+        }
     }
 
     // A diagnostic with a text.
@@ -108,10 +123,8 @@ impl LowerCtx {
         ensures { Steps self result words.old bytes.old words.new bytes.new
             (emit (diag_made code text.now span name_span ∷ [])) }
     {
-        let link = end_link(self.diags);
-        let rec = spanned_rec(DIAGNOSTIC, code, 0, span, name_span);
-        let made = self.make(words, bytes, rec, text, &text[0..0], link);
-        made.with_diag(self.records)
+        let text = Text::Whole(Piece::Given(text));
+        self.add_diag(words, bytes, code, span, name_span, text)
     }
 
     // A diagnostic whose text is the path of this name and unit address under a path.
@@ -129,10 +142,12 @@ impl LowerCtx {
             (emit (diag_made code (joined (path_in self.bytes bytes.old path) name.now unit.now) span
             (record { from = 0; to = 0 }) ∷ [])) }
     {
-        let link = end_link(self.diags);
-        let rec = spanned_rec(DIAGNOSTIC, code, 0, span, Span { from: 0, to: 0 });
-        let made = self.make_joined(words, bytes, rec, path, name, unit, link);
-        made.with_diag(self.records)
+        let text = Text::Joined {
+            path,
+            name: Piece::Given(name),
+            unit,
+        };
+        self.add_diag(words, bytes, code, span, NO_SPAN, text)
     }
 
     // The same, where the name is a text that the log has: a reference's path below a binding's.
@@ -150,10 +165,12 @@ impl LowerCtx {
             []) span (record { from = 0; to = 0 }) ∷ [])) }
         ensures keeps { Keeps self result words.old bytes.old words.new bytes.new }
     {
-        let link = end_link(self.diags);
-        let rec = spanned_rec(DIAGNOSTIC, code, 0, span, Span { from: 0, to: 0 });
-        let made = self.make_joined_at(words, bytes, rec, path, name, link);
-        made.with_diag(self.records)
+        let text = Text::Joined {
+            path,
+            name: Piece::At(name),
+            unit: b"",
+        };
+        self.add_diag(words, bytes, code, span, NO_SPAN, text)
     }
 
     // A diagnostic whose text is one that the log has: of a binding's label, of a reference.
@@ -170,79 +187,66 @@ impl LowerCtx {
             (emit (diag_made code (path_in self.bytes bytes.old text) span name_span ∷ [])) }
         ensures keeps { Keeps self result words.old bytes.old words.new bytes.new }
     {
-        let link = end_link(self.diags);
-        let rec = spanned_rec(DIAGNOSTIC, code, 0, span, name_span);
-        let made = self.make_copied(words, bytes, rec, text, link);
-        made.with_diag(self.records)
+        let text = Text::Whole(Piece::At(text));
+        self.add_diag(words, bytes, code, span, name_span, text)
     }
 
-    // The state with record `number` in one of its chains, where that was made.
-    fn with_def(self, number: u32) -> LowerCtx
-        ensures { result ≡ with_def self number }
+    // A definition with a text for its path.
+    fn add_def(
+        self,
+        words: &mut [u32],
+        bytes: &mut [u8],
+        kind: DefKind,
+        span: Span,
+        name_span: Span,
+        path: Text<'_>,
+    ) -> LowerCtx
+        ensures { Steps self result words.old bytes.old words.new bytes.new
+            (define (bare_def kind span name_span (text_said self.bytes bytes.old path.entry))) }
     {
-        let longer = grow(self.short, self.defs, number);
-        let mut next = self;
-        next.defs = longer;
-        next.part = 0;
-        next.cell = 0;
-        next
-    }
-
-    pub(crate) fn with_ext(self, number: u32) -> LowerCtx
-        ensures { result ≡ with_ext self number }
-    {
-        let longer = grow(self.short, self.exts, number);
-        let mut next = self;
-        next.exts = longer;
-        next
-    }
-
-    fn with_bind(self, number: u32) -> LowerCtx
-        ensures { result ≡ with_bind self number }
-    {
-        let longer = grow(self.short, self.binds, number);
-        let mut next = self;
-        next.binds = longer;
-        next
-    }
-
-    fn with_diag(self, number: u32) -> LowerCtx
-        ensures { result ≡ with_diag self number }
-    {
-        let longer = grow(self.short, self.diags, number);
-        let mut next = self;
-        next.diags = longer;
-        next
-    }
-}
-
-// A chain with one record more, where that was made.
-fn grow(short: bool, chain: Chain, number: u32) -> Chain
-    ensures { result ≡ grown short chain number }
-{
-    if short {
-        return chain;
-    }
-    if chain.first == 0 {
-        return Chain {
-            first: number,
-            last: number,
+        let rec = Rec {
+            kind: kind.kind_number(),
+            n: kind.omit_number(),
+            m: 0,
+            span,
+            name_span,
         };
+        let made = self.make(words, bytes, rec, path, NONE, self.defs.end_link());
+        LowerCtx {
+            defs: made.defs.grown(made.short, self.records),
+            part: 0,
+            cell: 0,
+            ..made
+        }
     }
-    Chain {
-        first: chain.first,
-        last: number,
-    }
-}
 
-// Where the link to the next record of a chain stands, 0 where there is none.
-pub(crate) fn end_link(chain: Chain) -> usize
-    ensures { result ≡ end_link chain }
-{
-    if chain.last == 0 {
-        return 0;
+    // A diagnostic with a text.
+    fn add_diag(
+        self,
+        words: &mut [u32],
+        bytes: &mut [u8],
+        code: u32,
+        span: Span,
+        name_span: Span,
+        text: Text<'_>,
+    ) -> LowerCtx
+        ensures steps { Steps self result words.old bytes.old words.new bytes.new
+            (emit (diag_made code (text_said self.bytes bytes.old text.entry) span name_span ∷ [])) }
+        ensures keeps { Keeps self result words.old bytes.old words.new bytes.new }
+    {
+        let rec = Rec {
+            kind: DIAGNOSTIC,
+            n: code,
+            m: 0,
+            span,
+            name_span,
+        };
+        let made = self.make(words, bytes, rec, text, NONE, self.diags.end_link());
+        LowerCtx {
+            diags: made.diags.grown(made.short, self.records),
+            ..made
+        }
     }
-    (chain.last as usize) * layout::RECORD_WORDS + layout::NEXT_AT
 }
 
 // Where the link to the next child of a record stands.

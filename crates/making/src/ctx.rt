@@ -1,17 +1,15 @@
 // The log in the making: LowerCtx of lowering/mod.rs, by value, with the counts and the chain ends.
-ghost use Rattle.std.specs.Prelude.{◌≡◌, ◌+◌, ◌*◌, ◌≤◌, ◌<◌, length, []};
+ghost use Rattle.std.specs.Prelude.{◌≡◌, ◌+◌, ◌*◌, ◌≤◌, ◌<◌, length};
 ghost use Rattle.paths_numbers.specs.meaning.Text.{written};
-ghost use Rattle.paths_numbers.specs.meaning.Path.{joined};
 ghost use Rattle.definition_log.specs.meaning.Record.{log_count, most_bytes};
-ghost use Rattle.making.specs.machine.PathPlaces.{path_in};
-ghost use Rattle.making.specs.machine.Made.{start_at, sixteen, set_link, has_room, makes, ran_short, one_more, Told, ToldBytes};
+ghost use Rattle.making.specs.machine.Removed.{without};
+ghost use Rattle.making.specs.machine.Texts.{text_said};
+ghost use Rattle.making.specs.machine.Made.{start_at, sixteen, set_link, has_room, makes, ran_short, one_more, end_link, grown, Told, ToldBytes};
 
-use crate::fill::{
-    write_and_copy, write_joined, write_joined_at, write_path_at, write_two, write_words,
-};
-use crate::place::{PathAt, joined_len, joined_len_at, place_len, settle};
-use definition_log::layout::RECORD_WORDS;
+use crate::text::Text;
+use definition_log::layout::{NEXT_AT, RECORD_WORDS};
 use definition_log::limits::MOST_BYTES;
+use definition_log::parts::Span;
 use definition_log::record::log_count;
 use paths_numbers::dt_property::{ByteCount, bytestring_len, lower_bytestring};
 
@@ -20,6 +18,43 @@ use paths_numbers::dt_property::{ByteCount, bytestring_len, lower_bytestring};
 pub struct Chain {
     pub first: u32,
     pub last: u32,
+}
+
+impl Chain {
+    pub(crate) const NONE: Chain = Chain { first: 0, last: 0 };
+
+    // The chain with one record more, where that was made.
+    pub(crate) fn grown(self, short: bool, number: u32) -> Chain
+        ensures { result ≡ grown short self number }
+    {
+        if short {
+            return self;
+        }
+        Chain {
+            first: if self.first == 0 { number } else { self.first },
+            last: number,
+        }
+    }
+
+    // The chain without a record that stood between these two, 0 where it was the first or the last.
+    pub(crate) fn without(self, previous: u32, next: u32) -> Chain
+        ensures { result ≡ without self previous next }
+    {
+        Chain {
+            first: if previous == 0 { next } else { self.first },
+            last: if next == 0 { previous } else { self.last },
+        }
+    }
+
+    // Where the link to its next record stands, 0 where there is none.
+    pub(crate) fn end_link(self) -> usize
+        ensures { result ≡ end_link self }
+    {
+        if self.last == 0 {
+            return 0;
+        }
+        (self.last as usize) * RECORD_WORDS + NEXT_AT
+    }
 }
 
 // The log in hand: how many records and bytes are made, its chains, and whether the buffers ran
@@ -44,10 +79,8 @@ pub struct Rec {
     pub kind: u32,
     pub n: u32,
     pub m: u32,
-    pub from: u32,
-    pub to: u32,
-    pub name_from: u32,
-    pub name_to: u32,
+    pub span: Span,
+    pub name_span: Span,
 }
 
 // Writes record `number`, whose texts start at `at` and have these lengths, and sets the link at
@@ -64,7 +97,8 @@ pub(crate) fn put_record(
     requires { (number * 16 + 16 ≤ length words.old) × (link < length words.old) × (at + first < 4294967296) }
     ensures { words.new ≡ set_link link number (written words.old (number * 16) (sixteen at first second rec)) }
 {
-    let w = [
+    let from = (number as usize) * RECORD_WORDS;
+    words[from..from + RECORD_WORDS].copy_from_slice(&[
         rec.kind,
         0,
         start_of(at, first),
@@ -74,15 +108,14 @@ pub(crate) fn put_record(
         0,
         rec.n,
         rec.m,
-        rec.from,
-        rec.to,
-        rec.name_from,
-        rec.name_to,
+        rec.span.from,
+        rec.span.to,
+        rec.name_span.from,
+        rec.name_span.to,
         0,
         0,
         0,
-    ];
-    write_words(words, (number as usize) * RECORD_WORDS, &w);
+    ]);
     if link != 0 {
         words[link] = number;
     }
@@ -92,10 +125,7 @@ pub(crate) fn put_record(
 fn start_of(at: u32, size: u32) -> u32
     ensures { result ≡ start_at at size }
 {
-    if size == 0 {
-        return 0;
-    }
-    at
+    if size == 0 { 0 } else { at }
 }
 
 // Whether one record more, with so many bytes of texts, has room.
@@ -105,14 +135,8 @@ fn has_room(ctx: LowerCtx, words: &[u32], bytes: &[u8], size: usize) -> bool
     if log_count(words) <= ctx.records {
         return false;
     }
-    let used = ctx.bytes as usize;
-    if MOST_BYTES < used {
-        return false;
-    }
-    if MOST_BYTES - used < size {
-        return false;
-    }
-    used + size <= bytes.len()
+    let end = (ctx.bytes as usize).saturating_add(size);
+    end <= MOST_BYTES && end <= bytes.len()
 }
 
 impl LowerCtx {
@@ -123,110 +147,24 @@ impl LowerCtx {
         words: &mut [u32],
         bytes: &mut [u8],
         rec: Rec,
-        first: &[u8],
-        second: &[u8],
+        first: Text<'_>,
+        second: Text<'_>,
         link: usize,
     ) -> LowerCtx
         ensures { Told self result words.old bytes.old words.new bytes.new rec
-            first.now second.now link }
+            (text_said self.bytes bytes.old first.entry) (text_said self.bytes bytes.old second.entry) link }
     {
-        if !self.admits(words, bytes, first.len() + second.len(), link) {
+        let size = first.len(self.bytes, bytes);
+        let more = second.len(self.bytes, bytes);
+        if !self.admits(words, bytes, size.saturating_add(more), link) {
             return self.run_short();
         }
-        write_two(bytes, self.bytes as usize, first, second);
-        self.put(words, rec, first.len() as u32, second.len() as u32, link)
+        first.write(self.bytes, bytes, self.bytes as usize);
+        second.write(self.bytes, bytes, (self.bytes as usize) + size);
+        self.put(words, rec, size as u32, more as u32, link)
     }
 
-    // The same, whose text is the path of this name and unit address under a path.
-    pub(crate) fn make_joined(
-        self,
-        words: &mut [u32],
-        bytes: &mut [u8],
-        rec: Rec,
-        path: PathAt,
-        name: &[u8],
-        unit: &[u8],
-        link: usize,
-    ) -> LowerCtx
-        ensures { Told self result words.old bytes.old words.new bytes.new rec
-            (joined (path_in self.bytes bytes.old path) name.now unit.now) [] link }
-    {
-        let place = settle(path, self.bytes, bytes);
-        let size = joined_len(bytes, place, name, unit);
-        if !self.admits(words, bytes, size, link) {
-            return self.run_short();
-        }
-        write_joined(bytes, self.bytes as usize, place, name, unit);
-        self.put(words, rec, size as u32, 0, link)
-    }
-
-    // The same, where the name is a path too, and has no unit address.
-    pub(crate) fn make_joined_at(
-        self,
-        words: &mut [u32],
-        bytes: &mut [u8],
-        rec: Rec,
-        path: PathAt,
-        name: PathAt,
-        link: usize,
-    ) -> LowerCtx
-        ensures { Told self result words.old bytes.old words.new bytes.new rec
-            (joined (path_in self.bytes bytes.old path) (path_in self.bytes bytes.old name) []) [] link }
-    {
-        let place = settle(path, self.bytes, bytes);
-        let below = settle(name, self.bytes, bytes);
-        let size = joined_len_at(bytes, place, below);
-        if !self.admits(words, bytes, size, link) {
-            return self.run_short();
-        }
-        write_joined_at(bytes, self.bytes as usize, place, below, size);
-        self.put(words, rec, size as u32, 0, link)
-    }
-
-    // The same, whose text is a path.
-    pub(crate) fn make_copied(
-        self,
-        words: &mut [u32],
-        bytes: &mut [u8],
-        rec: Rec,
-        path: PathAt,
-        link: usize,
-    ) -> LowerCtx
-        ensures { Told self result words.old bytes.old words.new bytes.new rec
-            (path_in self.bytes bytes.old path) [] link }
-    {
-        let place = settle(path, self.bytes, bytes);
-        let size = place_len(place);
-        if !self.admits(words, bytes, size as usize, link) {
-            return self.run_short();
-        }
-        write_path_at(bytes, self.bytes as usize, place);
-        self.put(words, rec, size, 0, link)
-    }
-
-    // The same, whose texts are a label and a path.
-    pub(crate) fn make_bound(
-        self,
-        words: &mut [u32],
-        bytes: &mut [u8],
-        rec: Rec,
-        label: &[u8],
-        path: PathAt,
-        link: usize,
-    ) -> LowerCtx
-        ensures { Told self result words.old bytes.old words.new bytes.new rec
-            label.now (path_in self.bytes bytes.old path) link }
-    {
-        let place = settle(path, self.bytes, bytes);
-        let size = place_len(place);
-        if !self.admits(words, bytes, label.len() + (size as usize), link) {
-            return self.run_short();
-        }
-        write_and_copy(bytes, self.bytes as usize, label, place);
-        self.put(words, rec, label.len() as u32, size, link)
-    }
-
-    // The same, whose text is the bytes of a bytestring; nothing where its text lacks a digit.
+    // The same with one text, the bytes of a bytestring; nothing where its text lacks a digit.
     pub(crate) fn make_bytestring(
         self,
         words: &mut [u32],
@@ -254,10 +192,7 @@ impl LowerCtx {
     fn admits(self, words: &[u32], bytes: &[u8], size: usize, link: usize) -> bool
         ensures { result ≡ makes self words.now bytes.now size link }
     {
-        if self.short {
-            return false;
-        }
-        if words.len() <= link {
+        if self.short || words.len() <= link {
             return false;
         }
         has_room(self, words, bytes, size)
@@ -278,9 +213,10 @@ impl LowerCtx {
     fn run_short(self) -> LowerCtx
         ensures { result ≡ ran_short self }
     {
-        let mut next = self;
-        next.short = true;
-        next
+        LowerCtx {
+            short: true,
+            ..self
+        }
     }
 
     // One record and so many bytes more.
@@ -288,9 +224,10 @@ impl LowerCtx {
         requires { (self.records + 1 < 4294967296) × (self.bytes + size < 4294967296) }
         ensures { result ≡ one_more self size }
     {
-        let mut next = self;
-        next.records = self.records + 1;
-        next.bytes = self.bytes + size;
-        next
+        LowerCtx {
+            records: self.records + 1,
+            bytes: self.bytes + size,
+            ..self
+        }
     }
 }

@@ -4,6 +4,7 @@ ghost use Rattle.making.specs.machine.Dropped.{stays_kind, dropped_words, droppe
 
 use crate::ctx::LowerCtx;
 use crate::remove::{clear_texts, clear_words};
+use definition_log::kinds::{BINDING, DIAGNOSTIC};
 use definition_log::record::kind_of;
 
 impl LowerCtx {
@@ -11,10 +12,9 @@ impl LowerCtx {
     pub fn drop_from(self, words: &mut [u32], bytes: &mut [u8], mark: u32)
         ensures { DropsFrom self words.old bytes.old words.new bytes.new mark }
     {
-        if self.short {
-            return;
+        if !self.short {
+            drop_records(words, bytes, mark, self.records);
         }
-        drop_records(words, bytes, mark, self.records);
     }
 }
 
@@ -22,10 +22,8 @@ impl LowerCtx {
 fn drop_records(words: &mut [u32], bytes: &mut [u8], mark: u32, end: u32)
     ensures { Drops words.old bytes.old words.new bytes.new mark end }
 {
-    let mut r = mark;
-    while r < end {
+    for r in mark..end {
         drop_record(words, bytes, r);
-        r += 1;
     }
 }
 
@@ -34,22 +32,15 @@ fn drop_record(words: &mut [u32], bytes: &mut [u8], r: u32)
     ensures words_after { words.new ≡ dropped_words words.old r }
     ensures bytes_after { bytes.new ≡ dropped_bytes words.old bytes.old r }
 {
-    if stays(kind_of(words, r)) {
-        return;
+    if !stays(kind_of(words, r)) {
+        clear_texts(words, bytes, r);
+        clear_words(words, r);
     }
-    clear_texts(words, bytes, r);
-    clear_words(words, r);
 }
 
 // Whether a record of a kind stays; one that is not there has kind 0.
 fn stays(kind: u32) -> bool
     ensures { result ≡ stays_kind kind }
 {
-    if kind == 0 {
-        return true;
-    }
-    if kind == 14 {
-        return true;
-    }
-    kind == 15
+    matches!(kind, 0 | BINDING | DIAGNOSTIC)
 }

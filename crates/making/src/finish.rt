@@ -2,7 +2,7 @@
 ghost use Rattle.making.specs.machine.Represents.{Finishes};
 
 use crate::ctx::LowerCtx;
-use crate::fill::write_words;
+use definition_log::layout::RECORD_WORDS;
 
 impl LowerCtx {
     // Writes record 0: the counts, and the first record of each chain. `diags` is lowering's first
@@ -10,13 +10,10 @@ impl LowerCtx {
     pub fn finish(self, words: &mut [u32], diags: u32)
         ensures { Finishes self words.old words.new diags }
     {
-        if self.short {
+        if self.short || words.len() < RECORD_WORDS {
             return;
         }
-        if words.len() < 16 {
-            return;
-        }
-        let head = [
+        words[..RECORD_WORDS].copy_from_slice(&[
             self.records,
             self.defs.first,
             self.exts.first,
@@ -33,7 +30,6 @@ impl LowerCtx {
             0,
             0,
             0,
-        ];
-        write_words(words, 0, &head);
+        ]);
     }
 }

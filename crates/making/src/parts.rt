@@ -9,7 +9,8 @@ ghost use Rattle.making.specs.machine.Represents.{StepsIn};
 
 use crate::add::child_link;
 use crate::ctx::{LowerCtx, Rec};
-use crate::recs::{label_of, part_rec, path_of, target_number};
+use crate::recs::{label_of, path_of, target_number};
+use crate::text::{Piece, Text};
 use definition_log::kinds::{BYTESTRING, CELL_LIST, LABEL, NUMBER, REFERENCE, STRING};
 use definition_log::parts::TargetKind;
 use paths_numbers::dt_property::{ByteCount, bytestring_len};
@@ -20,7 +21,7 @@ impl LowerCtx {
         ensures { StepsIn in_node self result words.old bytes.old words.new bytes.new
             (add_label label.now) }
     {
-        self.add_part(words, bytes, part_rec(LABEL, 0, 0), label, &label[0..0])
+        self.add_part(words, bytes, Rec::part(LABEL, 0, 0), label, b"")
     }
 
     // A string of a property.
@@ -28,7 +29,7 @@ impl LowerCtx {
         ensures { StepsIn in_property self result words.old bytes.old words.new bytes.new
             (add_value (string text.now)) }
     {
-        self.add_part(words, bytes, part_rec(STRING, 0, 0), text, &text[0..0])
+        self.add_part(words, bytes, Rec::part(STRING, 0, 0), text, b"")
     }
 
     // A cell list of a width, before its cells.
@@ -36,8 +37,7 @@ impl LowerCtx {
         ensures { StepsIn in_property self result words.old bytes.old words.new bytes.new
             (add_value (cell_list width [])) }
     {
-        let none: [u8; 0] = [];
-        self.add_part(words, bytes, part_rec(CELL_LIST, width, 0), &none, &none)
+        self.add_part(words, bytes, Rec::part(CELL_LIST, width, 0), b"", b"")
     }
 
     // A reference as a value.
@@ -52,7 +52,7 @@ impl LowerCtx {
         ensures { StepsIn in_property self result words.old bytes.old words.new bytes.new
             (add_value (phandle (target_made kind label.now path.now))) }
     {
-        let rec = part_rec(REFERENCE, target_number(kind), 0);
+        let rec = Rec::part(REFERENCE, target_number(kind), 0);
         self.add_part(
             words,
             bytes,
@@ -74,7 +74,7 @@ impl LowerCtx {
                 let made = self.make_bytestring(
                     words,
                     bytes,
-                    part_rec(BYTESTRING, 0, 0),
+                    Rec::part(BYTESTRING, 0, 0),
                     text,
                     link,
                 );
@@ -88,8 +88,7 @@ impl LowerCtx {
         ensures { StepsIn in_cell_list self result words.old bytes.old words.new bytes.new
             (add_cell (number (low + high * 2 ^ 32))) }
     {
-        let none: [u8; 0] = [];
-        self.add_cell(words, bytes, part_rec(NUMBER, low, high), &none, &none)
+        self.add_cell(words, bytes, Rec::part(NUMBER, low, high), b"", b"")
     }
 
     // A reference in a cell list.
@@ -104,7 +103,7 @@ impl LowerCtx {
         ensures { StepsIn in_cell_list self result words.old bytes.old words.new bytes.new
             (add_cell (reference (target_made kind label.now path.now))) }
     {
-        let rec = part_rec(REFERENCE, target_number(kind), 0);
+        let rec = Rec::part(REFERENCE, target_number(kind), 0);
         self.add_cell(
             words,
             bytes,
@@ -127,7 +126,14 @@ impl LowerCtx {
             first.now second.now (child_link self.defs.last self.part) with_part }
     {
         let link = child_link(self.defs.last, self.part);
-        let made = self.make(words, bytes, rec, first, second, link);
+        let made = self.make(
+            words,
+            bytes,
+            rec,
+            Text::Whole(Piece::Given(first)),
+            Text::Whole(Piece::Given(second)),
+            link,
+        );
         made.with_part(self.records)
     }
 
@@ -144,7 +150,14 @@ impl LowerCtx {
             first.now second.now (child_link self.part self.cell) with_last_cell }
     {
         let link = child_link(self.part, self.cell);
-        let made = self.make(words, bytes, rec, first, second, link);
+        let made = self.make(
+            words,
+            bytes,
+            rec,
+            Text::Whole(Piece::Given(first)),
+            Text::Whole(Piece::Given(second)),
+            link,
+        );
         made.with_cell(self.records)
     }
 
@@ -152,17 +165,19 @@ impl LowerCtx {
     fn with_part(self, number: u32) -> LowerCtx
         ensures { result ≡ with_part self number }
     {
-        let mut next = self;
-        next.part = number;
-        next.cell = 0;
-        next
+        LowerCtx {
+            part: number,
+            cell: 0,
+            ..self
+        }
     }
 
     fn with_cell(self, number: u32) -> LowerCtx
         ensures { result ≡ with_last_cell self number }
     {
-        let mut next = self;
-        next.cell = number;
-        next
+        LowerCtx {
+            cell: number,
+            ..self
+        }
     }
 }

@@ -1,10 +1,9 @@
 // What lowering takes out of the log again: bindings.
-ghost use Rattle.std.specs.Prelude.{◌≡◌, cond, eqb};
-ghost use Rattle.making.specs.machine.Removed.{cleared_text, cleared_texts, cleared_words, set_next, without_bind};
+ghost use Rattle.std.specs.Prelude.{◌≡◌};
+ghost use Rattle.making.specs.machine.Removed.{cleared_text, cleared_texts, cleared_words, set_next};
 ghost use Rattle.making.specs.machine.Represents.{Unlinks};
 
-use crate::ctx::{Chain, LowerCtx};
-use crate::fill::{zero_bytes, zero_words};
+use crate::ctx::LowerCtx;
 use definition_log::layout;
 use definition_log::record::{next_of, out_field};
 
@@ -26,32 +25,11 @@ impl LowerCtx {
         clear_texts(words, bytes, r);
         clear_words(words, r);
         set_next(words, previous, next);
-        self.without_bind(previous, next)
+        LowerCtx {
+            binds: self.binds.without(previous, next),
+            ..self
+        }
     }
-
-    // The state without the binding that stood between these two.
-    fn without_bind(self, previous: u32, next: u32) -> LowerCtx
-        ensures { result ≡ without_bind self previous next }
-    {
-        let old = self.binds;
-        let binds = Chain {
-            first: end_without(previous, next, old.first),
-            last: end_without(next, previous, old.last),
-        };
-        let mut left = self;
-        left.binds = binds;
-        left
-    }
-}
-
-// An end of a chain without a record at whose other side `beyond` stands.
-fn end_without(side: u32, beyond: u32, end: u32) -> u32
-    ensures { result ≡ cond (eqb side 0) beyond end }
-{
-    if side == 0 {
-        return beyond;
-    }
-    end
 }
 
 // Sets both texts of a record to zeros.
@@ -75,10 +53,10 @@ fn clear_text(bytes: &mut [u8], start: u32, size: u32)
     ensures { bytes.new ≡ cleared_text bytes.old start size }
 {
     let from = start as usize;
-    if bytes.len() < from + (size as usize) {
-        return;
+    let end = from + (size as usize);
+    if end <= bytes.len() {
+        bytes[from..end].fill(0);
     }
-    zero_bytes(bytes, from, size as usize);
 }
 
 // Sets the words of a record to zeros, where they lie in the words.
@@ -86,22 +64,18 @@ pub(crate) fn clear_words(words: &mut [u32], r: u32)
     ensures { words.new ≡ cleared_words words.old r }
 {
     let at = (r as usize) * layout::RECORD_WORDS;
-    if words.len() < at + layout::RECORD_WORDS {
-        return;
+    let end = at + layout::RECORD_WORDS;
+    if end <= words.len() {
+        words[at..end].fill(0);
     }
-    zero_words(words, at, layout::RECORD_WORDS);
 }
 
 // Sets the next link of a record, where there is one.
 fn set_next(words: &mut [u32], r: u32, next: u32)
     ensures { words.new ≡ set_next r next words.old }
 {
-    if r == 0 {
-        return;
-    }
     let at = (r as usize) * layout::RECORD_WORDS + layout::NEXT_AT;
-    if words.len() <= at {
-        return;
+    if r != 0 && at < words.len() {
+        words[at] = next;
     }
-    words[at] = next;
 }

@@ -1,11 +1,9 @@
 // Where a log starts: both buffers cleared, and nothing made; and where the post checks start.
 ghost use Rattle.std.specs.Prelude.{◌≡◌, length, replicate};
 ghost use Rattle.making.specs.meaning.State.{start};
-ghost use Rattle.making.specs.machine.Made.{checked};
 ghost use Rattle.making.specs.machine.Represents.{Represents, at_start, StartsChecks};
 
 use crate::ctx::{Chain, LowerCtx};
-use crate::fill::{zero_bytes, zero_words};
 use definition_log::record::log_count;
 
 // Clears both buffers.
@@ -13,8 +11,8 @@ pub fn clear(words: &mut [u32], bytes: &mut [u8])
     ensures words_after { words.new ≡ replicate (length words.old) 0 }
     ensures bytes_after { bytes.new ≡ replicate (length bytes.old) 0 }
 {
-    zero_words(words, 0, words.len());
-    zero_bytes(bytes, 0, bytes.len());
+    words.fill(0);
+    bytes.fill(0);
 }
 
 // The state of an empty log in cleared buffers: record 0 is made, where it has room.
@@ -22,14 +20,13 @@ pub fn start(words: &mut [u32], bytes: &mut [u8]) -> LowerCtx
     ensures { Represents at_start result words.new bytes.new start }
 {
     clear(words, bytes);
-    let none = Chain { first: 0, last: 0 };
     LowerCtx {
         records: 1,
         bytes: 0,
-        defs: none,
-        exts: none,
-        binds: none,
-        diags: none,
+        defs: Chain::NONE,
+        exts: Chain::NONE,
+        binds: Chain::NONE,
+        diags: Chain::NONE,
         part: 0,
         cell: 0,
         short: log_count(words) == 0,
@@ -41,15 +38,9 @@ impl LowerCtx {
     pub fn start_checks(self) -> LowerCtx
         ensures { StartsChecks self result }
     {
-        self.checked()
-    }
-
-    fn checked(self) -> LowerCtx
-        ensures { result ≡ checked self }
-    {
-        let none = Chain { first: 0, last: 0 };
-        let mut next = self;
-        next.diags = none;
-        next
+        LowerCtx {
+            diags: Chain::NONE,
+            ..self
+        }
     }
 }

@@ -15,10 +15,10 @@ event_of chain log r first second =
       second = second;
       n = r.n;
       m = r.m;
-      from = r.from;
-      to = r.to;
-      name_from = r.name_from;
-      name_to = r.name_to;
+      from = r.span.from;
+      to = r.span.to;
+      name_from = r.name_span.from;
+      name_to = r.name_span.to;
       log = log;
       alive = true;
     }

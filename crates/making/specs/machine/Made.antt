@@ -23,10 +23,10 @@ sixteen at first second r =
     ∷ 0
     ∷ r.n
     ∷ r.m
-    ∷ r.from
-    ∷ r.to
-    ∷ r.name_from
-    ∷ r.name_to
+    ∷ r.span.from
+    ∷ r.span.to
+    ∷ r.name_span.from
+    ∷ r.name_span.to
     ∷ 0
     ∷ 0
     ∷ 0

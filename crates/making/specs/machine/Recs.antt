@@ -1,6 +1,5 @@
 -- What the records that the operations make say.
 use Rattle.std.specs.Prelude.{ℕ, ◌≡◌, true, false, List, []}
-use Rattle.paths_numbers.specs.meaning.Reference.{label, path}
 use Rattle.making.specs.declared.ctx.LowerCtx.{LowerCtx}
 use Rattle.making.specs.declared.ctx.Rec.{Rec}
 use Rattle.definition_log.specs.declared.parts.Span as declared
@@ -8,7 +7,7 @@ use Rattle.making.specs.declared.recs.DefKind.{DefKind}
 use Rattle.making.specs.declared.recs.DefKind.TheVariants as D
 use Rattle.definition_log.specs.declared.parts.TargetKind.{TargetKind}
 use Rattle.definition_log.specs.declared.parts.TargetKind.TheVariants as T
-use Rattle.definition_log.specs.meaning.Contents.{Span, DefValue, node, property, deleted_node, deleted_property, version, plugin, Def, Binding, Diag}
+use Rattle.definition_log.specs.meaning.Contents.{DefValue, node, property, deleted_node, deleted_property, version, plugin, Def, Binding, Diag}
 use Rattle.definition_log.specs.meaning.Contents.{bytestring}
 use Rattle.definition_log.specs.machine.Parts.{meant}
 use Rattle.definition_log.specs.meaning.Record.{node_kind, property_kind, deleted_node_kind, deleted_property_kind, version_kind, plugin_kind}
@@ -51,7 +50,7 @@ bare_def k span name_span p = record { path = p; value = bare_value k; span = me
 -- the words of a record with these two spans
 abbrev pub spanned_rec : ℕ → ℕ → ℕ → declared.Span → declared.Span → Rec
 spanned_rec kind n m span name_span =
-    record { kind = kind; n = n; m = m; from = span.from; to = span.to; name_from = name_span.from; name_to = name_span.to }
+    record { kind = kind; n = n; m = m; span = span; name_span = name_span }
 
 -- and of one without
 abbrev pub no_span : declared.Span

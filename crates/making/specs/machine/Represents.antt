@@ -4,6 +4,7 @@ use Rattle.std.specs.Prelude.{ℕ, ◌+◌, ◌*◌, ◌≤◌, ◌<◌, ◌≡�
 use Rattle.paths_numbers.specs.meaning.Path.{root}
 use Rattle.making.specs.declared.ctx.LowerCtx.{LowerCtx}
 use Rattle.making.specs.declared.place.PathAt.{PathAt}
+use Rattle.making.specs.declared.place.PathAt.TheVariants as P
 use Rattle.definition_log.specs.meaning.Contents.{Span, Def, Ext, Diag}
 use Rattle.paths_numbers.specs.meaning.Reference.{Target}
 use Rattle.making.specs.meaning.State.{State, apart, dropped, extended}
@@ -117,10 +118,10 @@ pub record Inside (mark x : ℕ) (e : Event) : Type 0 where
 
 -- a place stands for a path: "/", the empty path, or the text of a definition
 pub data Stands (es : List Event) (p : Place) : Type 0 where
-  at_root : p.at.root ≡ true → p.path ≡ root → Stands es p
-  at_top : p.at.root ≡ false → p.at.start ≡ 0 → p.at.size ≡ 0 → p.path ≡ [] → Stands es p
+  at_root : p.at ≡ P.Root → p.path ≡ root → Stands es p
+  at_top : p.at ≡ P.Bytes 0 0 → p.path ≡ [] → Stands es p
   at_definition : (xs : List Event) (e : Event) (ys : List Event) (l : ℕ) → es ≡ xs ++ e ∷ ys → e.alive ≡ true → e.chain ≡ defs_of l
-      → p.at.root ≡ false → p.at.start ≡ end_of 0 xs → p.at.size ≡ length e.text → p.path ≡ e.text → Stands es p
+      → p.at ≡ P.Bytes (end_of 0 xs) (length e.text) → p.path ≡ e.text → Stands es p
 
 pub data AllStand (es : List Event) : List Place → Type 0 where
   no_places : AllStand es []

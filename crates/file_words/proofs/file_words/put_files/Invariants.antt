@@ -1,10 +1,6 @@
 -- The records so far have their numbers, and the one in hand gets its own.
-use Prim.Native.Nat.{◌-◌, ◌≤◌}
 use Rattle.file_words.specs.machine.Put.{FilesPut}
 use Rattle.file_words.proofs.file_words.put_files.Given as goal
 
 abbrev pub invariant-loop-r : goal.invariant-loop-r
-invariant-loop-r l = (l.r ≤ l.records) × FilesPut l.starts l.initial.words l.words l.r
-
-abbrev pub decreases-loop-r : goal.decreases-loop-r
-decreases-loop-r l = l.records - l.r
+invariant-loop-r l = FilesPut l.starts l.initial.words l.words l.r

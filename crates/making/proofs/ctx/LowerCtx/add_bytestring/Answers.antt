@@ -21,7 +21,7 @@ returns-in-Bytes c =
     record {
       even = λ e. makes_bytestring
           c.args.text.now e (c.make_bytestring-made.ensures.even e)
-          c.part_rec.ensures
+          c.part.ensures
           c.child_link-link.ensures c.with_part.ensures;
       odd = λ e. absurd (not_both e n.0);
     }

@@ -6,4 +6,4 @@ use Rattle.making.proofs.ctx.LowerCtx.add_cell_list.Goals as goal
 pub returns : goal.returns
 returns c = makes_cell_list c.add_part.ensures
     c.args.width refl refl
-    c.part_rec.ensures
+    c.part.ensures

@@ -4,6 +4,6 @@ use Rattle.making.proofs.ctx.LowerCtx.add_reference.Goals as goal
 
 pub returns : goal.returns
 returns c = let a = c.args in makes_reference c.add_cell.ensures a.kind _ _ _
-    c.part_rec-rec.ensures
+    c.part-rec.ensures
     c.target_number.ensures
     c.label_of.ensures c.path_of.ensures

@@ -5,4 +5,4 @@ use Rattle.making.proofs.ctx.LowerCtx.add_string.Goals as goal
 
 pub returns : goal.returns
 returns c = makes_string c.add_part.ensures refl
-    c.part_rec.ensures
+    c.part.ensures

@@ -4,8 +4,8 @@ use Rattle.making.proofs.ctx.LowerCtx.add_target.Goals as goal
 pub returns : goal.returns
 returns c =
     rw (
-      c.child_link-link.ensures,
-      c.part_rec-rec.ensures,
+      c.child_link.ensures,
+      c.part-rec.ensures,
       c.target_number.ensures,
       c.label_of.ensures,
       c.path_of.ensures,

@@ -1,9 +1,9 @@
 -- A binding made (Typed).
+use Rattle.std.proofs.Common.{refl}
+use Rattle.making.specs.machine.Made.{with_bind}
 use Rattle.making.proofs.Typed.{makes_binding}
 use Rattle.making.proofs.ctx.LowerCtx.bind.Goals as goal
 
 pub returns : goal.returns
-returns c = makes_binding c.make_bound-made.ensures
-    c.args.span
-    c.spanned_rec-rec.ensures
-    c.end_link-link.ensures c.with_bind.ensures
+unfolding with_bind
+returns c = makes_binding c.make-made.ensures c.args.span refl c.end_link.ensures (rw c.grown.ensures refl)

@@ -1,0 +1,94 @@
+// A text of a record that is made: bytes that are given, or a path that the bytes of the log have.
+ghost use Rattle.std.specs.Prelude.{◌≡◌, ◌+◌, ◌≤◌, length};
+ghost use Rattle.paths_numbers.specs.meaning.Text.{written};
+ghost use Rattle.paths_numbers.specs.meaning.Path.{joined, at_most, largest_usize};
+ghost use Rattle.making.specs.machine.PathPlaces.{path_in};
+ghost use Rattle.making.specs.machine.Texts.{piece_in, text_said};
+
+use crate::place::PathAt;
+use paths_numbers::dt_node::{path_byte, path_len};
+
+// Bytes that are given, or the path of a place.
+#[derive(Clone, Copy)]
+pub(crate) enum Piece<'a> {
+    Given(&'a [u8]),
+    At(PathAt),
+}
+
+// One of these, or the path of a name with a unit address under a path.
+#[derive(Clone, Copy)]
+pub(crate) enum Text<'a> {
+    Whole(Piece<'a>),
+    Joined {
+        path: PathAt,
+        name: Piece<'a>,
+        unit: &'a [u8],
+    },
+}
+
+// No text.
+pub(crate) const NONE: Text<'static> = Text::Whole(Piece::Given(b""));
+
+impl<'a> Piece<'a> {
+    // Its bytes.
+    fn bytes(self, used: u32, bytes: &'a [u8]) -> &'a [u8]
+        ensures { result.now ≡ piece_in used bytes.now self.entry }
+    {
+        match self {
+            Piece::Given(text) => text,
+            Piece::At(path) => path.text(used, bytes),
+        }
+    }
+}
+
+impl<'a> Text<'a> {
+    // How long it is, or the largest usize where it is longer.
+    pub(crate) fn len(self, used: u32, bytes: &[u8]) -> usize
+        ensures { result ≡ at_most largest_usize (length (text_said used bytes.now self.entry)) }
+    {
+        match self {
+            Text::Whole(piece) => piece.bytes(used, bytes).len(),
+            Text::Joined { path, name, unit } => {
+                path_len(path.text(used, bytes), name.bytes(used, bytes), unit)
+            }
+        }
+    }
+
+    // Writes it from index `at` on, which lies behind the bytes in use.
+    pub(crate) fn write(self, used: u32, bytes: &mut [u8], at: usize)
+        requires { (used ≤ at) × (at + length (text_said used bytes.old self) ≤ length bytes.old) }
+        ensures { bytes.new ≡ written bytes.old at (text_said used bytes.old self.entry) }
+    {
+        match self {
+            Text::Whole(Piece::Given(text)) => bytes[at..at + text.len()].copy_from_slice(text),
+            Text::Whole(Piece::At(path)) => write_path(used, bytes, at, path),
+            Text::Joined { path, name, unit } => write_joined(used, bytes, at, path, name, unit),
+        }
+    }
+}
+
+// Writes the path of a place.
+fn write_path(used: u32, bytes: &mut [u8], at: usize, path: PathAt)
+    requires { (used ≤ at) × (at + length (path_in used bytes.old path) ≤ length bytes.old) }
+    ensures { bytes.new ≡ written bytes.old at (path_in used bytes.old path) }
+{
+    match path.settle(used, bytes) {
+        PathAt::Root => bytes[at] = b'/',
+        PathAt::Bytes { start, size } => {
+            bytes.copy_within((start as usize)..(start as usize) + (size as usize), at)
+        }
+    }
+}
+
+// Writes the path of a name under a path.
+fn write_joined(used: u32, bytes: &mut [u8], at: usize, path: PathAt, name: Piece<'_>, unit: &[u8])
+    requires { (used ≤ at)
+        × (at + length (joined (path_in used bytes.old path) (piece_in used bytes.old name) unit.now) ≤ length bytes.old) }
+    ensures { bytes.new ≡ written bytes.old at
+        (joined (path_in used bytes.old path) (piece_in used bytes.old name.entry) unit.now) }
+{
+    for i in 0..path_len(path.text(used, bytes), name.bytes(used, bytes), unit) {
+        let b = path_byte(path.text(used, bytes), name.bytes(used, bytes), unit, i);
+        bytes[at + i] = b;
+    }
+}
