@@ -9,20 +9,19 @@ use Rattle.paths_numbers.proofs.Integers.{read}
 use Rattle.std.proofs.lemmas.Result.{err_from_is_err_and}
 use native.Mathlib.Omega.{arith}
 use mathlib.Core.Path.{◌∙◌, ap}
-use Rattle.input.proofs.value_read.expression_cell.Goals as goal
+use Rattle.input.proofs.linked.Input.expression_cell.Goals as goal
 
 pub returns-then-nesting-eq0 : goal.returns-then-nesting-eq0
 returns-then-nesting-eq0 c = let s = c in absurd (omega (
   arith,
-  some_nesting s.args.words.now s.args.text.now s.requires.linked
+  some_nesting s.args.self.words.now s.args.self.text.now s.args.self.linked
       s.args.r s.args.nesting s.requires.record_in,
   c.if-nesting-eq0.true,
 ))
 
 pub eval_first-requires : goal.eval_first-requires
 eval_first-requires c = let s = c in record {
-  linked = s.requires.linked;
-  chain_in = rw c.child_at.ensures (children_in s.args.words.now s.args.text.now s.requires.linked s.args.r s.args.nesting
+  chain_in = rw c.child_at.ensures (children_in s.args.self.words.now s.args.self.text.now s.args.self.linked s.args.r s.args.nesting
       s.requires.record_in);
 }
 
@@ -31,15 +30,15 @@ returns-in_err-z c =
     let a = c.args in
     let p = err_from_is_err_and c.from_residual.result c.from_residual.ensures.1 in
     rw (p.1, p.2)
-    (ap (outcome_cell signed_rules a.size (span_at a.words.now a.r)) c.in_err-z.ensures
+    (ap (outcome_cell signed_rules a.size (span_at a.self.words.now a.r)) c.in_err-z.ensures
     ∙ rw c.child_at.ensures
-    (expression_at a.level a.size (span_at a.words.now a.r) (parts_at a.words.now a.text.now a.r)))
+    (expression_at a.level a.size (span_at a.self.words.now a.r) (parts_at a.self.words.now a.self.text.now a.r)))
 
 pub returns : goal.returns
 returns c = let a = c.args in
-    c.fitted_cell.ensures a.words.now a.text.now
-    ∙ ap (number_cell (span_at a.words.now a.r)) (c.expr_cell.ensures
+    c.fitted_cell.ensures a.self.words.now a.self.text.now
+    ∙ ap (number_cell (span_at a.self.words.now a.r)) (c.expr_cell.ensures
     ∙ ap (expr_cell (bits_of a.size)) (read (record { sfits = omega arith })))
-    ∙ ap (outcome_cell signed_rules a.size (span_at a.words.now a.r)) c.in_ok-z.ensures
+    ∙ ap (outcome_cell signed_rules a.size (span_at a.self.words.now a.r)) c.in_ok-z.ensures
     ∙ rw c.child_at.ensures
-    (expression_at a.level a.size (span_at a.words.now a.r) (parts_at a.words.now a.text.now a.r))
+    (expression_at a.level a.size (span_at a.self.words.now a.r) (parts_at a.self.words.now a.self.text.now a.r))

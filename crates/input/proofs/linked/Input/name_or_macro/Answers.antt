@@ -1,6 +1,6 @@
 -- By which of the two parts is there (NameRead).
 use Rattle.input.proofs.NameRead.{name_there, macro_there, nothing_there}
-use Rattle.input.proofs.name.name_or_macro.Goals as goal
+use Rattle.input.proofs.linked.Input.name_or_macro.Goals as goal
 
 pub returns-then-n-ne0 : goal.returns-then-n-ne0
 returns-then-n-ne0 c = λ text. name_there _ _ _ 0 c.first_of-n.ensures text c.if-n-ne0.true

@@ -1,6 +1,6 @@
 -- An expression and what it is made of call each other as the nesting runs out.
 use Rattle.std.proofs.Common.{◌+◌, ◌*◌}
-use Rattle.input.proofs.expr_eval.+eval.Given as goal
+use Rattle.input.proofs.linked.Input.+eval.Given as goal
 
 abbrev pub decreases-eval : goal.decreases-eval
 decreases-eval l = l.nesting * 4

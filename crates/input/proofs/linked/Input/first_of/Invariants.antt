@@ -6,11 +6,11 @@ use Rattle.input.specs.meaning.Tree.{first_of}
 use Rattle.input.specs.meaning.Input.{chain_at}
 use Rattle.input.specs.machine.Linked.{At}
 use Rattle.input.proofs.Read.{rank}
-use Rattle.input.proofs.record.first_of.Given as goal
+use Rattle.input.proofs.linked.Input.first_of.Given as goal
 
 abbrev pub invariant-loop-r : goal.invariant-loop-r
-invariant-loop-r l = At l.words l.r × ((text : List ℕ) → first_of l.kind (chain_at l.words text l.first) ≡ first_of l.kind
-    (chain_at l.words text l.r))
+invariant-loop-r l = At l.self.words.now l.r × ((text : List ℕ) → first_of l.kind (chain_at l.self.words.now text l.first) ≡ first_of l.kind
+    (chain_at l.self.words.now text l.r))
 
 abbrev pub decreases-loop-r : goal.decreases-loop-r
-decreases-loop-r l = rank l.words l.r
+decreases-loop-r l = rank l.self.words.now l.r

@@ -4,7 +4,7 @@ use Prim.Native.Nat.{ℕ}
 use Rattle.input.specs.meaning.Name.{name_or_macro}
 use Rattle.input.specs.meaning.Input.{chain_at}
 use Rattle.input.proofs.NameRead.{full_alone, full_addressed}
-use Rattle.input.proofs.name.full_name.Goals as goal
+use Rattle.input.proofs.linked.Input.full_name.Goals as goal
 
 pub returns-then-u-eq0 : goal.returns-then-u-eq0
 returns-then-u-eq0 c = full_alone _ _ c.name_or_macro-name.result c.name_or_macro-name.ensures _
@@ -13,13 +13,13 @@ returns-then-u-eq0 c = full_alone _ _ c.name_or_macro-name.result c.name_or_macr
 pub name_or_macro-requires : goal.name_or_macro-requires
 name_or_macro-requires c =
     let s = c in
-    let u = c.first_of-u in record { linked = s.requires.linked; at = rw c.child_at.ensures (s.requires.linked.all u.result (u.ensures.at c.if-u-eq0.false)).child.within }
+    let u = c.first_of-u in record { at = rw c.child_at.ensures (s.args.self.linked.all u.result (u.ensures.at c.if-u-eq0.false)).child.within }
 
 pub returns : goal.returns
 returns c =
     let s = c in
     let name = c.name_or_macro-name in
-    full_addressed s.args.words.now s.args.first name.result name.ensures _ c.first_of-u.ensures
+    full_addressed s.args.self.words.now s.args.first name.result name.ensures _ c.first_of-u.ensures
     c.if-u-eq0.false c.name_or_macro.result
-    (λ text. c.name_or_macro.ensures text ∙ ap (λ (r : ℕ). name_or_macro (chain_at s.args.words.now text r))
+    (λ text. c.name_or_macro.ensures text ∙ ap (λ (r : ℕ). name_or_macro (chain_at s.args.self.words.now text r))
     c.child_at.ensures)
