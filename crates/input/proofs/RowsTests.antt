@@ -1,15 +1,14 @@
 -- The tests of one record, by rows 4 and 5: the places by number, and what its words say.
 use Prim.Native.Nat.{ℕ, ◌%◌, ◌≤◌, ◌<◌}
 use mathlib.Core.Path.{◌≡◌, refl, sym, ap, ◌∙◌}
-use mathlib.Core.Bool.{Bool, true, false, not, cond}
+use mathlib.Core.Bool.{Bool, true, false, not}
 use mathlib.Core.List.{List, [], ◌∷◌}
 use native.Mathlib.Omega.{arith}
-use borrow.Author.Tests.{lt-ltb, le-ltb, leb-true, leb-false, ne_eqb, eqb-true, eqb-false}
-use lib.Dec.{eqb, leb, ltb}
+use borrow.Author.Tests.{ne_eqb, eqb-true, eqb-false}
+use lib.Dec.{eqb}
 use lib.ListN.{length}
 use Rattle.paths_numbers.specs.meaning.Text.{is_empty}
 use Rattle.paths_numbers.proofs.Texts.{by_test}
-use Rattle.paths_numbers.specs.meaning.Lists.{any}
 use Rattle.input.specs.meaning.Input.{kind_at, child_at, span_start_at, span_end_at, number_at}
 use Rattle.input.specs.meaning.Place.{InputPlace, items, node_parts, property_parts, directive_parts, values, cells, expressions, names}
 use Rattle.input.specs.meaning.Place.{macros, no_place, child_place, has_children, fits_alone}
@@ -54,10 +53,6 @@ pub empty_is : (l : List ℕ) → eqb (length l) 0 ≡ is_empty l
 unfolding is_empty
 empty_is [] = refl
 empty_is (x ∷ l) = ne_eqb (length (x ∷ l)) 0 (λ e. omega arith)
-
--- a test turned round
-pub turned : (a b : ℕ) → ltb a b ≡ not (leb b a)
-turned a b = by_test (leb b a) (λ q. rw q (le-ltb a b (leb-true b a q))) (λ q. rw q (lt-ltb a b (leb-false b a q)))
 
 -- where the children of a kind stand: unit addresses and labels have names, and four kinds expressions
 pub below_names : (k : ℕ) → 6 ≤ k → k < 8 → names ≡ child_place k

@@ -78,13 +78,6 @@ pub const RAW: u32 = 1;
 
 const LAST_PREFIX: u32 = 4;
 
-// The last code point, and the surrogates, which are none.
-const LAST_CHARACTER: u32 = 0x10ffff;
-
-const FIRST_SURROGATE: u32 = 0xd800;
-
-const LAST_SURROGATE: u32 = 0xdfff;
-
 // What a record says by itself: its kind fits its place, its W its kind, and its span does not end before it starts.
 pub fn fits_alone(place: Place, kind: u32, w: u32, start: u32, end: u32) -> bool
     ensures { result ≡ fits_alone (meant_place place) kind w (record { from = start; to = end }) }
@@ -150,36 +143,19 @@ pub fn links_by_w(kind: u32) -> bool
 fn w_fits(kind: u32, w: u32) -> bool
     ensures { result ≡ w_fits kind w }
 {
-    if kind == DIRECTIVE {
-        if w < 1 {
-            return false;
-        }
-        return w <= LAST_DIRECTIVE;
+    match kind {
+        DIRECTIVE => 1 <= w && w <= LAST_DIRECTIVE,
+        REFERENCE => w <= RAW,
+        CHARACTER => is_character(w),
+        PREFIX => w <= LAST_PREFIX,
+        INFIX => w <= CONDITIONAL,
+        _ => w == 0,
     }
-    if kind == REFERENCE {
-        return w <= RAW;
-    }
-    if kind == CHARACTER {
-        return is_character(w);
-    }
-    if kind == PREFIX {
-        return w <= LAST_PREFIX;
-    }
-    if kind == INFIX {
-        return w <= CONDITIONAL;
-    }
-    w == 0
 }
 
 // Whether a number is a code point that is no surrogate.
 fn is_character(w: u32) -> bool
     ensures { result ≡ is_character w }
 {
-    if LAST_CHARACTER < w {
-        return false;
-    }
-    if w < FIRST_SURROGATE {
-        return true;
-    }
-    LAST_SURROGATE < w
+    char::from_u32(w).is_some()
 }

@@ -22,6 +22,7 @@ use definition_log::answer::{
 use paths_numbers::phandle::first_slash;
 
 // How a record stands is one number: this times its depth, and its place's number; 0 where no link has led to it.
+// kept: fixed memory, of which an array of places and depths takes three times as much
 const PLACES: u32 = 16;
 
 // Accepted, or refused by one of 01's causes with the record that it returns.

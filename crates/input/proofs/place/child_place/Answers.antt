@@ -1,6 +1,5 @@
 -- By the kind.
-use Prim.Native.Nat.{ℕ}
-use mathlib.Core.Path.{◌≡◌, refl}
+use mathlib.Core.Path.{refl}
 use native.Mathlib.Omega.{arith}
 use Rattle.input.specs.meaning.Place.{child_place}
 use Rattle.input.proofs.RowsTests.{below_names, below_expressions, below_none}
