@@ -3,7 +3,7 @@ use Prim.Native.Nat.{ℕ, ◌≤◌, ◌<◌}
 use mathlib.Core.Path.{◌≡◌, refl, sym, ap, ◌∙◌}
 use mathlib.Core.Bool.{true, false}
 use mathlib.Core.List.{List, [], ◌∷◌}
-use mathlib.Core.Option.{Option, some, none}
+use mathlib.Core.Option.{some}
 use borrow.Author.Tests.{le-leb, lt-leb}
 use native.Mathlib.Omega.{arith}
 use Rattle.std.specs.Prelude.{Option as Maybe, Some, None, Result, Ok, Err, is_ok}
@@ -13,7 +13,7 @@ use Rattle.paths_numbers.proofs.Texts.{not_both}
 use Rattle.definition_log.specs.meaning.Contents.{Span}
 use Rattle.input.specs.meaning.Tree.{first_of, name_kind, unit_address_kind, reference_kind, macro_kind, slash_kind}
 use Rattle.input.specs.meaning.Report.{Got, found, failed, undefined_macro}
-use Rattle.input.specs.meaning.Name.{name_or_macro, with_address, full_name, span_to, slash_span, own_span, node_name_span, property_name_span}
+use Rattle.input.specs.meaning.Name.{name_or_macro, full_name, span_to, slash_span, own_span, node_name_span, property_name_span}
 use Rattle.input.specs.meaning.Input.{child_at, text_at, span_end_at, span_at, chain_at}
 use Rattle.input.specs.machine.At.{record_at}
 use Rattle.input.specs.meaning.GoodName.{good_names_in}

@@ -7,6 +7,8 @@ use mathlib.Core.Option.{Option, some, none}
 use native.Mathlib.Nat.{sub-zero}
 use native.Mathlib.Numerals.{add-one}
 use native.Mathlib.Omega.{arith}
+use borrow.Author.Tests.{eq-eqb, ne_eqb, eqb-true, eqb-false}
+use lib.Dec.{eqb}
 use Rattle.std.specs.Prelude.{Option as Maybe, Some, None}
 use Rattle.std.specs.List.{list_any, find, range_with_len}
 use Rattle.std.specs.Option.{option_map}
@@ -20,6 +22,14 @@ pub any_list : {A : Type 0} (f : A → Bool) (l : List A) → list_any f l ≡ a
 unfolding any
 any_list f [] = refl
 any_list f (x ∷ l) = by_test (f x) (λ q. rw q refl) (λ q. rw q (any_list f l))
+
+pub any_contains : (k : ℕ) (l : List ℕ) → list_any (λ (y : ℕ). eqb y k) l ≡ any (eqb k) l
+unfolding any
+any_contains k [] = refl
+any_contains k (x ∷ l) =
+    by_test (eqb k x)
+    (λ q. rw (q, eq-eqb x k (sym (eqb-true k x q))) refl)
+    (λ q. rw (q, ne_eqb x k (λ e. eqb-false k x q (sym e))) (any_contains k l))
 
 -- and its first number that passes is the lowest record
 lowest_found : (test : ℕ → Bool) (n a : ℕ) → found_in (find test (range_with_len a n)) ≡ lowest test n a

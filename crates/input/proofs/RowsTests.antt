@@ -1,18 +1,17 @@
 -- The tests of one record, by rows 4 and 5: the places by number, and what its words say.
 use Prim.Native.Nat.{ℕ, ◌%◌, ◌≤◌, ◌<◌}
 use mathlib.Core.Path.{◌≡◌, refl, sym, ap, ◌∙◌}
-use mathlib.Core.Bool.{Bool, true, false, not, cond}
+use mathlib.Core.Bool.{Bool, true, false, not}
 use mathlib.Core.List.{List, [], ◌∷◌}
 use native.Mathlib.Omega.{arith}
-use borrow.Author.Tests.{lt-ltb, le-ltb, leb-true, leb-false}
-use lib.Dec.{eqb, leb, ltb}
+use borrow.Author.Tests.{ne_eqb, eqb-true, eqb-false}
+use lib.Dec.{eqb}
 use lib.ListN.{length}
 use Rattle.paths_numbers.specs.meaning.Text.{is_empty}
 use Rattle.paths_numbers.proofs.Texts.{by_test}
-use Rattle.paths_numbers.specs.meaning.Lists.{any}
 use Rattle.input.specs.meaning.Input.{kind_at, child_at, span_start_at, span_end_at, number_at}
 use Rattle.input.specs.meaning.Place.{InputPlace, items, node_parts, property_parts, directive_parts, values, cells, expressions, names}
-use Rattle.input.specs.meaning.Place.{macros, no_place, kinds_in, has_children, fits_alone}
+use Rattle.input.specs.meaning.Place.{macros, no_place, child_place, has_children, fits_alone}
 use Rattle.input.specs.meaning.Rows.{unfit, holds_slash}
 use Rattle.input.specs.meaning.GoodName.{good_name}
 use Rattle.input.specs.machine.RowsPass.{number_of, place_of, visit_at}
@@ -49,34 +48,49 @@ in_places names = record { least = omega arith; most = omega arith }
 in_places macros = record { least = omega arith; most = omega arith }
 in_places no_place = record { least = omega arith; most = omega arith }
 
--- a place that kinds fit is not the one that none does
-pub holds_kinds : (p : InputPlace) → not (eqb (number_of p) 10) ≡ not (is_empty (kinds_in p))
+-- a list is empty where its length is 0
+pub empty_is : (l : List ℕ) → eqb (length l) 0 ≡ is_empty l
 unfolding is_empty
-holds_kinds items = refl
-holds_kinds node_parts = refl
-holds_kinds property_parts = refl
-holds_kinds directive_parts = refl
-holds_kinds values = refl
-holds_kinds cells = refl
-holds_kinds expressions = refl
-holds_kinds names = refl
-holds_kinds macros = refl
-holds_kinds no_place = refl
+empty_is [] = refl
+empty_is (x ∷ l) = ne_eqb (length (x ∷ l)) 0 (λ e. omega arith)
 
--- a test turned round
-pub turned : (a b : ℕ) → ltb a b ≡ not (leb b a)
-turned a b = by_test (leb b a) (λ q. rw q (le-ltb a b (leb-true b a q))) (λ q. rw q (lt-ltb a b (leb-false b a q)))
+-- where the children of a kind stand: unit addresses and labels have names, and four kinds expressions
+pub below_names : (k : ℕ) → 6 ≤ k → k < 8 → names ≡ child_place k
+unfolding child_place
+below_names k a b =
+    by_test (eqb k 6)
+    (λ q. rw (eqb-true k 6 q) refl)
+    (λ q. let e : k ≡ 7 = omega (arith, eqb-false k 6 q) in rw e refl)
 
--- a choice for one of four
-pub four_of : {A : Type 0} (k a b d e : ℕ) (x y : A)
-    → cond (any (eqb k) (a ∷ b ∷ d ∷ e ∷ [])) x y ≡ cond (eqb k a) x (cond (eqb k b) x (cond (eqb k d) x (cond (eqb k e) x y)))
-unfolding any
-four_of k a b d e x y =
-    by_test (eqb k a) (λ p. rw p refl)
-    (λ p. by_test (eqb k b) (λ q. rw (p, q) refl)
-    (λ q. by_test (eqb k d) (λ s. rw (p, q, s) refl)
-    (λ s. by_test (eqb k e) (λ t. rw (p, q, s, t) refl)
-    (λ t. rw (p, q, s, t) refl))))
+pub below_expressions : (k : ℕ) → 17 ≤ k → k < 21 → expressions ≡ child_place k
+unfolding child_place
+below_expressions k a b =
+    by_test (eqb k 17)
+    (λ q. rw (eqb-true k 17 q) refl)
+    (λ q. by_test (eqb k 18)
+    (λ s. rw (eqb-true k 18 s) refl)
+    (λ s. by_test (eqb k 19)
+    (λ t. rw (eqb-true k 19 t) refl)
+    (λ t. let e : k ≡ 20 = omega (arith, eqb-false k 17 q, eqb-false k 18 s, eqb-false k 19 t) in rw e refl)))
+
+-- and the others none
+pub below_none : (k : ℕ) → (k ≡ 1 → ⊥) → (k ≡ 2 → ⊥) → (k ≡ 3 → ⊥) → (k ≡ 6 → ⊥) → (k ≡ 7 → ⊥) → (k ≡ 8 → ⊥) → (k ≡ 13 → ⊥)
+    → (17 ≤ k → 21 ≤ k) → no_place ≡ child_place k
+unfolding child_place
+below_none k a b d e f g h j =
+    simp (
+      ne_eqb k 1 a,
+      ne_eqb k 2 b,
+      ne_eqb k 3 d,
+      ne_eqb k 6 e,
+      ne_eqb k 7 f,
+      ne_eqb k 8 g,
+      ne_eqb k 13 h,
+      ne_eqb k 17 (λ p. omega (arith, j (omega arith))),
+      ne_eqb k 18 (λ p. omega (arith, j (omega arith))),
+      ne_eqb k 19 (λ p. omega (arith, j (omega arith))),
+      ne_eqb k 20 (λ p. omega (arith, j (omega arith))),
+    )
 
 -- row 4: whether a record is unfit: `alone` is what it says by itself, and `has` whether it may have children
 module _ (words : List ℕ) (r stand kind w start end : ℕ) (k : kind ≡ kind_at words r) (kw : w ≡ number_at words r)

@@ -3,6 +3,7 @@
 #![tactic(auto)]
 
 pub mod expr_eval;
+pub mod linked;
 pub mod kinds;
 pub mod layout;
 pub mod limits;

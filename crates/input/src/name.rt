@@ -4,14 +4,15 @@ ghost use Rattle.std.specs.Prelude.{◌≡◌, List, ℕ};
 ghost use Rattle.input.specs.meaning.Tree.{name_kind, first_of};
 ghost use Rattle.input.specs.meaning.Name.{name_or_macro, span_to, slash_span, own_span, node_name_span, property_name_span};
 ghost use Rattle.input.specs.meaning.Input.{chain_at};
-ghost use Rattle.input.specs.machine.Linked.{Linked, At};
+ghost use Rattle.input.specs.machine.Linked.{At};
 ghost use Rattle.definition_log.specs.machine.Parts.{meant};
 ghost use Rattle.input.specs.machine.Read.{optional};
 ghost use Rattle.input.specs.machine.NameRead.{name_read, name_text, unit_text, is_there, full_read, FullNameRead};
 
 use crate::kinds::{MACRO, NAME, REFERENCE, SLASH, UNIT_ADDRESS};
 use crate::layout;
-use crate::record::{child_at, field, first_of, no_text, span_at, text_at};
+use crate::linked::Input;
+use crate::record::{child_at, field, no_text, span_at, text_at};
 use crate::report::Report;
 use definition_log::parts::Span;
 
@@ -22,36 +23,36 @@ pub struct FullName {
     pub unit: Option<Result<u32, Report>>,
 }
 
-// The name in a chain of parts: its record, or what is reported in its place, which is nothing where no macro stands there.
-pub fn name_or_macro(words: &[u32], first: u32) -> Result<u32, Report>
-    requires linked { Linked words.now }
-    requires at { At words.now first }
-    ensures { (text : List ℕ) → name_read words.now text result ≡ name_or_macro (chain_at words.now text first) }
-{
-    let n = first_of(words, first, NAME);
-    if n != 0 {
-        return Ok(n);
+impl Input<'_> {
+    // The name in a chain of parts: its record, or what is reported in its place, which is nothing where no macro stands there.
+    pub fn name_or_macro(self, first: u32) -> Result<u32, Report>
+        requires at { At self.words.now first }
+        ensures { (text : List ℕ) → name_read self.entry.words.now text result ≡ name_or_macro (chain_at self.entry.words.now text first) }
+    {
+        let n = self.first_of(first, NAME);
+        if n != 0 {
+            return Ok(n);
+        }
+        let m = self.first_of(first, MACRO);
+        if m != 0 {
+            return Err(Report::Macro(m));
+        }
+        Err(Report::Nothing)
     }
-    let m = first_of(words, first, MACRO);
-    if m != 0 {
-        return Err(Report::Macro(m));
-    }
-    Err(Report::Nothing)
-}
 
-// The name of what has these parts, with its unit address where there is one.
-pub fn full_name(words: &[u32], first: u32) -> FullName
-    requires linked { Linked words.now }
-    requires at { At words.now first }
-    ensures { FullNameRead words.now first result }
-{
-    let name = name_or_macro(words, first);
-    let u = first_of(words, first, UNIT_ADDRESS);
-    if u == 0 {
-        return FullName { name, unit: None };
+    // The name of what has these parts, with its unit address where there is one.
+    pub fn full_name(self, first: u32) -> FullName
+        requires at { At self.words.now first }
+        ensures { FullNameRead self.entry.words.now first result }
+    {
+        let name = self.name_or_macro(first);
+        let u = self.first_of(first, UNIT_ADDRESS);
+        if u == 0 {
+            return FullName { name, unit: None };
+        }
+        let unit = Some(self.name_or_macro(child_at(self.words, u)));
+        FullName { name, unit }
     }
-    let unit = Some(name_or_macro(words, child_at(words, u)));
-    FullName { name, unit }
 }
 
 // Whether there is a name, and one in its unit address where there is one.
@@ -88,44 +89,43 @@ pub fn unit_text<'a, 'b>(
     }
 }
 
-// A node's name span: its reference's, else its name's, else its slash's, else its own.
-pub fn node_name_span(words: &[u32], parts: u32, span: Span) -> Span
-    requires linked { Linked words.now }
-    requires at { At words.now parts }
-    ensures { (text : List ℕ) → meant result ≡ node_name_span (chain_at words.now text parts) (meant span) }
-{
-    let r = first_of(words, parts, REFERENCE);
-    if r != 0 {
-        return span_at(words, r);
+impl Input<'_> {
+    // A node's name span: its reference's, else its name's, else its slash's, else its own.
+    pub fn node_name_span(self, parts: u32, span: Span) -> Span
+        requires at { At self.words.now parts }
+        ensures { (text : List ℕ) → meant result ≡ node_name_span (chain_at self.entry.words.now text parts) (meant span) }
+    {
+        let r = self.first_of(parts, REFERENCE);
+        if r != 0 {
+            return span_at(self.words, r);
+        }
+        self.own_span(parts, span)
     }
-    own_span(words, parts, span)
-}
 
-// A property's name span: its name's, else its own.
-pub fn property_name_span(words: &[u32], parts: u32, span: Span) -> Span
-    requires linked { Linked words.now }
-    requires at { At words.now parts }
-    ensures { (text : List ℕ) → meant result ≡ property_name_span (chain_at words.now text parts) (meant span) }
-{
-    span_or(words, first_of(words, parts, NAME), span)
-}
-
-// The name span of a node without a reference.
-fn own_span(words: &[u32], parts: u32, span: Span) -> Span
-    requires linked { Linked words.now }
-    requires at { At words.now parts }
-    ensures { (text : List ℕ) → meant result ≡ own_span (first_of name_kind (chain_at words.now text parts))
-        (chain_at words.now text parts) (meant span) }
-{
-    let n = first_of(words, parts, NAME);
-    if n == 0 {
-        return span_or(words, first_of(words, parts, SLASH), span);
+    // A property's name span: its name's, else its own.
+    pub fn property_name_span(self, parts: u32, span: Span) -> Span
+        requires at { At self.words.now parts }
+        ensures { (text : List ℕ) → meant result ≡ property_name_span (chain_at self.entry.words.now text parts) (meant span) }
+    {
+        span_or(self.words, self.first_of(parts, NAME), span)
     }
-    span_to(
-        words,
-        span_at(words, n),
-        first_of(words, parts, UNIT_ADDRESS),
-    )
+
+    // The name span of a node without a reference.
+    fn own_span(self, parts: u32, span: Span) -> Span
+        requires at { At self.words.now parts }
+        ensures { (text : List ℕ) → meant result ≡ own_span (first_of name_kind (chain_at self.entry.words.now text parts))
+            (chain_at self.entry.words.now text parts) (meant span) }
+    {
+        let n = self.first_of(parts, NAME);
+        if n == 0 {
+            return span_or(self.words, self.first_of(parts, SLASH), span);
+        }
+        span_to(
+            self.words,
+            span_at(self.words, n),
+            self.first_of(parts, UNIT_ADDRESS),
+        )
+    }
 }
 
 // The span of a record, or the given one where there is no record.

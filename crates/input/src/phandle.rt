@@ -4,28 +4,29 @@ ghost use Rattle.paths_numbers.specs.meaning.Reference.{target_number};
 ghost use Rattle.input.specs.meaning.Phandle.{plain_target, lower_phandle};
 ghost use Rattle.input.specs.meaning.Input.{record_count};
 ghost use Rattle.input.specs.machine.At.{record_at};
-ghost use Rattle.input.specs.machine.Linked.{Linked};
 ghost use Rattle.input.specs.machine.PhandleRead.{label_at, path_at, phandle_read, read_as};
 
 use crate::kinds::MACRO;
+use crate::linked::Input;
 use crate::place::RAW;
-use crate::record::{child_at, first_of, no_text, number_at, text_at};
+use crate::record::{child_at, no_text, number_at, text_at};
 use crate::report::Report;
 use definition_log::parts::TargetKind;
 use paths_numbers::phandle::{MirPhandleTarget, phandle_label, phandle_path};
 
-// What a reference record names, by its kind; or what is reported where it names nothing that can be read.
-pub fn lower_phandle(words: &[u32], text: &[u8], r: u32) -> Result<TargetKind, Report>
-    requires linked { Linked words.now }
-    requires r_bound { r < record_count words.now }
-    ensures { phandle_read words.now text.now r result ≡ lower_phandle
-        (record_at words.now text.now r) }
-{
-    let m = first_of(words, child_at(words, r), MACRO);
-    if m != 0 {
-        return Err(Report::Macro(m));
+impl Input<'_> {
+    // What a reference record names, by its kind; or what is reported where it names nothing that can be read.
+    pub fn lower_phandle(self, r: u32) -> Result<TargetKind, Report>
+        requires r_bound { r < record_count self.words.now }
+        ensures { phandle_read self.entry.words.now self.entry.text.now r result ≡ lower_phandle
+            (record_at self.entry.words.now self.entry.text.now r) }
+    {
+        let m = self.first_of(child_at(self.words, r), MACRO);
+        if m != 0 {
+            return Err(Report::Macro(m));
+        }
+        plain_target(self.words, self.text, r)
     }
-    plain_target(words, text, r)
 }
 
 // What a reference record without a macro names.

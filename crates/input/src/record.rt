@@ -3,10 +3,11 @@ ghost use Rattle.std.specs.Prelude.{◌≡◌, List, [], ℕ};
 ghost use Rattle.input.specs.meaning.Tree.{has};
 ghost use Rattle.input.specs.meaning.Input.{field, kind_at, next_at, child_at, w_at, second_at, number_at, span_at, text_at};
 ghost use Rattle.input.specs.meaning.Input.{chain_at};
-ghost use Rattle.input.specs.machine.Linked.{Linked, At};
+ghost use Rattle.input.specs.machine.Linked.{At};
 ghost use Rattle.definition_log.specs.machine.Parts.{meant};
 ghost use Rattle.input.specs.machine.Read.{after_at, FirstOf};
 
+use crate::linked::Input;
 use crate::layout;
 use crate::place::links_by_w;
 use definition_log::parts::Span;
@@ -107,27 +108,27 @@ pub fn after(words: &[u32], r: u32) -> u32
     next_at(words, r)
 }
 
-// The first record of a kind in a chain, 0 where there is none.
-pub fn first_of(words: &[u32], first: u32, kind: u32) -> u32
-    requires linked { Linked words.now }
-    requires at { At words.now first }
-    ensures { FirstOf words.now first kind result }
-{
-    let mut r = first;
-    while r != 0 {
-        if kind_at(words, r) == kind {
-            return r;
+impl Input<'_> {
+    // The first record of a kind in a chain, 0 where there is none.
+    pub fn first_of(self, first: u32, kind: u32) -> u32
+        requires at { At self.words.now first }
+        ensures { FirstOf self.entry.words.now first kind result }
+    {
+        let mut r = first;
+        while r != 0 {
+            if kind_at(self.words, r) == kind {
+                return r;
+            }
+            r = next_at(self.words, r);
         }
-        r = next_at(words, r);
+        0
     }
-    0
-}
 
-// Whether a chain has a record of a kind.
-pub fn has_kind(words: &[u32], first: u32, kind: u32) -> bool
-    requires linked { Linked words.now }
-    requires at { At words.now first }
-    ensures { (text : List ℕ) → result ≡ has kind (chain_at words.now text first) }
-{
-    first_of(words, first, kind) != 0
+    // Whether a chain has a record of a kind.
+    pub fn has_kind(self, first: u32, kind: u32) -> bool
+        requires at { At self.words.now first }
+        ensures { (text : List ℕ) → result ≡ has kind (chain_at self.entry.words.now text first) }
+    {
+        self.first_of(first, kind) != 0
+    }
 }

@@ -14,6 +14,7 @@ ghost use Rattle.input.specs.meaning.GoodName.{good_name};
 use crate::kinds::{NAME, REFERENCE};
 use crate::limits::{MOST_LINKS, MOST_RECORDS, MOST_TEXT};
 use crate::record::{child_at, field, kind_at, next_at, number_at, second_at, text_at, w_at};
+use crate::place::Place;
 use crate::{layout, place};
 use definition_log::answer::{
     REFUSED_DEPTH, REFUSED_KIND, REFUSED_LINK, REFUSED_NAME, REFUSED_SIZE, REFUSED_TEXT,
@@ -21,6 +22,7 @@ use definition_log::answer::{
 use paths_numbers::phandle::first_slash;
 
 // How a record stands is one number: this times its depth, and its place's number; 0 where no link has led to it.
+// kept: fixed memory, of which an array of places and depths takes three times as much
 const PLACES: u32 = 16;
 
 // Accepted, or refused by one of 01's causes with the record that it returns.
@@ -108,7 +110,7 @@ fn bad_link(words: &[u32], marks: &[u32], r: u32, earlier: &[u32], l: u32) -> bo
     if record_count(words) <= l {
         return true;
     }
-    if place::one_of(l, earlier) {
+    if earlier.contains(&l) {
         return true;
     }
     number_in(marks, l) != 0
@@ -160,7 +162,7 @@ fn find_stands(words: &[u32], stands: &mut [u32])
     requires stands { Stands words.now 0 stands.old }
     ensures { Stands words.now (record_count words.now) stands.new }
 {
-    store(stands, child_at(words, 0), PLACES + place::ITEMS);
+    store(stands, child_at(words, 0), PLACES + Place::Items.number());
     for r in 1..record_count(words) {
         lead_on(words, r, number_in(stands, r), stands);
     }
@@ -179,12 +181,12 @@ fn lead_on(words: &[u32], r: u32, stand: u32, stands: &mut [u32])
     store(
         stands,
         second_at(words, r),
-        deeper + place::second_place(kind),
+        deeper + place::second_place(kind).number(),
     );
     store(
         stands,
         child_at(words, r),
-        deeper + place::child_place(kind),
+        deeper + place::child_place(kind).number(),
     );
     store(stands, next_at(words, r), stand);
 }
@@ -284,7 +286,7 @@ fn is_unfit(words: &[u32], stand: u32, r: u32) -> bool
 {
     let kind = kind_at(words, r);
     if !place::fits_alone(
-        stand % PLACES,
+        Place::from_number(stand % PLACES),
         kind,
         number_at(words, r),
         field(words, r, layout::SPAN_START),

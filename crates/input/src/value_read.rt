@@ -9,15 +9,14 @@ ghost use Rattle.input.specs.meaning.Property.{sized_list, counted_bytes, refere
 ghost use Rattle.input.specs.meaning.Input.{record_count, span_at, text_at, parts_at};
 ghost use Rattle.input.specs.meaning.Phandle.{lower_phandle};
 ghost use Rattle.input.specs.machine.At.{record_at};
-ghost use Rattle.input.specs.machine.Linked.{Linked, RecordIn};
+ghost use Rattle.input.specs.machine.Linked.{RecordIn};
 ghost use Rattle.input.specs.machine.ValueRead.{cell_made, value_made};
 
-use crate::expr_eval::eval_first;
 use crate::kinds::{
     BYTESTRING, CELL_LIST, CHARACTER, DIRECTIVE, EXPRESSION, MACRO, NUMBER, PREPROCESSOR,
     REFERENCE, STRING,
 };
-use crate::phandle::lower_phandle;
+use crate::linked::Input;
 use crate::record::{child_at, kind_at, number_at, text_at};
 use crate::report::Report;
 use definition_log::parts::TargetKind;
@@ -53,29 +52,23 @@ pub enum Value {
     CellList(BitsSize),
 }
 
-// The cell of a width at a record, or what is reported where there is none.
-pub fn read_cell(
-    words: &[u32],
-    text: &[u8],
-    r: u32,
-    size: BitsSize,
-    nesting: u32,
-    level: u32,
-) -> Result<CellValue, Report>
-    requires linked { Linked words.now }
-    requires record_in { RecordIn words.now text.now r nesting }
-    ensures { cell_made words.now text.now r result ≡ lower_cell level size
-        (record_at words.now text.now r) }
-{
-    match kind_at(words, r) {
-        NUMBER => number_cell(r, parse_int_tok(text_at(words, text, r), size)),
-        CHARACTER => fitted_cell(r, char_cell(number_at(words, r), size)),
-        EXPRESSION => expression_cell(words, text, r, size, nesting, level),
-        REFERENCE => reference_cell(words, text, r, size),
-        MACRO => Err(Report::Macro(r)),
-        DIRECTIVE => Err(Report::Code(codes::DIRECTIVE_AS_CELL, r)),
-        PREPROCESSOR => Err(Report::Code(codes::PREPROCESSOR, r)),
-        _ => Err(Report::Nothing),
+impl Input<'_> {
+    // The cell of a width at a record, or what is reported where there is none.
+    pub fn read_cell(self, r: u32, size: BitsSize, nesting: u32, level: u32) -> Result<CellValue, Report>
+        requires record_in { RecordIn self.words.now self.text.now r nesting }
+        ensures { cell_made self.entry.words.now self.entry.text.now r result ≡ lower_cell level size
+            (record_at self.entry.words.now self.entry.text.now r) }
+    {
+        match kind_at(self.words, r) {
+            NUMBER => number_cell(r, parse_int_tok(text_at(self.words, self.text, r), size)),
+            CHARACTER => fitted_cell(r, char_cell(number_at(self.words, r), size)),
+            EXPRESSION => self.expression_cell(r, size, nesting, level),
+            REFERENCE => self.reference_cell(r, size),
+            MACRO => Err(Report::Macro(r)),
+            DIRECTIVE => Err(Report::Code(codes::DIRECTIVE_AS_CELL, r)),
+            PREPROCESSOR => Err(Report::Code(codes::PREPROCESSOR, r)),
+            _ => Err(Report::Nothing),
+        }
     }
 }
 
@@ -99,57 +92,49 @@ fn fitted_cell(r: u32, cell: Cell) -> Result<CellValue, Report>
     }
 }
 
-// The cell of a width at an expression record.
-fn expression_cell(
-    words: &[u32],
-    text: &[u8],
-    r: u32,
-    size: BitsSize,
-    nesting: u32,
-    level: u32,
-) -> Result<CellValue, Report>
-    requires linked { Linked words.now }
-    requires record_in { RecordIn words.now text.now r nesting }
-    ensures { cell_made words.now text.now r result ≡ expression_cell level size (span_at words.now r)
-        (parts_at words.now text.now r) }
-{
-    if nesting == 0 {
-        return Err(Report::Nothing);
+impl Input<'_> {
+    // The cell of a width at an expression record.
+    fn expression_cell(self, r: u32, size: BitsSize, nesting: u32, level: u32) -> Result<CellValue, Report>
+        requires record_in { RecordIn self.words.now self.text.now r nesting }
+        ensures { cell_made self.entry.words.now self.entry.text.now r result ≡ expression_cell level size (span_at self.entry.words.now r)
+            (parts_at self.entry.words.now self.entry.text.now r) }
+    {
+        if nesting == 0 {
+            return Err(Report::Nothing);
+        }
+        let z = self.eval_first(child_at(self.words, r), nesting - 1, level)?;
+        fitted_cell(r, expr_cell(z, size))
     }
-    let z = eval_first(words, text, child_at(words, r), nesting - 1, level)?;
-    fitted_cell(r, expr_cell(z, size))
-}
 
-// A reference in a cell list of a width.
-fn reference_cell(words: &[u32], text: &[u8], r: u32, size: BitsSize) -> Result<CellValue, Report>
-    requires linked { Linked words.now }
-    requires r_bound { r < record_count words.now }
-    ensures { cell_made words.now text.now r result ≡ reference_cell size (span_at words.now r)
-        (lower_phandle (record_at words.now text.now r)) }
-{
-    let kind = lower_phandle(words, text, r)?;
-    if size.bits() != REFERENCE_BITS {
-        return Err(Report::Code(codes::REFERENCE_WIDTH, r));
+    // A reference in a cell list of a width.
+    fn reference_cell(self, r: u32, size: BitsSize) -> Result<CellValue, Report>
+        requires r_bound { r < record_count self.words.now }
+        ensures { cell_made self.entry.words.now self.entry.text.now r result ≡ reference_cell size (span_at self.entry.words.now r)
+            (lower_phandle (record_at self.entry.words.now self.entry.text.now r)) }
+    {
+        let kind = self.lower_phandle(r)?;
+        if size.bits() != REFERENCE_BITS {
+            return Err(Report::Code(codes::REFERENCE_WIDTH, r));
+        }
+        Ok(CellValue::Phandle(kind))
     }
-    Ok(CellValue::Phandle(kind))
-}
 
-// The value at a record, or what is reported where there is none.
-pub fn read_value(words: &[u32], text: &[u8], r: u32) -> Result<Value, Report>
-    requires linked { Linked words.now }
-    requires r_bound { r < record_count words.now }
-    ensures { (level : ℕ) → value_made words.now text.now r level result ≡ lower_value level
-        (record_at words.now text.now r) }
-{
-    match kind_at(words, r) {
-        STRING => Ok(Value::Plain(PlainValue::String)),
-        CELL_LIST => sized_list(r, BitsSize::from_token(text_at(words, text, r))),
-        BYTESTRING => counted_bytes(r, bytestring_len(text_at(words, text, r))),
-        REFERENCE => reference_value(words, text, r),
-        MACRO => Err(Report::Macro(r)),
-        DIRECTIVE => Err(Report::Code(codes::DIRECTIVE_AS_VALUE, r)),
-        PREPROCESSOR => Err(Report::Code(codes::PREPROCESSOR, r)),
-        _ => Err(Report::Nothing),
+    // The value at a record, or what is reported where there is none.
+    pub fn read_value(self, r: u32) -> Result<Value, Report>
+        requires r_bound { r < record_count self.words.now }
+        ensures { (level : ℕ) → value_made self.entry.words.now self.entry.text.now r level result ≡ lower_value level
+            (record_at self.entry.words.now self.entry.text.now r) }
+    {
+        match kind_at(self.words, r) {
+            STRING => Ok(Value::Plain(PlainValue::String)),
+            CELL_LIST => sized_list(r, BitsSize::from_token(text_at(self.words, self.text, r))),
+            BYTESTRING => counted_bytes(r, bytestring_len(text_at(self.words, self.text, r))),
+            REFERENCE => self.reference_value(r),
+            MACRO => Err(Report::Macro(r)),
+            DIRECTIVE => Err(Report::Code(codes::DIRECTIVE_AS_VALUE, r)),
+            PREPROCESSOR => Err(Report::Code(codes::PREPROCESSOR, r)),
+            _ => Err(Report::Nothing),
+        }
     }
 }
 
@@ -175,13 +160,14 @@ fn counted_bytes(r: u32, n: ByteCount) -> Result<Value, Report>
     }
 }
 
-// A reference as a value.
-fn reference_value(words: &[u32], text: &[u8], r: u32) -> Result<Value, Report>
-    requires linked { Linked words.now }
-    requires r_bound { r < record_count words.now }
-    ensures { (level : ℕ) → value_made words.now text.now r level result ≡ reference_value
-        (lower_phandle (record_at words.now text.now r)) }
-{
-    let kind = lower_phandle(words, text, r)?;
-    Ok(Value::Plain(PlainValue::Phandle(kind)))
+impl Input<'_> {
+    // A reference as a value.
+    fn reference_value(self, r: u32) -> Result<Value, Report>
+        requires r_bound { r < record_count self.words.now }
+        ensures { (level : ℕ) → value_made self.entry.words.now self.entry.text.now r level result ≡ reference_value
+            (lower_phandle (record_at self.entry.words.now self.entry.text.now r)) }
+    {
+        let kind = self.lower_phandle(r)?;
+        Ok(Value::Plain(PlainValue::Phandle(kind)))
+    }
 }

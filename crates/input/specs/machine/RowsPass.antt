@@ -9,11 +9,26 @@ use Rattle.input.specs.meaning.Place.{macros, no_place, child_place, second_plac
 use Rattle.input.specs.meaning.Rows.{Verdict, accepted, linked_below, bad_text, row_three, Visit, unfit, bad_head, row_four, bad_name}
 use Rattle.input.specs.meaning.Rows.{row_five, too_deep, row_six, or_else, lowest}
 use Rattle.input.specs.machine.Rising.{visit, known}
+use Rattle.input.specs.declared.place.Place.{Place}
+use Rattle.input.specs.declared.place.Place.TheVariants as P
 
 -- what a search for a record found
 abbrev pub found_in : Maybe ℕ → Option ℕ
 found_in None = none
 found_in (Some r) = some r
+
+-- where a record stands, as the code holds it
+abbrev pub meant_place : Place → InputPlace
+meant_place P.Items = items
+meant_place P.NodeParts = node_parts
+meant_place P.PropertyParts = property_parts
+meant_place P.DirectiveParts = directive_parts
+meant_place P.Values = values
+meant_place P.Cells = cells
+meant_place P.Expressions = expressions
+meant_place P.Names = names
+meant_place P.Macros = macros
+meant_place P.NoPlace = no_place
 
 -- where a record stands, by number
 abbrev pub number_of : InputPlace → ℕ

@@ -1,111 +1,50 @@
--- By the kind in turn.
-use borrow.Author.Tests.{eq-eqb, ne_eqb}
-use mathlib.Core.Path.{refl, sym, ◌∙◌}
-use Rattle.input.specs.meaning.Place.{expressions, no_place, child_place}
-use Rattle.input.proofs.RowsTests.{four_of}
+-- By the kind.
+use mathlib.Core.Path.{refl}
+use native.Mathlib.Omega.{arith}
+use Rattle.input.specs.meaning.Place.{child_place}
+use Rattle.input.proofs.RowsTests.{below_names, below_expressions, below_none}
 use Rattle.input.proofs.place.child_place.Goals as goal
 
-pub returns-then-kind-eq-NODE : goal.returns-then-kind-eq-NODE
+pub returns-in-1 : goal.returns-in-1
 unfolding child_place
-returns-then-kind-eq-NODE c = rw (eq-eqb _ _ c.if-kind-eq-NODE.true) refl
+returns-in-1 c = rw c.in-1.is refl
 
-pub returns-then-kind-eq-PROPERTY : goal.returns-then-kind-eq-PROPERTY
+pub returns-in-2 : goal.returns-in-2
 unfolding child_place
-returns-then-kind-eq-PROPERTY c = rw (ne_eqb _ _ c.if-kind-eq-NODE.false, eq-eqb _ _ c.if-kind-eq-PROPERTY.true) refl
+returns-in-2 c = rw c.in-2.is refl
 
-pub returns-then-kind-eq-DIRECTIVE : goal.returns-then-kind-eq-DIRECTIVE
+pub returns-in-3 : goal.returns-in-3
 unfolding child_place
-returns-then-kind-eq-DIRECTIVE c =
-    rw (ne_eqb _ _ c.if-kind-eq-NODE.false, ne_eqb _ _ c.if-kind-eq-PROPERTY.false, eq-eqb _ _ c.if-kind-eq-DIRECTIVE.true) refl
+returns-in-3 c = rw c.in-3.is refl
 
-pub returns-then-kind-eq-UNIT_ADDRESS : goal.returns-then-kind-eq-UNIT_ADDRESS
+pub returns-in-8 : goal.returns-in-8
 unfolding child_place
-returns-then-kind-eq-UNIT_ADDRESS c =
-    rw (
-      ne_eqb _ _ c.if-kind-eq-NODE.false,
-      ne_eqb _ _ c.if-kind-eq-PROPERTY.false,
-      ne_eqb _ _ c.if-kind-eq-DIRECTIVE.false,
-      eq-eqb _ _ c.if-kind-eq-UNIT_ADDRESS.true,
-    ) refl
+returns-in-8 c = rw c.in-8.is refl
 
-pub returns-then-kind-eq-LABEL : goal.returns-then-kind-eq-LABEL
+pub returns-in-13 : goal.returns-in-13
 unfolding child_place
-returns-then-kind-eq-LABEL c =
-    rw (
-      ne_eqb _ _ c.if-kind-eq-NODE.false,
-      ne_eqb _ _ c.if-kind-eq-PROPERTY.false,
-      ne_eqb _ _
-          c.if-kind-eq-DIRECTIVE.false,
-      ne_eqb _ _ c.if-kind-eq-UNIT_ADDRESS.false,
-      eq-eqb _ _ c.if-kind-eq-LABEL.true,
-    ) refl
+returns-in-13 c = rw c.in-13.is refl
 
-pub returns-then-kind-eq-REFERENCE : goal.returns-then-kind-eq-REFERENCE
-unfolding child_place
-returns-then-kind-eq-REFERENCE c =
-    rw (
-      ne_eqb _ _ c.if-kind-eq-NODE.false,
-      ne_eqb _ _ c.if-kind-eq-PROPERTY.false,
-      ne_eqb
-          _ _ c.if-kind-eq-DIRECTIVE.false,
-      ne_eqb _ _ c.if-kind-eq-UNIT_ADDRESS.false,
-      ne_eqb _ _ c.if-kind-eq-LABEL.false,
-      eq-eqb _ _
-          c.if-kind-eq-REFERENCE.true,
-    ) refl
+pub returns-in-6 : goal.returns-in-6
+returns-in-6 c = below_names c.args.kind (omega arith) (omega arith)
 
-pub returns-then-kind-eq-CELL_LIST : goal.returns-then-kind-eq-CELL_LIST
-unfolding child_place
-returns-then-kind-eq-CELL_LIST c =
-    rw (
-      ne_eqb _ _ c.if-kind-eq-NODE.false,
-      ne_eqb _ _
-          c.if-kind-eq-PROPERTY.false,
-      ne_eqb _ _ c.if-kind-eq-DIRECTIVE.false,
-      ne_eqb _ _
-          c.if-kind-eq-UNIT_ADDRESS.false,
-      ne_eqb _ _ c.if-kind-eq-LABEL.false,
-      ne_eqb _ _ c.if-kind-eq-REFERENCE.false,
-      eq-eqb _ _
-          c.if-kind-eq-CELL_LIST.true,
-    ) refl
+pub returns-in-17 : goal.returns-in-17
+returns-in-17 c = below_expressions c.args.kind (omega arith) (omega arith)
 
-pub returns-then-one_of : goal.returns-then-one_of
-unfolding child_place
-returns-then-one_of c =
-    rw (
-      ne_eqb _ _ c.if-kind-eq-NODE.false,
-      ne_eqb _ _
-          c.if-kind-eq-PROPERTY.false,
-      ne_eqb _ _
-          c.if-kind-eq-DIRECTIVE.false,
-      ne_eqb _ _
-          c.if-kind-eq-UNIT_ADDRESS.false,
-      ne_eqb _ _ c.if-kind-eq-LABEL.false,
-      ne_eqb _ _ c.if-kind-eq-REFERENCE.false,
-      ne_eqb _ _ c.if-kind-eq-CELL_LIST.false,
-      ← four_of
-          c.args.kind 17 18 19 20 expressions no_place,
-      sym
-          c.one_of.ensures ∙ c.if-one_of.true,
-    ) refl
+pub returns-in_default : goal.returns-in_default
+returns-in_default c =
+    below_none c.args.kind (λ e. omega arith) (λ e. omega arith) (λ e. omega arith) (λ e. omega arith)
+    (λ e. omega arith) (λ e. omega arith) (λ e. omega arith)
+    (λ a. omega arith)
 
-pub returns : goal.returns
-unfolding child_place
-returns c =
-    rw (
-      ne_eqb _ _ c.if-kind-eq-NODE.false,
-      ne_eqb _ _
-          c.if-kind-eq-PROPERTY.false,
-      ne_eqb _ _
-          c.if-kind-eq-DIRECTIVE.false,
-      ne_eqb _ _
-          c.if-kind-eq-UNIT_ADDRESS.false,
-      ne_eqb _ _ c.if-kind-eq-LABEL.false,
-      ne_eqb _ _ c.if-kind-eq-REFERENCE.false,
-      ne_eqb _ _ c.if-kind-eq-CELL_LIST.false,
-      ← four_of
-          c.args.kind 17 18 19 20 expressions no_place,
-      sym
-          c.one_of.ensures ∙ c.if-one_of.false,
-    ) refl
+pub returns-in_default-2 : goal.returns-in_default-2
+returns-in_default-2 c =
+    below_none c.args.kind (λ e. omega arith) (λ e. omega arith) (λ e. omega arith) (λ e. omega arith)
+    (λ e. omega arith) (λ e. omega arith) (λ e. omega arith)
+    (λ a. omega arith)
+
+pub returns-in_default-3 : goal.returns-in_default-3
+returns-in_default-3 c =
+    below_none c.args.kind (λ e. omega arith) (λ e. omega arith) (λ e. omega arith) (λ e. omega arith)
+    (λ e. omega arith) (λ e. omega arith) (λ e. omega arith)
+    (λ a. omega arith)

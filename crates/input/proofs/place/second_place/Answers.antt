@@ -1,17 +1,18 @@
 -- By the kind.
-use borrow.Author.Tests.{eq-eqb, ne_eqb}
 use mathlib.Core.Path.{refl}
+use borrow.Author.Tests.{ne_eqb}
+use native.Mathlib.Omega.{arith}
 use Rattle.input.specs.meaning.Place.{second_place}
 use Rattle.input.proofs.place.second_place.Goals as goal
 
-pub returns-then-kind-eq-NODE : goal.returns-then-kind-eq-NODE
+pub returns-in-1 : goal.returns-in-1
 unfolding second_place
-returns-then-kind-eq-NODE c = rw (eq-eqb _ _ c.if-kind-eq-NODE.true) refl
+returns-in-1 c = rw c.in-1.is refl
 
-pub returns-then-kind-eq-PROPERTY : goal.returns-then-kind-eq-PROPERTY
+pub returns-in-2 : goal.returns-in-2
 unfolding second_place
-returns-then-kind-eq-PROPERTY c = rw (ne_eqb _ _ c.if-kind-eq-NODE.false, eq-eqb _ _ c.if-kind-eq-PROPERTY.true) refl
+returns-in-2 c = rw c.in-2.is refl
 
-pub returns : goal.returns
+pub returns-in_default : goal.returns-in_default
 unfolding second_place
-returns c = rw (ne_eqb _ _ c.if-kind-eq-NODE.false, ne_eqb _ _ c.if-kind-eq-PROPERTY.false) refl
+returns-in_default c = simp (ne_eqb c.args.kind 1 (λ e. omega arith), ne_eqb c.args.kind 2 (λ e. omega arith))

@@ -1,61 +1,42 @@
--- By the kind in turn.
-use borrow.Author.Tests.{eq-eqb, ne_eqb, le-leb, lt-leb}
+-- By the kind.
 use mathlib.Core.Path.{refl, ◌∙◌}
+use borrow.Author.Tests.{ne_eqb, le-leb, lt-leb}
+use native.Mathlib.Omega.{arith}
 use Rattle.input.specs.meaning.Place.{w_fits}
 use Rattle.input.proofs.place.w_fits.Goals as goal
 
-pub returns-then-w-lt1 : goal.returns-then-w-lt1
+pub returns-then-w-ge1 : goal.returns-then-w-ge1
 unfolding w_fits
-returns-then-w-lt1 c = rw (eq-eqb _ _ c.if-kind-eq-DIRECTIVE.true, lt-leb _ _ c.if-w-lt1.true) refl
+returns-then-w-ge1 c = rw (c.in-3.is, le-leb 1 c.args.w c.if-w-ge1.true) refl
 
-pub returns-then-kind-eq-DIRECTIVE : goal.returns-then-kind-eq-DIRECTIVE
+pub returns-else-w-ge1 : goal.returns-else-w-ge1
 unfolding w_fits
-returns-then-kind-eq-DIRECTIVE c = rw (eq-eqb _ _ c.if-kind-eq-DIRECTIVE.true, le-leb _ _ c.if-w-lt1.false) refl
+returns-else-w-ge1 c = rw (c.in-3.is, lt-leb 1 c.args.w c.if-w-ge1.false) refl
 
-pub returns-then-kind-eq-REFERENCE : goal.returns-then-kind-eq-REFERENCE
+pub returns-in-8 : goal.returns-in-8
 unfolding w_fits
-returns-then-kind-eq-REFERENCE c = rw (ne_eqb _ _ c.if-kind-eq-DIRECTIVE.false, eq-eqb _ _ c.if-kind-eq-REFERENCE.true) refl
+returns-in-8 c = rw c.in-8.is refl
 
-pub returns-then-kind-eq-CHARACTER : goal.returns-then-kind-eq-CHARACTER
+pub returns-in-16 : goal.returns-in-16
 unfolding w_fits
-returns-then-kind-eq-CHARACTER c =
-    c.is_character.ensures ∙ rw (
-      ne_eqb _ _ c.if-kind-eq-DIRECTIVE.false,
-      ne_eqb _ _ c.if-kind-eq-REFERENCE.false,
-      eq-eqb _ _
-          c.if-kind-eq-CHARACTER.true,
-    ) refl
+returns-in-16 c = c.is_character.ensures ∙ rw c.in-16.is refl
 
-pub returns-then-kind-eq-PREFIX : goal.returns-then-kind-eq-PREFIX
+pub returns-in-18 : goal.returns-in-18
 unfolding w_fits
-returns-then-kind-eq-PREFIX c =
-    rw (
-      ne_eqb _ _ c.if-kind-eq-DIRECTIVE.false,
-      ne_eqb _ _ c.if-kind-eq-REFERENCE.false,
-      ne_eqb _ _ c.if-kind-eq-CHARACTER.false,
-      eq-eqb _ _ c.if-kind-eq-PREFIX.true,
-    ) refl
+returns-in-18 c = rw c.in-18.is refl
 
-pub returns-then-kind-eq-INFIX : goal.returns-then-kind-eq-INFIX
+pub returns-in-20 : goal.returns-in-20
 unfolding w_fits
-returns-then-kind-eq-INFIX c =
-    rw (
-      ne_eqb _ _ c.if-kind-eq-DIRECTIVE.false,
-      ne_eqb _ _ c.if-kind-eq-REFERENCE.false,
-      ne_eqb _ _
-          c.if-kind-eq-CHARACTER.false,
-      ne_eqb _ _ c.if-kind-eq-PREFIX.false,
-      eq-eqb _ _ c.if-kind-eq-INFIX.true,
-    ) refl
+returns-in-20 c = rw c.in-20.is refl
 
-pub returns : goal.returns
+pub returns-in_default : goal.returns-in_default
 unfolding w_fits
-returns c =
-    rw (
-      ne_eqb _ _ c.if-kind-eq-DIRECTIVE.false,
-      ne_eqb _ _ c.if-kind-eq-REFERENCE.false,
-      ne_eqb _ _
-          c.if-kind-eq-CHARACTER.false,
-      ne_eqb _ _ c.if-kind-eq-PREFIX.false,
-      ne_eqb _ _ c.if-kind-eq-INFIX.false,
-    ) refl
+returns-in_default c =
+    let k = c.args.kind in
+    simp (
+      ne_eqb k 3 (λ e. omega arith),
+      ne_eqb k 8 (λ e. omega arith),
+      ne_eqb k 16 (λ e. omega arith),
+      ne_eqb k 18 (λ e. omega arith),
+      ne_eqb k 20 (λ e. omega arith),
+    )

@@ -6,6 +6,7 @@ use mathlib.Core.Bool.{not}
 use borrow.Author.Tests.{eq-eqb, ne_eqb, le-leb, lt-leb}
 use lib.Dec.{eqb, leb}
 use Rattle.input.specs.meaning.Rows.{bad_link}
+use Rattle.input.proofs.RowsLoops.{any_contains}
 use Rattle.input.proofs.refusal.bad_link.Goals as goal
 
 pub returns-then-l-eq0 : goal.returns-then-l-eq0
@@ -27,9 +28,9 @@ returns-then-record_count-l c =
           ∙ le-leb _ _ c.if-record_count-l.true,
     ) refl
 
-pub returns-then-one_of : goal.returns-then-one_of
+pub returns-then-contains : goal.returns-then-contains
 unfolding bad_link
-returns-then-one_of c =
+returns-then-contains c =
     rw (
       ne_eqb _ _ c.if-l-eq0.false,
       lt-leb _ _ c.if-l-r.false,
@@ -37,7 +38,7 @@ returns-then-one_of c =
           (λ (n : ℕ). leb n c.args.l)
           (sym c.record_count.ensures)
           ∙ lt-leb _ _ c.if-record_count-l.false,
-      sym c.one_of.ensures ∙ c.if-one_of.true,
+      sym (c.contains.ensures.value ∙ any_contains c.args.l c.args.earlier.now) ∙ c.if-contains.true,
     ) refl
 
 pub returns : goal.returns
@@ -54,5 +55,5 @@ returns c =
           (λ (n : ℕ). leb n c.args.l)
           (sym c.record_count.ensures)
           ∙ lt-leb _ _ c.if-record_count-l.false,
-      sym c.one_of.ensures ∙ c.if-one_of.false,
+      sym (c.contains.ensures.value ∙ any_contains c.args.l c.args.earlier.now) ∙ c.if-contains.false,
     ) refl

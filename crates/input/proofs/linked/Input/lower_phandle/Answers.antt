@@ -1,0 +1,20 @@
+-- By whether there is a macro (PhandleRead).
+use mathlib.Core.Path.{◌∙◌}
+use Rattle.input.proofs.PhandleRead.{macro_is, no_macro}
+use Rattle.input.proofs.linked.Input.lower_phandle.Goals as goal
+
+pub first_of-m-requires : goal.first_of-m-requires
+first_of-m-requires c =
+    let s = c in record { at = rw c.child_at.ensures (s.args.self.linked.all s.args.r s.requires.r_bound).child.within }
+
+pub returns-then-m-ne0 : goal.returns-then-m-ne0
+returns-then-m-ne0 c =
+    let a = c.args in
+    macro_is a.self.words.now a.self.text.now a.r _ (rw c.child_at.ensures at c.first_of-m.ensures)
+    c.if-m-ne0.true
+
+pub returns : goal.returns
+returns c =
+    let a = c.args in
+    c.plain_target.ensures ∙ no_macro a.self.words.now a.self.text.now a.r _
+    (rw c.child_at.ensures at c.first_of-m.ensures) c.if-m-ne0.false
