@@ -13,14 +13,6 @@ pub struct Span {
     pub to: u32,
 }
 
-// What a reference names: a label, a path below a label, or a path.
-#[derive(Clone, Copy)]
-pub enum TargetKind {
-    Label,
-    LabelPath,
-    Path,
-}
-
 // The span of a record.
 pub fn span_of(words: &[u32], r: u32) -> Span
     ensures { meant result ≡ span_at words.now r }

@@ -16,7 +16,7 @@ use Rattle.input.specs.machine.At.{record_at}
 use Rattle.input.specs.machine.Read.{FirstOf}
 use Rattle.input.specs.machine.PhandleRead.{label_at, path_at, phandle_read, read_as}
 use Rattle.input.specs.declared.report.Report.TheVariants.{Macro, Nothing}
-use Rattle.definition_log.specs.declared.parts.TargetKind.TheVariants.{Label}
+use Rattle.paths_numbers.specs.declared.phandle.MirPhandleTarget.TheVariants.{Label}
 use Rattle.input.proofs.Read.{first_missing, first_there}
 
 -- a text is empty where its length is 0

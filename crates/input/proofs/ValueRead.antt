@@ -20,7 +20,7 @@ use Rattle.paths_numbers.specs.declared.dt_property.ByteCount.TheVariants as B
 use Rattle.paths_numbers.proofs.Texts.{by_test}
 use Rattle.definition_log.specs.meaning.Contents.{Span, bytestring}
 use Rattle.definition_log.specs.machine.Parts.{target_made}
-use Rattle.definition_log.specs.declared.parts.TargetKind.{TargetKind}
+use Rattle.paths_numbers.specs.declared.phandle.MirPhandleTarget.{MirPhandleTarget}
 use Rattle.input.specs.meaning.Tree.{Trees, tree, number_kind, character_kind, expression_kind, reference_kind, macro_kind, directive_kind}
 use Rattle.input.specs.meaning.Tree.{preprocessor_kind, string_kind, cell_list_kind, bytestring_kind}
 use Rattle.input.specs.meaning.Report.{one, nothing, and_then, report}
@@ -122,7 +122,7 @@ counted_some span t n m e h =
     (λ q. rw (q, e) refl)
 
 -- what a reference names, by its texts
-pub same_target : (k : TargetKind) {l m p q : List ℕ} → l ≡ m → p ≡ q → target_made k l p ≡ target_made k m q
+pub same_target : (k : MirPhandleTarget) {l m p q : List ℕ} → l ≡ m → p ≡ q → target_made k l p ≡ target_made k m q
 same_target k e f = rw (e, f) refl
 
 -- a value without cells reports nothing

@@ -11,12 +11,11 @@ use crate::linked::Input;
 use crate::place::RAW;
 use crate::record::{child_at, no_text, number_at, text_at};
 use crate::report::Report;
-use definition_log::parts::TargetKind;
 use paths_numbers::phandle::{MirPhandleTarget, phandle_label, phandle_path};
 
 impl Input<'_> {
     // What a reference record names, by its kind; or what is reported where it names nothing that can be read.
-    pub fn lower_phandle(self, r: u32) -> Result<TargetKind, Report>
+    pub fn lower_phandle(self, r: u32) -> Result<MirPhandleTarget, Report>
         requires r_bound { r < record_count self.words.now }
         ensures { phandle_read self.entry.words.now self.entry.text.now r result ≡ lower_phandle
             (record_at self.entry.words.now self.entry.text.now r) }
@@ -30,7 +29,7 @@ impl Input<'_> {
 }
 
 // What a reference record without a macro names.
-fn plain_target(words: &[u32], text: &[u8], r: u32) -> Result<TargetKind, Report>
+fn plain_target(words: &[u32], text: &[u8], r: u32) -> Result<MirPhandleTarget, Report>
     ensures { phandle_read words.now text.now r result ≡ plain_target
         (record_at words.now text.now r) }
 {
@@ -41,7 +40,7 @@ fn plain_target(words: &[u32], text: &[u8], r: u32) -> Result<TargetKind, Report
     if name.len() == 0 {
         return Err(Report::Nothing);
     }
-    Ok(TargetKind::Label)
+    Ok(MirPhandleTarget::Label)
 }
 
 // The label that a reference record names, empty where there is none.
@@ -65,13 +64,13 @@ pub fn phandle_path_at<'a, 'b>(words: &'b [u32], text: &'a [u8], r: u32) -> &'a 
 }
 
 // What a raw reference names.
-fn read_as(t: MirPhandleTarget) -> Result<TargetKind, Report>
+fn read_as(t: MirPhandleTarget) -> Result<MirPhandleTarget, Report>
     ensures { result ≡ read_as (target_number t) }
 {
     match t {
-        MirPhandleTarget::Label => Ok(TargetKind::Label),
-        MirPhandleTarget::LabelPath => Ok(TargetKind::LabelPath),
-        MirPhandleTarget::Path => Ok(TargetKind::Path),
+        MirPhandleTarget::Label => Ok(MirPhandleTarget::Label),
+        MirPhandleTarget::LabelPath => Ok(MirPhandleTarget::LabelPath),
+        MirPhandleTarget::Path => Ok(MirPhandleTarget::Path),
         MirPhandleTarget::Unreadable => Err(Report::Nothing),
     }
 }

@@ -19,7 +19,7 @@ use crate::kinds::{
 use crate::linked::Input;
 use crate::record::{child_at, kind_at, number_at, text_at};
 use crate::report::Report;
-use definition_log::parts::TargetKind;
+use paths_numbers::phandle::MirPhandleTarget;
 use paths_numbers::codes;
 use paths_numbers::dt_property::{
     BitsSize, ByteCount, Cell, SizeRead, bytestring_len, cell_code, char_cell, count_code,
@@ -34,7 +34,7 @@ const REFERENCE_BITS: u32 = 32;
 #[derive(Clone, Copy)]
 pub enum CellValue {
     Number(u64),
-    Phandle(TargetKind),
+    Phandle(MirPhandleTarget),
 }
 
 // A value without cells, by its kind.
@@ -42,7 +42,7 @@ pub enum CellValue {
 pub enum PlainValue {
     String,
     Bytestring,
-    Phandle(TargetKind),
+    Phandle(MirPhandleTarget),
 }
 
 // A value, which is one without cells or a cell list of a width.

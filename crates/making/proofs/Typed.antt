@@ -11,8 +11,8 @@ use Rattle.making.specs.declared.ctx.Rec.{Rec}
 use Rattle.definition_log.specs.declared.parts.Span.{Span}
 use Rattle.making.specs.declared.recs.DefKind.{DefKind}
 use Rattle.making.specs.declared.recs.DefKind.TheVariants as D
-use Rattle.definition_log.specs.declared.parts.TargetKind.{TargetKind}
-use Rattle.definition_log.specs.declared.parts.TargetKind.TheVariants as T
+use Rattle.paths_numbers.specs.declared.phandle.MirPhandleTarget.{MirPhandleTarget}
+use Rattle.paths_numbers.specs.declared.phandle.MirPhandleTarget.TheVariants as T
 use Rattle.definition_log.specs.meaning.Contents.{number, reference, string, cell_list, bytestring, phandle}
 use Rattle.making.specs.meaning.State.{define, bind, emit, target_bytes, texts_bytes, values_records, values_bytes, cells_bytes}
 use Rattle.making.specs.machine.Adding.{in_node, in_property, in_cell_list, add_label, add_value, add_cell}
@@ -100,7 +100,7 @@ bare D.Plugin span name_span x = record {
 }
 
 -- a reference below a record
-plain_target_lem : (kind : TargetKind) (l p : List ℕ) (o : ℕ) → Plain
+plain_target_lem : (kind : MirPhandleTarget) (l p : List ℕ) (o : ℕ) → Plain
     (event_of (children_of o) 0 (part_rec reference_kind (target_n kind) 0) (label_in kind l) (path_within kind p))
 unfolding one_of
 plain_target_lem T.Label l p o = plain_reference _ refl refl refl refl refl (omega arith) (λ z. absurd (not_both refl z)) (λ z. refl) refl
@@ -148,7 +148,7 @@ module _ {c f : LowerCtx} {words bytes w b : List ℕ} {r : Rec} {x y : List ℕ
   makes_cell_list width m n q = steps_value (rw q at part.told) refl part.state (cell_list width []) refl (rw (m, n) refl)
       (λ o. rw (m, n) (plain_cells _ refl refl refl refl refl refl refl refl)) (λ n o es h. rw h refl)
 
-  pub makes_phandle : (kind : TargetKind) (k : ℕ) (l p : List ℕ) → r ≡ part_rec reference_kind k 0 → k ≡ target_n kind → x ≡ label_in kind l
+  pub makes_phandle : (kind : MirPhandleTarget) (k : ℕ) (l p : List ℕ) → r ≡ part_rec reference_kind k 0 → k ≡ target_n kind → x ≡ label_in kind l
       → y ≡ path_within kind p
       → StepsIn in_property c f words bytes w b (add_value (phandle (target_made kind l p)))
   unfolding value_of target_of one_of
@@ -168,7 +168,7 @@ module _ {c f : LowerCtx} {words bytes w b : List ℕ} {r : Rec} {x y : List ℕ
   makes_number low high m n q = steps_cell (rw (q, m, n) at part.told) refl part.state (number (low + high * 2 ^ 32)) refl refl
       (λ o. plain_number _ refl refl refl refl refl refl refl) (λ n o. refl)
 
-  pub makes_reference : (kind : TargetKind) (k : ℕ) (l p : List ℕ) → r ≡ part_rec reference_kind k 0 → k ≡ target_n kind → x ≡ label_in kind l
+  pub makes_reference : (kind : MirPhandleTarget) (k : ℕ) (l p : List ℕ) → r ≡ part_rec reference_kind k 0 → k ≡ target_n kind → x ≡ label_in kind l
       → y ≡ path_within kind p
       → StepsIn in_cell_list c f words bytes w b (add_cell (reference (target_made kind l p)))
   unfolding cell_of target_of one_of
@@ -189,7 +189,7 @@ makes_bytestring text e told q at state = steps_value (rw q at told) at state (b
     (λ o. plain_text _ refl refl refl refl refl refl refl refl) (λ n o es h. refl)
 
 -- an extension, with the reference below it
-pub keeps_body : {c e f d outer : LowerCtx} {words bytes v a w b : List ℕ} (span name_span : Span) (kind : TargetKind) (l p : List ℕ)
+pub keeps_body : {c e f d outer : LowerCtx} {words bytes v a w b : List ℕ} (span name_span : Span) (kind : MirPhandleTarget) (l p : List ℕ)
     → ToldPart c e words bytes v a (spanned_rec extension_kind 0 c.defs.first span name_span) [] [] (end_link c.exts) with_ext
     → Told e f v a w b (part_rec reference_kind (target_n kind) 0) (label_in kind l) (path_within kind p) (child_link c.records 0)
     → d ≡ left_kept f outer
@@ -201,13 +201,13 @@ keeps_body span name_span kind l p ext ref state =
           ref refl state refl refl refl (λ x l. plain_extension _ refl refl refl refl) (plain_target_lem kind l p) (tells kind) (sized kind) h;
     }
   where
-    tells : (kind : TargetKind) (n : ℕ) → target_of (event_of (children_of n) 0 (part_rec reference_kind (target_n kind) 0) (label_in kind l)
+    tells : (kind : MirPhandleTarget) (n : ℕ) → target_of (event_of (children_of n) 0 (part_rec reference_kind (target_n kind) 0) (label_in kind l)
         (path_within kind p)) ≡ target_made kind l p
     tells T.Label n = refl
     tells T.LabelPath n = refl
     tells T.Path n = refl
 
-    sized : (kind : TargetKind) → target_bytes (target_made kind l p) ≡ length (label_in kind l) + length (path_within kind p)
+    sized : (kind : MirPhandleTarget) → target_bytes (target_made kind l p) ≡ length (label_in kind l) + length (path_within kind p)
     sized T.Label = omega arith
     sized T.LabelPath = refl
     sized T.Path = omega arith

@@ -9,10 +9,11 @@ ghost use Rattle.making.specs.machine.Represents.{Enters, LeavesDropped, LeavesK
 use crate::add::child_link;
 use crate::ctx::{Chain, LowerCtx, Rec};
 use crate::place::{PathAt, first_place};
-use crate::recs::{label_of, path_of, target_number};
+use crate::recs::{label_of, path_of};
 use crate::text::{NONE, Piece, Text};
 use definition_log::kinds::{EXTENSION, REFERENCE};
-use definition_log::parts::{Span, TargetKind};
+use definition_log::parts::Span;
+use paths_numbers::phandle::MirPhandleTarget;
 
 impl LowerCtx {
     // The state for a body; one that is kept adds its extensions to the same chain.
@@ -51,7 +52,7 @@ impl LowerCtx {
         outer: LowerCtx,
         span: Span,
         name_span: Span,
-        kind: TargetKind,
+        kind: MirPhandleTarget,
         label: &[u8],
         path: &[u8],
     ) -> LowerCtx
@@ -106,7 +107,7 @@ impl LowerCtx {
         words: &mut [u32],
         bytes: &mut [u8],
         owner: u32,
-        kind: TargetKind,
+        kind: MirPhandleTarget,
         label: &[u8],
         path: &[u8],
     ) -> LowerCtx
@@ -114,7 +115,7 @@ impl LowerCtx {
             (part_rec reference_kind (target_n kind) 0) (label_in kind label.now) (path_within kind path.now)
             (child_link owner 0) }
     {
-        let rec = Rec::part(REFERENCE, target_number(kind), 0);
+        let rec = Rec::part(REFERENCE, kind.number(), 0);
         let first = Text::Whole(Piece::Given(label_of(kind, label)));
         let second = Text::Whole(Piece::Given(path_of(kind, path)));
         self.make(words, bytes, rec, first, second, child_link(owner, 0))

@@ -11,7 +11,7 @@ use definition_log::layout::{NEXT_AT, RECORD_WORDS};
 use definition_log::limits::MOST_BYTES;
 use definition_log::parts::Span;
 use definition_log::record::log_count;
-use paths_numbers::dt_property::{ByteCount, bytestring_len, lower_bytestring};
+use paths_numbers::dt_property::{bytestring_len, lower_bytestring};
 
 // The first and the last record of a chain, 0 where there is none.
 #[derive(Clone, Copy)]
@@ -177,8 +177,8 @@ impl LowerCtx {
             text.now link }
     {
         match bytestring_len(text) {
-            ByteCount::MissingDigit => self,
-            ByteCount::Bytes(size) => {
+            Err(_) => self,
+            Ok(size) => {
                 if !self.admits(words, bytes, size, link) {
                     return self.run_short();
                 }

@@ -9,11 +9,11 @@ ghost use Rattle.making.specs.machine.Represents.{StepsIn};
 
 use crate::add::child_link;
 use crate::ctx::{LowerCtx, Rec};
-use crate::recs::{label_of, path_of, target_number};
+use crate::recs::{label_of, path_of};
 use crate::text::{Piece, Text};
 use definition_log::kinds::{BYTESTRING, CELL_LIST, LABEL, NUMBER, REFERENCE, STRING};
-use definition_log::parts::TargetKind;
-use paths_numbers::dt_property::{ByteCount, bytestring_len};
+use paths_numbers::phandle::MirPhandleTarget;
+use paths_numbers::dt_property::bytestring_len;
 
 impl LowerCtx {
     // A label of a node.
@@ -45,14 +45,14 @@ impl LowerCtx {
         self,
         words: &mut [u32],
         bytes: &mut [u8],
-        kind: TargetKind,
+        kind: MirPhandleTarget,
         label: &[u8],
         path: &[u8],
     ) -> LowerCtx
         ensures { StepsIn in_property self result words.old bytes.old words.new bytes.new
             (add_value (phandle (target_made kind label.now path.now))) }
     {
-        let rec = Rec::part(REFERENCE, target_number(kind), 0);
+        let rec = Rec::part(REFERENCE, kind.number(), 0);
         self.add_part(
             words,
             bytes,
@@ -68,8 +68,8 @@ impl LowerCtx {
             text.now }
     {
         match bytestring_len(text) {
-            ByteCount::MissingDigit => self,
-            ByteCount::Bytes(_) => {
+            Err(_) => self,
+            Ok(_) => {
                 let link = child_link(self.defs.last, self.part);
                 let made = self.make_bytestring(
                     words,
@@ -96,14 +96,14 @@ impl LowerCtx {
         self,
         words: &mut [u32],
         bytes: &mut [u8],
-        kind: TargetKind,
+        kind: MirPhandleTarget,
         label: &[u8],
         path: &[u8],
     ) -> LowerCtx
         ensures { StepsIn in_cell_list self result words.old bytes.old words.new bytes.new
             (add_cell (reference (target_made kind label.now path.now))) }
     {
-        let rec = Rec::part(REFERENCE, target_number(kind), 0);
+        let rec = Rec::part(REFERENCE, kind.number(), 0);
         self.add_cell(
             words,
             bytes,

@@ -1,10 +1,11 @@
 // What the records that lowering makes say beside their texts.
 ghost use Rattle.std.specs.Prelude.{◌≡◌};
-ghost use Rattle.making.specs.machine.Recs.{kind_number, omit_number, part_rec, target_n, label_in, path_within};
+ghost use Rattle.making.specs.machine.Recs.{kind_number, omit_number, part_rec, label_in, path_within};
 
 use crate::ctx::Rec;
 use definition_log::kinds::{DELETED_NODE, DELETED_PROPERTY, NODE, PLUGIN, PROPERTY, VERSION};
-use definition_log::parts::{Span, TargetKind};
+use definition_log::parts::Span;
+use paths_numbers::phandle::MirPhandleTarget;
 
 // The span of a record that has none.
 pub(crate) const NO_SPAN: Span = Span { from: 0, to: 0 };
@@ -59,33 +60,22 @@ impl Rec {
     }
 }
 
-// N of a reference.
-pub(crate) fn target_number(kind: TargetKind) -> u32
-    ensures { result ≡ target_n kind }
-{
-    match kind {
-        TargetKind::Label => 1,
-        TargetKind::LabelPath => 2,
-        TargetKind::Path => 3,
-    }
-}
-
 // The label that a reference names, empty where it names none.
-pub(crate) fn label_of(kind: TargetKind, label: &[u8]) -> &[u8]
+pub(crate) fn label_of(kind: MirPhandleTarget, label: &[u8]) -> &[u8]
     ensures { result.now ≡ label_in kind label.now }
 {
     match kind {
-        TargetKind::Label | TargetKind::LabelPath => label,
-        TargetKind::Path => b"",
+        MirPhandleTarget::Label | MirPhandleTarget::LabelPath => label,
+        MirPhandleTarget::Path => b"",
     }
 }
 
 // The path, likewise.
-pub(crate) fn path_of(kind: TargetKind, path: &[u8]) -> &[u8]
+pub(crate) fn path_of(kind: MirPhandleTarget, path: &[u8]) -> &[u8]
     ensures { result.now ≡ path_within kind path.now }
 {
     match kind {
-        TargetKind::Label => b"",
-        TargetKind::LabelPath | TargetKind::Path => path,
+        MirPhandleTarget::Label => b"",
+        MirPhandleTarget::LabelPath | MirPhandleTarget::Path => path,
     }
 }

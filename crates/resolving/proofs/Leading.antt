@@ -32,8 +32,8 @@ use Rattle.resolving.specs.meaning.Resolve.{first_binding, by_lookup, by_label, 
 use Rattle.resolving.specs.meaning.Resolve.{missing}
 use Rattle.input.specs.machine.PhandleRead.{label_at, path_at, phandle_read}
 use Rattle.input.specs.declared.report.Report.{Report}
-use Rattle.definition_log.specs.declared.parts.TargetKind.{TargetKind}
-use Rattle.definition_log.specs.declared.parts.TargetKind.TheVariants as K
+use Rattle.paths_numbers.specs.declared.phandle.MirPhandleTarget.{MirPhandleTarget}
+use Rattle.paths_numbers.specs.declared.phandle.MirPhandleTarget.TheVariants as K
 use Rattle.resolving.specs.machine.Leading.{has_text, FirstAt, FirstWith, resolution, InChain, bound_by, Leads}
 use Rattle.resolving.specs.machine.Leading.{AnswersBelow, AnswersPath, ReportsMissing}
 use Rattle.making.specs.machine.PathPlaces.{placed_in, path_in}
@@ -258,7 +258,7 @@ leads_path : (words bytes l p : List ℕ) (defs : List Def) (v : Lookup) → loo
 leads_path words bytes l p defs v e = path_led_lem words bytes l p v ∙ ap (by_lookup p) e
 
 -- a reference by what it was read as
-module _ (words text : List ℕ) (r : ℕ) (k : Result TargetKind Report) (t : Target) (e : (phandle_read words text r k).result ≡ some t) where
+module _ (words text : List ℕ) (r : ℕ) (k : Result MirPhandleTarget Report) (t : Target) (e : (phandle_read words text r k).result ≡ some t) where
   abbrev l : List ℕ
   l = label_at words text r
 
@@ -266,23 +266,23 @@ module _ (words text : List ℕ) (r : ℕ) (k : Result TargetKind Report) (t : T
   p = path_at words text r
 
   module _ (binds : List Binding) (defs : List Def) where
-    pub read_label : (f : TargetKind) → k ≡ Ok f → f ≡ K.Label → by_label l (first_binding l binds) ≡ resolve t binds defs
+    pub read_label : (f : MirPhandleTarget) → k ≡ Ok f → f ≡ K.Label → by_label l (first_binding l binds) ≡ resolve t binds defs
     unfolding resolve
     read_label f h g = let q : label l ≡ t = cc (rw (h, g) at e) in rw (← q) refl
 
-    pub read_below : (f : TargetKind) → k ≡ Ok f → f ≡ K.LabelPath → below_label l p (first_binding l binds) defs ≡ resolve t binds defs
+    pub read_below : (f : MirPhandleTarget) → k ≡ Ok f → f ≡ K.LabelPath → below_label l p (first_binding l binds) defs ≡ resolve t binds defs
     unfolding resolve
     read_below f h g = let q : label_path l p ≡ t = cc (rw (h, g) at e) in rw (← q) refl
 
-    pub read_path : (f : TargetKind) → k ≡ Ok f → f ≡ K.Path → live_at p defs ≡ resolve t binds defs
+    pub read_path : (f : MirPhandleTarget) → k ≡ Ok f → f ≡ K.Path → live_at p defs ≡ resolve t binds defs
     unfolding resolve
     read_path f h g = let q : path p ≡ t = cc (rw (h, g) at e) in rw (← q) refl
 
   -- one that cannot be read names nothing
-  pub read_nothing : ((f : TargetKind) → k ≡ Ok f → ⊥) → ⊥
+  pub read_nothing : ((f : MirPhandleTarget) → k ≡ Ok f → ⊥) → ⊥
   read_nothing h = go k e h
     where
-      go : (k : Result TargetKind Report) → (phandle_read words text r k).result ≡ some t → ((f : TargetKind) → k ≡ Ok f → ⊥) → ⊥
+      go : (k : Result MirPhandleTarget Report) → (phandle_read words text r k).result ≡ some t → ((f : MirPhandleTarget) → k ≡ Ok f → ⊥) → ⊥
       go (Ok f) e h = h f refl
       go (Err d) e h = let z : ◌≡◌ {A = ℕ} 0 1 = cc in omega arith
 

@@ -5,7 +5,8 @@ ghost use Rattle.resolving.specs.machine.Leading.{AnswersPhandle, AnswersTarget,
 ghost use Rattle.resolving.specs.machine.Leading.{FirstWith, ReportsMissing};
 
 use definition_log::layout;
-use definition_log::parts::{Span, TargetKind};
+use definition_log::parts::Span;
+use paths_numbers::phandle::MirPhandleTarget;
 use definition_log::record::{first_text, log_count, next_of, out_field, second_text};
 use input::phandle::{phandle_label_at, phandle_path_at};
 use input::record::no_text;
@@ -44,7 +45,7 @@ pub fn resolve_phandle(
     words: &[u32],
     text: &[u8],
     r: u32,
-    read: Result<TargetKind, Report>,
+    read: Result<MirPhandleTarget, Report>,
     out: &[u32],
     bytes: &[u8],
     binds: u32,
@@ -58,9 +59,9 @@ pub fn resolve_phandle(
     let label = phandle_label_at(words, text, r);
     let path = phandle_path_at(words, text, r);
     match kind {
-        TargetKind::Label => resolve_label(out, bytes, binds, label),
-        TargetKind::LabelPath => resolve_below(out, bytes, binds, defs, label, path),
-        TargetKind::Path => resolve_path(out, bytes, defs, path),
+        MirPhandleTarget::Label => resolve_label(out, bytes, binds, label),
+        MirPhandleTarget::LabelPath => resolve_below(out, bytes, binds, defs, label, path),
+        MirPhandleTarget::Path => resolve_path(out, bytes, defs, path),
     }
 }
 

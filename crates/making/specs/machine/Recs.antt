@@ -5,8 +5,9 @@ use Rattle.making.specs.declared.ctx.Rec.{Rec}
 use Rattle.definition_log.specs.declared.parts.Span as declared
 use Rattle.making.specs.declared.recs.DefKind.{DefKind}
 use Rattle.making.specs.declared.recs.DefKind.TheVariants as D
-use Rattle.definition_log.specs.declared.parts.TargetKind.{TargetKind}
-use Rattle.definition_log.specs.declared.parts.TargetKind.TheVariants as T
+use Rattle.paths_numbers.specs.meaning.Reference as Reference
+use Rattle.paths_numbers.specs.declared.phandle.MirPhandleTarget.{MirPhandleTarget}
+use Rattle.paths_numbers.specs.declared.phandle.MirPhandleTarget.TheVariants as T
 use Rattle.definition_log.specs.meaning.Contents.{DefValue, node, property, deleted_node, deleted_property, version, plugin, Def, Binding, Diag}
 use Rattle.definition_log.specs.meaning.Contents.{bytestring}
 use Rattle.definition_log.specs.machine.Parts.{meant}
@@ -67,17 +68,15 @@ abbrev pub diag_made : ℕ → List ℕ → declared.Span → declared.Span → 
 diag_made code text span name_span = record { code = code; text = text; span = meant span; name_span = meant name_span }
 
 -- a reference: N, its two texts, and what it names
-abbrev pub target_n : TargetKind → ℕ
-target_n T.Label = 1
-target_n T.LabelPath = 2
-target_n T.Path = 3
+abbrev pub target_n : MirPhandleTarget → ℕ
+target_n kind = Reference.kind_number kind
 
-abbrev pub label_in : TargetKind → List ℕ → List ℕ
+abbrev pub label_in : MirPhandleTarget → List ℕ → List ℕ
 label_in T.Label l = l
 label_in T.LabelPath l = l
 label_in T.Path l = []
 
-abbrev pub path_within : TargetKind → List ℕ → List ℕ
+abbrev pub path_within : MirPhandleTarget → List ℕ → List ℕ
 path_within T.Label p = []
 path_within T.LabelPath p = p
 path_within T.Path p = p

@@ -16,7 +16,7 @@ use Rattle.queries.specs.meaning.Live.{contains_node}
 use Rattle.input.specs.meaning.Report.{report}
 use Rattle.input.specs.machine.PhandleRead.{label_at, path_at, phandle_read}
 use Rattle.input.specs.declared.report.Report.{Report}
-use Rattle.definition_log.specs.declared.parts.TargetKind.{TargetKind}
+use Rattle.paths_numbers.specs.declared.phandle.MirPhandleTarget.{MirPhandleTarget}
 use Rattle.resolving.specs.meaning.Resolve.{first_binding, Resolution, reaches, missing, live_at, by_label, below_label, resolve}
 use Rattle.resolving.specs.declared.resolve.Found.{Found}
 use Rattle.resolving.specs.declared.resolve.Resolved.{Resolved}
@@ -108,7 +108,7 @@ AnswersTarget words bytes binds defs r v =
     × Leads words bytes binds defs (target_label words bytes r) (second_text words bytes r) v
 
 -- of the input's reference r, if it can be read
-abbrev pub AnswersPhandle : List ℕ → List ℕ → ℕ → Result TargetKind Report → List ℕ → List ℕ → ℕ → ℕ → Resolved → Type 0
+abbrev pub AnswersPhandle : List ℕ → List ℕ → ℕ → Result MirPhandleTarget Report → List ℕ → List ℕ → ℕ → ℕ → Resolved → Type 0
 AnswersPhandle input text r read words bytes binds defs v =
     ((t : Target) → (phandle_read input text r read).result ≡ some t
     → resolution words bytes (label_at input text r) (path_at input text r) v

@@ -6,10 +6,10 @@ use Rattle.paths_numbers.proofs.Bytestring.{count_missing, count_bytes}
 use Rattle.making.proofs.Typed.{makes_bytestring}
 use Rattle.making.proofs.ctx.LowerCtx.add_bytestring.Goals as goal
 
-pub returns-in-MissingDigit : goal.returns-in-MissingDigit
-returns-in-MissingDigit c =
+pub returns-in-Err : goal.returns-in-Err
+returns-in-Err c =
     let o = count_missing c.args.text.now
-    (sym c.bytestring_len.ensures ∙ ap count_told c.in-MissingDigit.is) in
+    (sym c.bytestring_len.ensures ∙ ap count_told c.in-Err.is) in
     record { even = λ e. absurd (not_both o e); odd = λ e. (refl, refl, refl) }
 
 pub returns-in-Bytes : goal.returns-in-Bytes
@@ -17,7 +17,7 @@ returns-in-Bytes c =
     let n = count_bytes
     c.args.text.now _ (sym
     c.bytestring_len.ensures
-    ∙ ap count_told c.in-Bytes.is) in
+    ∙ ap count_told c.in-Ok.is) in
     record {
       even = λ e. makes_bytestring
           c.args.text.now e (c.make_bytestring-made.ensures.even e)

@@ -6,7 +6,7 @@ returns c =
     rw (
       c.child_link.ensures,
       c.part-rec.ensures,
-      c.target_number.ensures,
+      c.number.ensures,
       c.label_of.ensures,
       c.path_of.ensures,
     )

@@ -18,7 +18,7 @@ returns-then-not-admits c =
     let a = k.args in
     let x = bytes_of a.text.now in
     let e = sym c.bytestring_len.ensures
-    ∙ ap count_told c.in-Bytes.is in
+    ∙ ap count_told c.in-Ok.is in
     let n = count_bytes a.text.now _ e in
     let same = ap (λ (i : ℕ). makes a.self a.words.now a.bytes.now i a.link) (sym (add-zero (length x) ∙ n.1)) in
     record {
@@ -33,7 +33,7 @@ overflow_cast-size c =
     let a = k.args in
     let x = bytes_of a.text.now in
     let e = sym
-    c.bytestring_len.ensures ∙ ap count_told c.in-Bytes.is in
+    c.bytestring_len.ensures ∙ ap count_told c.in-Ok.is in
     let n = count_bytes a.text.now _ e in
     let same = ap (λ (i : ℕ). makes a.self a.words.now a.bytes.now i a.link) (sym (add-zero (length x) ∙ n.1)) in
     let r = tested_room a.self a.words.now a.bytes.now a.rec x [] a.link _ same _
@@ -47,7 +47,7 @@ put-requires c =
     let a = k.args in
     let x = bytes_of a.text.now in
     let e = sym
-    c.bytestring_len.ensures ∙ ap count_told c.in-Bytes.is in
+    c.bytestring_len.ensures ∙ ap count_told c.in-Ok.is in
     let n = count_bytes a.text.now _ e in
     let same = ap (λ (i : ℕ). makes a.self a.words.now a.bytes.now i a.link) (sym (add-zero (length x) ∙ n.1)) in
     let r = tested_room a.self a.words.now a.bytes.now a.rec x [] a.link _ same _
@@ -55,10 +55,10 @@ put-requires c =
     c.if-not-admits.false-raw in
     (r.records_fit, r.link_fits, omega (arith, r.bytes_most, n.1))
 
-pub returns-in-MissingDigit : goal.returns-in-MissingDigit
-returns-in-MissingDigit c =
+pub returns-in-Err : goal.returns-in-Err
+returns-in-Err c =
     let a = c.args in
-    let o = count_missing a.text.now (sym c.bytestring_len.ensures ∙ ap count_told c.in-MissingDigit.is) in
+    let o = count_missing a.text.now (sym c.bytestring_len.ensures ∙ ap count_told c.in-Err.is) in
     record { even = λ e. absurd (not_both o e); odd = λ e. (refl, refl, refl) }
 
 pub returns-else-not-admits : goal.returns-else-not-admits
@@ -68,7 +68,7 @@ returns-else-not-admits c =
     let x = bytes_of a.text.now in
     let e = sym
     c.bytestring_len.ensures
-    ∙ ap count_told c.in-Bytes.is in
+    ∙ ap count_told c.in-Ok.is in
     let n = count_bytes a.text.now _ e in
     let same = ap (λ (i : ℕ). makes a.self a.words.now a.bytes.now i a.link) (sym (add-zero (length x) ∙ n.1)) in
     let r = tested_room a.self a.words.now a.bytes.now a.rec x [] a.link _ same _
