@@ -182,7 +182,7 @@ impl LowerCtx {
                 if !self.admits(words, bytes, size, link) {
                     return self.run_short();
                 }
-                lower_bytestring(text, bytes, self.bytes as usize);
+                let _ = lower_bytestring(text, bytes, self.bytes as usize); // there is room, and no digit is missing
                 self.put(words, rec, size as u32, 0, link)
             }
         }

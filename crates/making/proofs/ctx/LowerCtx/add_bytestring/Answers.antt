@@ -12,8 +12,8 @@ returns-in-Err c =
     (sym c.bytestring_len.ensures ∙ ap count_told c.in-Err.is) in
     record { even = λ e. absurd (not_both o e); odd = λ e. (refl, refl, refl) }
 
-pub returns-in-Bytes : goal.returns-in-Bytes
-returns-in-Bytes c =
+pub returns-in-Ok : goal.returns-in-Ok
+returns-in-Ok c =
     let n = count_bytes
     c.args.text.now _ (sym
     c.bytestring_len.ensures
