@@ -1,4 +1,6 @@
 // Box numbers as packed decimal: two digits a byte, high digit first.
+#![tactic(auto, unfolding(crate::specs::meaning::Box::is_packed, crate::specs::meaning::Box::two_digits, crate::specs::meaning::Box::pack, crate::specs::meaning::Box::is_length, crate::specs::meaning::Box::read_answer, crate::specs::meaning::Box::write_number, crate::specs::meaning::Box::write_answer, crate::specs::meaning::Box::write_out))]
+
 ghost use Rattle.std.specs.Prelude.{◌≡◌, ◌≤◌, ◌<◌, ltb, length};
 ghost use Rattle.definition_log.specs.meaning.Answer.{told_done};
 ghost use Rattle.boxes.specs.meaning.Box.{is_packed, is_length, two_digits, pack, hundreds, packed_value, packed_bytes};

@@ -1,4 +1,6 @@
 // The walk of row 8's test: every link that can be reached is followed, and marks the record that it leads to.
+#![tactic(auto, unfolding(crate::specs::meaning::Record::one_of, crate::specs::machine::Walk::place_of, crate::specs::machine::Walk::stored, crate::specs::machine::Walk::first_mark))]
+
 ghost use Rattle.std.specs.Prelude.{◌<◌, cond, ◌≡◌, eqb, get_or};
 ghost use Rattle.definition_log.specs.meaning.Record.{one_of, kind_of, m_of, extension_kind};
 ghost use Rattle.definition_log.specs.meaning.Sound.{below, kinds_in, link_to, links_of, head_links};

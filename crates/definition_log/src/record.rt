@@ -1,5 +1,7 @@
 // Output records read. Every function answers for any words and bytes: what lies outside reads as 0,
 // and a text ends where the bytes do.
+#![tactic(auto, unfolding(crate::specs::meaning::Record::out_field, crate::specs::meaning::Record::log_count))]
+
 ghost use Rattle.std.specs.Prelude.{◌≡◌};
 ghost use Rattle.definition_log.specs.meaning.Record.{out_field, kind_of, next_of, child_of, log_count, leads, text_in, first_text, second_text};
 
