@@ -1,23 +1,22 @@
 -- Laws of the texts between a path's slashes, and of two of them that match.
-use Prim.Native.Nat.{ℕ, ◌+◌, ◌-◌, ◌≤◌, ◌<◌}
+use Prim.Native.Nat.{ℕ, ◌<◌}
 use mathlib.Core.Path.{◌≡◌, refl, sym, ap, ◌∙◌}
 use mathlib.Core.Bool.{Bool, true, false, not, cond}
 use mathlib.Core.List.{List, [], ◌∷◌, ◌++◌, append-nil}
-use native.Mathlib.Numerals.{add-one}
 use native.Mathlib.Omega.{arith}
-use borrow.Author.Tests.{eq-eqb, ne_eqb, eqb-true, eqb-false, le-leb, leb-true, leb-false}
-use lib.Dec.{eqb, leb}
-use lib.ListN.{length, get_or, take, drop, drop_of_length-le, length-drop}
-use lib.Seq.{drop-cons, drop-drop, take_all}
+use borrow.Author.Tests.{eq-eqb, ne_eqb}
+use lib.Dec.{eqb}
+use lib.ListN.{length, get_or, take, drop, length-drop}
+use Rattle.std.specs.List.{list_any}
 use Rattle.paths_numbers.specs.meaning.Byte.{slash, at_sign}
 use Rattle.paths_numbers.specs.meaning.Text.{same, begins, is_empty, starts_with}
 use Rattle.paths_numbers.specs.meaning.Lists.{any}
 use Rattle.paths_numbers.specs.meaning.Reference.{before_slash}
 use Rattle.paths_numbers.proofs.Texts.{by_test, not_both, is_false, same_true, begins_split, begins_append, begins_refl, is_empty_lem}
-use Rattle.paths_numbers.proofs.Texts.{not_empty, starts_at}
-use Rattle.paths_numbers.proofs.Slashes.{take_before, before_length}
+use Rattle.paths_numbers.proofs.Texts.{not_empty, starts_at, no_byte}
+use Rattle.paths_numbers.proofs.Slashes.{take_before}
 use Rattle.short_paths.specs.meaning.Short.{before_at, has_at, component_matches, onto, split, all_match, may_mean}
-use Rattle.short_paths.specs.machine.Front.{more, Matched}
+use Rattle.short_paths.specs.machine.Front.{more, Matched, Unmatched}
 
 abbrev is_none : List (List ℕ) → Bool
 is_none [] = true
@@ -49,18 +48,11 @@ split_append (b ∷ s) t =
     (λ e. rw (e, split_append s t) refl)
     (λ e. rw (e, split_append s t) (onto_append b (split s) (split t) (split_some s)))
 
--- an "@" at a place, behind it, and at none
-pub at_here : (s : List ℕ) (i : ℕ) → i < length s → get_or s i 0 ≡ at_sign → has_at (drop i s) ≡ true
+-- the library's search for a byte is that of the definition
+pub any_list : (f : ℕ → Bool) (s : List ℕ) → list_any f s ≡ any f s
 unfolding any
-at_here s i h e = rw (drop-cons s i 0 h) (simp (eq-eqb _ _ e))
-
-pub at_later : (s : List ℕ) (i : ℕ) → i < length s → (get_or s i 0 ≡ at_sign → ⊥) → has_at (drop i s) ≡ has_at (drop (i + 1) s)
-unfolding any
-at_later s i h e = rw (drop-cons s i 0 h, add-one) (simp (ne_eqb _ _ e))
-
-pub at_done : (s : List ℕ) (i : ℕ) → length s ≤ i → has_at (drop i s) ≡ false
-unfolding any
-at_done s i h = rw (drop_of_length-le s h) refl
+any_list f [] = refl
+any_list f (b ∷ s) = by_test (f b) (λ t. rw t refl) (λ t. rw t (any_list f s))
 
 -- a text and one that begins with it
 same_front : (c t : List ℕ) → same c (c ++ t) ≡ is_empty t
@@ -153,71 +145,46 @@ module _ (p q : List ℕ) (cs : List (List ℕ)) where
       ≡ all_match (more (drop (length (before_slash p)) p) ++ cs) (more (drop (length (before_slash q)) q))
   step_on h = step ∙ rw h refl
 
--- behind a text that does not end its path, and behind one that does
-pub more_split : (s : List ℕ) (e : ℕ) → e < length s → more (drop e s) ≡ split (drop (e + 1) s)
-unfolding more
-more_split s e h = rw (drop-cons s e 0 h, add-one) refl
-
-pub more_done : (s : List ℕ) (e : ℕ) → length s ≤ e → more (drop e s) ≡ []
-unfolding more
-more_done s e h = rw (drop_of_length-le s h) refl
-
 -- texts are left, and none to match them
-pub too_many : (s : List ℕ) (cs : List (List ℕ)) → all_match (split s ++ cs) [] ≡ false
+too_many : (s : List ℕ) (cs : List (List ℕ)) → all_match (split s ++ cs) [] ≡ false
 unfolding all_match
 too_many s cs = rw (first_text_lem s) refl
 
--- where the text ends that starts at a place, and the text as a part of its path
-abbrev pub end_at : List ℕ → ℕ → ℕ
-end_at s k = k + length (before_slash (drop k s))
+-- c is the first text of a path s, and x is what is behind it
+pub record Cut (s c x : List ℕ) : Type 0 where
+  pub front : c ≡ before_slash s
+  pub back : x ≡ drop (length (before_slash s)) s
 
-pub text_at_lem : (s : List ℕ) (k : ℕ) → take (end_at s k - k) (drop k s) ≡ before_slash (drop k s)
-text_at_lem s k =
-    let e : end_at s k - k ≡ length (before_slash (drop k s)) = omega arith in
-    rw e (take_before (drop k s))
+pub cut : (s c x : List ℕ) (k : ℕ) → k ≡ length (before_slash s) → c ≡ take k s → x ≡ drop k s → Cut s c x
+cut s c x k e f g = record {
+  front = f ∙ ap (λ (n : ℕ). take n s) e ∙ take_before s;
+  back = g ∙ ap (λ (n : ℕ). drop n s) e;
+}
 
-pub end_within : (s : List ℕ) (k : ℕ) → k ≤ length s → end_at s k ≤ length s
-end_within s k h = omega (arith, before_length (drop k s), length-drop k s)
+-- the code's step, where t is what the first texts of both paths were compared to
+module _ {p q c d x y : List ℕ} {t : Bool} (u : Cut p c x) (v : Cut q d y) (m : t ≡ component_matches c d) (cs : List (List ℕ)) where
+  texts : component_matches (before_slash p) (before_slash q) ≡ t
+  texts = sym (m ∙ rw (u.front, v.front) refl)
 
--- and as it is looked for, in all that stands behind
-pub end_read : (s : List ℕ) (k n : ℕ) → n ≡ length (before_slash (take (length s - k) (drop k s))) → n ≡ length (before_slash (drop k s))
-end_read s k n e =
-    e ∙ ap (λ (l : List ℕ). length (before_slash l)) (take_all (length s - k) (drop k s) (omega (arith, length-drop k s)))
+  pub first_differs : t ≡ false → all_match (split p ++ cs) (split q) ≡ false
+  first_differs n = step_none p q cs (texts ∙ n)
 
--- the step at a place of each path
-module _ (path full : List ℕ) (i j : ℕ) where
-  pub at_on : component_matches (before_slash (drop i path)) (before_slash (drop j full)) ≡ true → (cs : List (List ℕ))
-      → all_match (split (drop i path) ++ cs) (split (drop j full))
-      ≡ all_match (more (drop (end_at path i) path) ++ cs) (more (drop (end_at full j) full))
-  at_on h cs =
-      step_on (drop i path) (drop j full) cs h
-      ∙ rw (drop-drop (length (before_slash (drop i path))) i path, drop-drop (length (before_slash (drop j full))) j full) refl
+  module _ (n : t ≡ true) where
+    on : all_match (split p ++ cs) (split q) ≡ all_match (more x ++ cs) (more y)
+    on = rw (u.back, v.back) (step_on p q cs (texts ∙ n))
 
--- two texts compared as parts of their paths
-pub compared : (path full : List ℕ) (i j e f : ℕ) (t : Bool) → e ≡ end_at path i → f ≡ end_at full j
-    → t ≡ component_matches (take (e - i) (drop i path)) (take (f - j) (drop j full))
-    → component_matches (before_slash (drop i path)) (before_slash (drop j full)) ≡ t
-compared path full i j e f t p q h =
-    let x = ap (λ (n : ℕ). take (n - i) (drop i path)) p ∙ text_at_lem path i in
-    let y = ap (λ (n : ℕ). take (n - j) (drop j full)) q ∙ text_at_lem full j in
-    sym (rw (x, y) at h)
+    pub path_ends : length x ≡ 0 → all_match (split p ++ cs) (split q) ≡ all_match cs (more y)
+    unfolding more
+    path_ends z = on ∙ rw (no_byte x z) refl
 
--- behind two texts that match and end at these places
-module _ (path full : List ℕ) (i j e f : ℕ) (p : e ≡ end_at path i) (q : f ≡ end_at full j)
-    (m : component_matches (before_slash (drop i path)) (before_slash (drop j full)) ≡ true) (cs : List (List ℕ)) where
-  on : all_match (split (drop i path) ++ cs) (split (drop j full)) ≡ all_match (more (drop e path) ++ cs) (more (drop f full))
-  on = rw (p, q) (at_on path full i j m cs)
+    module _ {b : ℕ} {s : List ℕ} (r : x ≡ b ∷ s) where
+      pub full_ends : length y ≡ 0 → all_match (split p ++ cs) (split q) ≡ false
+      unfolding more
+      full_ends z = on ∙ rw (no_byte y z, r) (too_many s cs)
 
-  pub path_ends : length path ≤ e → all_match (split (drop i path) ++ cs) (split (drop j full)) ≡ all_match cs (more (drop f full))
-  path_ends h = on ∙ ap (λ (x : List (List ℕ)). all_match (x ++ cs) (more (drop f full))) (more_done path e h)
-
-  pub full_ends : e < length path → length full ≤ f → all_match (split (drop i path) ++ cs) (split (drop j full)) ≡ false
-  full_ends h k = on ∙ rw (more_done full f k, more_split path e h) (too_many (drop (e + 1) path) cs)
-
-  pub both_go_on : e < length path → f < length full
-      → all_match (split (drop i path) ++ cs) (split (drop j full))
-      ≡ all_match (split (drop (e + 1) path) ++ cs) (split (drop (f + 1) full))
-  both_go_on h k = on ∙ rw (more_split full f k, more_split path e h) refl
+      pub both_go_on : {a : ℕ} {w : List ℕ} → y ≡ a ∷ w → all_match (split p ++ cs) (split q) ≡ all_match (split s ++ cs) (split w)
+      unfolding more
+      both_go_on z = on ∙ rw (r, z) refl
 
 -- no text left on one side
 pub none_left : (s : List ℕ) → all_match (split s) [] ≡ false
@@ -228,30 +195,28 @@ none_meant : (s : List ℕ) → all_match [] (split s) ≡ false
 unfolding all_match
 none_meant s = rw (first_text_lem s) refl
 
--- a whole path is matched where its match ends with the other path
-pub matched_end : (p q : List ℕ) (n : ℕ) → Matched p q n → all_match (split p) (split q) ≡ eqb n (length q)
-unfolding all_match
-matched_end p q n h =
-    ap (λ (x : List (List ℕ)). all_match x (split q)) (sym (append-nil (split p))) ∙ h []
-    ∙ by_test (leb n (length q))
-    (λ t.
-    by_test (eqb n (length q))
-    (λ e. rw (t, e, more_done q n (omega (arith, eqb-true n (length q) e))) refl)
-    (λ e. rw (t, e, more_split q n (omega (arith, leb-true n (length q) t, eqb-false n (length q) e))) (none_meant (drop (n + 1) q))))
-    (λ t. rw (t, ne_eqb n (length q) (λ e. omega (arith, leb-false n (length q) t))) refl)
+-- a whole path is matched where its match leaves nothing
+pub matched_none : (p q : List ℕ) → Unmatched p q → all_match (split p) (split q) ≡ false
+matched_none p q h = ap (λ (x : List (List ℕ)). all_match x (split q)) (sym (append-nil (split p))) ∙ h []
+
+pub matched_end : (p q r : List ℕ) → Matched p q r → eqb (length r) 0 ≡ all_match (split p) (split q)
+unfolding all_match more
+matched_end p q [] h = sym (ap (λ (x : List (List ℕ)). all_match x (split q)) (sym (append-nil (split p))) ∙ h [])
+matched_end p q (b ∷ r) h =
+    ne_eqb (length (b ∷ r)) 0 (λ e. omega arith)
+    ∙ sym (ap (λ (x : List (List ℕ)). all_match x (split q)) (sym (append-nil (split p))) ∙ h [] ∙ none_meant r)
 
 -- a path given by what stands before the "/" of a name
-module _ (front name full : List ℕ) (k : ℕ) (h : Matched front full k) where
-  pub not_meant : length full ≤ k → may_mean (front ++ slash ∷ name) full ≡ false
-  unfolding may_mean all_match
-  not_meant l =
-      rw (split_append front name) (h (split name)
-      ∙ by_test (leb k (length full))
-      (λ t. rw (t, more_done full k l) (none_left name))
-      (λ t. rw t refl))
-
-  pub meant : k < length full → may_mean (front ++ slash ∷ name) full ≡ all_match (split name) (split (drop (k + 1) full))
+module _ (front name full : List ℕ) where
+  pub not_meant : Unmatched front full → may_mean (front ++ slash ∷ name) full ≡ false
   unfolding may_mean
-  meant l =
-      rw (split_append front name) (h (split name)
-      ∙ rw (le-leb k (length full) (omega arith), more_split full k l) refl)
+  not_meant h = rw (split_append front name) (h (split name))
+
+  module _ (e : List ℕ) where
+    pub short_meant : length e ≡ 0 → Matched front full e → may_mean (front ++ slash ∷ name) full ≡ false
+    unfolding may_mean more
+    short_meant z h = rw (split_append front name) (h (split name) ∙ rw (no_byte e z) (none_left name))
+
+    pub meant : (b : ℕ) (r : List ℕ) → e ≡ b ∷ r → Matched front full e → may_mean (front ++ slash ∷ name) full ≡ all_match (split name) (split r)
+    unfolding may_mean more
+    meant b r q h = rw (split_append front name) (h (split name) ∙ rw q refl)

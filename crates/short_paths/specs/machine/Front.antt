@@ -1,5 +1,5 @@
 -- Steps of the match of two paths, component by component.
-use Rattle.std.specs.Prelude.{ℕ, false, cond, ◌≡◌, List, [], ◌∷◌, ◌++◌, leb, length, drop}
+use Rattle.std.specs.Prelude.{ℕ, false, cond, ◌≡◌, List, [], ◌∷◌, ◌++◌}
 use Rattle.paths_numbers.specs.meaning.Text.{same}
 use Rattle.paths_numbers.specs.meaning.Path.{root}
 use Rattle.short_paths.specs.meaning.Short.{split, all_match}
@@ -13,7 +13,9 @@ unfoldable pub more : List ℕ → List (List ℕ)
 more [] = []
 more (b ∷ s) = split s
 
--- n is behind as many texts of `full` as `path` has, and they match; or behind the end of `full`, and they don't
-abbrev pub Matched : List ℕ → List ℕ → ℕ → Type 0
-Matched path full n =
-    (cs : List (List ℕ)) → all_match (split path ++ cs) (split full) ≡ cond (leb n (length full)) (all_match cs (more (drop n full))) false
+-- rest stands behind as many texts of `full` as `path` has, and they match; or they don't
+abbrev pub Matched : List ℕ → List ℕ → List ℕ → Type 0
+Matched path full rest = (cs : List (List ℕ)) → all_match (split path ++ cs) (split full) ≡ all_match cs (more rest)
+
+abbrev pub Unmatched : List ℕ → List ℕ → Type 0
+Unmatched path full = (cs : List (List ℕ)) → all_match (split path ++ cs) (split full) ≡ false

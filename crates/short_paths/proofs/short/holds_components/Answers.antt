@@ -1,16 +1,17 @@
 -- By the first byte, and then by row 9's test of what has no "/" in front.
-use mathlib.Core.Path.{sym, ◌∙◌}
-use native.Mathlib.Omega.{arith}
+use Rattle.std.proofs.Common.{not, ap, sym, ◌∙◌, arith, eq-eqb}
 use Rattle.short_paths.proofs.Form.{no_name, slash_ahead, name_ahead}
 use Rattle.short_paths.proofs.short.holds_components.Goals as goal
 
-pub returns-then-name-eq0 : goal.returns-then-name-eq0
-returns-then-name-eq0 c = sym (no_name c.args.name.now c.if-name-eq0.true)
+pub returns-in-None : goal.returns-in-None
+returns-in-None c = let h = c.in-None.ensures.item.3 in sym (no_name c.args.name.now (omega arith))
 
-pub returns-then-name-eq47 : goal.returns-then-name-eq47
-returns-then-name-eq47 c = sym (slash_ahead c.args.name.now (omega arith) c.if-name-eq47.true)
+pub returns-then-first-ne47 : goal.returns-then-first-ne47
+returns-then-first-ne47 c =
+    let h = c.in-Some.ensures.item.3 in
+    c.has_components.ensures ∙ sym (name_ahead c.args.name.now h.0 (λ e. c.if-first-ne47.true (h.1 0 ∙ e)))
 
-pub returns : goal.returns
-returns c =
-    c.has_components.ensures
-    ∙ sym (name_ahead c.args.name.now (omega arith) c.if-name-eq47.false)
+pub returns-else-first-ne47 : goal.returns-else-first-ne47
+returns-else-first-ne47 c =
+    let h = c.in-Some.ensures.item.3 in
+    ap not (eq-eqb _ _ c.if-first-ne47.false) ∙ sym (slash_ahead c.args.name.now h.0 (sym (h.1 0) ∙ c.if-first-ne47.false))

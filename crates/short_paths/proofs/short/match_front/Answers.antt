@@ -1,67 +1,52 @@
-use Prim.Native.Nat.{◌+◌}
-use mathlib.Core.Path.{◌∙◌}
-use native.Mathlib.Omega.{arith}
-use borrow.Author.Tests.{le-leb, lt-leb}
-use lib.ListN.{length, drop}
-use Rattle.short_paths.proofs.Components.{compared, step_none, path_ends, full_ends, both_go_on}
+-- The step at what is left of both paths (Components: first_differs, path_ends, full_ends, both_go_on).
+use Rattle.std.proofs.Common.{◌∙◌, arith}
+use Rattle.paths_numbers.proofs.Slashes.{before_length}
+use Rattle.short_paths.proofs.Components.{cut, first_differs, path_ends, full_ends, both_go_on}
 use Rattle.short_paths.proofs.short.match_front.Goals as goal
+
+pub split_at-requires : goal.split_at-requires
+split_at-requires c = omega (arith, before_length c.components.left.now, c.first_slash.ensures)
+
+pub split_at-requires-in-components : goal.split_at-requires-in-components
+split_at-requires-in-components c = omega (arith, before_length c.components.other.now, c.first_slash-in-components.ensures)
 
 pub returns-then-not-component_matches : goal.returns-then-not-component_matches
 returns-then-not-component_matches c =
-    let a = c.args in
-    let l = c.loop-i in
-    let e = c.component_end-end in
-    let f = c.component_end-behind in
-    let m =
-    compared a.path.now a.full.now l.i l.j e.result f.result _ e.ensures.value f.ensures.value
-    c.component_matches.ensures
-    ∙ c.if-not-component_matches.true in
-    λ cs. simp (lt-leb (length a.full.now + 1) (length a.full.now) (omega arith))
-    (l.invariant.2 cs ∙ step_none (drop l.i a.path.now) (drop l.j a.full.now) cs m)
+    let l = c.components in
+    let f = c.split_at.ensures in
+    let g = c.split_at-in-components.ensures in
+    let u = cut l.left.now _ _ _ c.first_slash.ensures f.front f.back in
+    let v = cut l.other.now _ _ _ c.first_slash-in-components.ensures g.front g.back in
+    λ cs. l.invariant cs ∙ first_differs u v c.component_matches.ensures cs c.if-not-component_matches.true
 
-pub returns-then-end-path : goal.returns-then-end-path
-returns-then-end-path c =
-    let a = c.args in
-    let l = c.loop-i in
-    let e = c.component_end-end in
-    let f = c.component_end-behind in
-    let m =
-    compared a.path.now a.full.now l.i l.j e.result f.result _ e.ensures.value f.ensures.value
-    c.component_matches.ensures
-    ∙ c.if-not-component_matches.false in
-    λ cs. simp (le-leb f.result (length a.full.now) f.ensures.upper_bound)
-    (l.invariant.2 cs ∙ path_ends a.path.now a.full.now l.i l.j e.result f.result e.ensures.value f.ensures.value m cs
-    (omega arith))
+pub returns-in_default : goal.returns-in_default
+returns-in_default c =
+    let l = c.components in
+    let f = c.split_at.ensures in
+    let g = c.split_at-in-components.ensures in
+    let u = cut l.left.now _ _ _ c.first_slash.ensures f.front f.back in
+    let v = cut l.other.now _ _ _ c.first_slash-in-components.ensures g.front g.back in
+    λ cs. l.invariant cs ∙ path_ends u v c.component_matches.ensures cs c.if-not-component_matches.false c.in_default.ensures.cases
 
-pub returns-then-behind-full : goal.returns-then-behind-full
-returns-then-behind-full c =
-    let a = c.args in
-    let l = c.loop-i in
-    let e = c.component_end-end in
-    let f = c.component_end-behind in
-    let m =
-    compared a.path.now a.full.now l.i l.j e.result f.result _ e.ensures.value f.ensures.value
-    c.component_matches.ensures
-    ∙ c.if-not-component_matches.false in
-    λ cs. simp (lt-leb (length a.full.now + 1) (length a.full.now) (omega arith))
-    (l.invariant.2 cs ∙ full_ends a.path.now a.full.now l.i l.j e.result f.result e.ensures.value f.ensures.value m cs
-    (omega arith) (omega arith))
+pub returns-in_err-other : goal.returns-in_err-other
+returns-in_err-other c =
+    let l = c.components in
+    let f = c.split_at.ensures in
+    let g = c.split_at-in-components.ensures in
+    let u = cut l.left.now _ _ _ c.first_slash.ensures f.front f.back in
+    let v = cut l.other.now _ _ _ c.first_slash-in-components.ensures g.front g.back in
+    let m = c.component_matches.ensures in
+    rw c.from_residual.ensures
+    (λ cs. l.invariant cs
+    ∙ full_ends u v m cs c.if-not-component_matches.false c.in-Some.ensures.cases.0 c.in_err-other.ensures.cases)
 
-pub loop-i-preserved : goal.loop-i-preserved
-loop-i-preserved c =
-    let a = c.args in
-    let l = c.loop-i in
-    let e = c.component_end-end in
-    let f = c.component_end-behind in
-    let m =
-    compared a.path.now a.full.now l.i l.j e.result f.result _ e.ensures.value f.ensures.value
-    c.component_matches.ensures
-    ∙ c.if-not-component_matches.false in (
-      omega arith,
-      omega arith,
-      λ cs. l.invariant.2 cs ∙ both_go_on a.path.now a.full.now l.i l.j e.result f.result
-          e.ensures.value f.ensures.value m cs (omega arith) (omega arith),
-    )
-
-pub returns : goal.returns
-returns c = absurd (omega (arith, c.loop-i-test.false, c.loop-i.invariant.0))
+pub components-preserved : goal.components-preserved
+components-preserved c =
+    let l = c.components in
+    let f = c.split_at.ensures in
+    let g = c.split_at-in-components.ensures in
+    let u = cut l.left.now _ _ _ c.first_slash.ensures f.front f.back in
+    let v = cut l.other.now _ _ _ c.first_slash-in-components.ensures g.front g.back in
+    let m = c.component_matches.ensures in
+    λ cs. l.invariant cs
+    ∙ both_go_on u v m cs c.if-not-component_matches.false c.in-Some.ensures.cases.0 c.in_ok-other.ensures.cases.0

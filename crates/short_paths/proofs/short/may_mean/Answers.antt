@@ -1,37 +1,33 @@
--- What stands before the name is matched first, then the name.
-use mathlib.Core.Path.{sym, ap, ◌∙◌}
-use mathlib.Core.List.{List, ◌∷◌, ◌++◌}
-use Prim.Native.Nat.{ℕ, ◌+◌}
-use native.Mathlib.Omega.{arith}
-use lib.ListN.{take}
-use lib.Seq.{length-take-le}
+-- What stands before the name is matched first, then the name (Components: not_meant, short_meant, meant, matched_none, matched_end).
+use Rattle.std.proofs.Common.{List, ℕ, ◌∷◌, ◌++◌, sym, ap, ◌∙◌}
 use Rattle.paths_numbers.specs.meaning.Byte.{slash}
-use Rattle.paths_numbers.proofs.Texts.{rest}
-use Rattle.short_paths.specs.meaning.Short.{split, all_match, may_mean}
-use Rattle.short_paths.proofs.Components.{matched_end, not_meant, meant}
+use Rattle.short_paths.specs.meaning.Short.{may_mean}
+use Rattle.short_paths.proofs.Components.{not_meant, short_meant, meant, matched_none, matched_end}
 use Rattle.short_paths.proofs.short.may_mean.Goals as goal
 
-pub slice_bounds-match_front-end : goal.slice_bounds-match_front-end
-slice_bounds-match_front-end c =
-    let g = c.front_len-n in
-    sym (length-take-le g.result c.args.parent.now g.ensures.upper_bound)
-
-pub returns-then-full-behind : goal.returns-then-full-behind
-returns-then-full-behind c =
+pub returns-in_default : goal.returns-in_default
+returns-in_default c =
     let a = c.args in
-    let g = c.front_len-n in
-    let m = c.match_front-behind in
-    sym (ap (λ (x : List ℕ). may_mean (x ++ slash ∷ a.name.now) a.full.now) (sym g.ensures.parent_value)
-    ∙ not_meant (take g.result a.parent.now) a.name.now a.full.now m.result m.ensures (omega arith))
+    sym (ap (λ (x : List ℕ). may_mean (x ++ slash ∷ a.name.now) a.full.now) (sym c.front.ensures)
+    ∙ not_meant c.front.result.now a.name.now a.full.now c.in_default.ensures)
 
-pub returns : goal.returns
-returns c =
+pub returns-in_default-split_first : goal.returns-in_default-split_first
+returns-in_default-split_first c =
     let a = c.args in
-    let g = c.front_len-n in
-    let m = c.match_front-behind in
-    let k = m.result + 1 in
-    let w = rest a.full.now k in
-    sym (ap (λ (x : List ℕ). may_mean (x ++ slash ∷ a.name.now) a.full.now) (sym g.ensures.parent_value)
-    ∙ meant (take g.result a.parent.now) a.name.now a.full.now m.result m.ensures (omega arith)
-    ∙ ap (λ (x : List ℕ). all_match (split a.name.now) (split x)) (sym w)
-    ∙ matched_end a.name.now _ c.match_front.result c.match_front.ensures)
+    sym (ap (λ (x : List ℕ). may_mean (x ++ slash ∷ a.name.now) a.full.now) (sym c.front.ensures)
+    ∙ short_meant c.front.result.now a.name.now a.full.now _ c.in_default-split_first.ensures.cases c.in-Some.ensures)
+
+pub returns-in-None : goal.returns-in-None
+returns-in-None c =
+    let a = c.args in
+    sym (ap (λ (x : List ℕ). may_mean (x ++ slash ∷ a.name.now) a.full.now) (sym c.front.ensures)
+    ∙ meant c.front.result.now a.name.now a.full.now _ _ _ c.in-Some-split_first.ensures.cases.0 c.in-Some.ensures
+    ∙ matched_none a.name.now _ c.in-None.ensures)
+
+pub returns-in-Some-match_front : goal.returns-in-Some-match_front
+returns-in-Some-match_front c =
+    let a = c.args in
+    c.is_empty.ensures
+    ∙ sym (ap (λ (x : List ℕ). may_mean (x ++ slash ∷ a.name.now) a.full.now) (sym c.front.ensures)
+    ∙ meant c.front.result.now a.name.now a.full.now _ _ _ c.in-Some-split_first.ensures.cases.0 c.in-Some.ensures
+    ∙ sym (matched_end a.name.now _ _ c.in-Some-match_front.ensures))
