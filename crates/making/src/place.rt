@@ -17,7 +17,7 @@ impl PathAt {
     pub const EMPTY: PathAt = PathAt::Bytes { start: 0, size: 0 };
 
     // The same, or the empty path where its bytes do not lie among those in use.
-    pub fn settle(self, used: u32, bytes: &[u8]) -> PathAt
+    pub(crate) fn settle(self, used: u32, bytes: &[u8]) -> PathAt
         ensures { result ≡ settled used bytes.now self }
     {
         let PathAt::Bytes { start, size } = self else {
