@@ -122,12 +122,29 @@ saturated n s e =
     (λ t. omega (arith, leb-true _ _ t, kept largest_usize n (leb-true _ _ t)))
     (λ t. omega (arith, leb-false _ _ t, cut largest_usize n (omega (arith, leb-false _ _ t))))
 
-pub makes_texts : (c : LowerCtx) (words bytes x y : List ℕ) (link size more s : ℕ) → size ≡ at_most largest_usize (length x)
-    → more ≡ at_most largest_usize (length y) → s ≡ min (size + more) largest_usize
-    → makes c words bytes s link ≡ makes c words bytes (length x + length y) link
-makes_texts c words bytes x y link size more s e f g =
-    makes_cut c words bytes (length x + length y) s link (saturated (size + more) s g ∙ cut_sum largest_usize (length x) (length y) size more e f)
+module _ (c : LowerCtx) (words bytes x y : List ℕ) (link size more s : ℕ) (e : size ≡ at_most largest_usize (length x))
+    (f : more ≡ at_most largest_usize (length y)) (g : s ≡ min (size + more) largest_usize) where
+  makes_texts : makes c words bytes s link ≡ makes c words bytes (length x + length y) link
+  makes_texts =
+      makes_cut c words bytes (length x + length y) s link
+      (saturated (size + more) s g ∙ cut_sum largest_usize (length x) (length y) size more e f)
 
--- and are the lengths where they have room
-pub text_size : (x : List ℕ) (size : ℕ) → size ≡ at_most largest_usize (length x) → length x ≤ most_bytes → size ≡ length x
-text_size x size e h = e ∙ kept largest_usize (length x) (omega arith)
+  -- and are the lengths where they have room
+  pub texts_fit : true ≡ makes c words bytes s link
+      → Room c words bytes (length x + length y) link × (size ≡ length x) × (more ≡ length y)
+  texts_fit t =
+      let r = makes_is c words bytes (length x + length y) link (sym makes_texts ∙ sym t) in
+      let h = r.bytes_most in
+      (r, e ∙ kept largest_usize (length x) (omega arith), f ∙ kept largest_usize (length y) (omega arith))
+
+  -- so that what a code tells that writes them
+  pub texts_none : {r : Rec} {d : LowerCtx} → false ≡ makes c words bytes s link → d ≡ ran_short c
+      → Told c d words bytes words bytes r x y link
+  texts_none {r} {d} t = told_none c words bytes r x y link d (sym makes_texts ∙ sym t)
+
+  pub texts_made : {r : Rec} {d : LowerCtx} {w b : List ℕ} → true ≡ makes c words bytes s link → d ≡ one_more c (size + more)
+      → w ≡ set_link link c.records (written words (c.records * 16) (sixteen c.bytes size more r)) → b ≡ written bytes c.bytes (x ++ y)
+      → Told c d words bytes w b r x y link
+  texts_made {r} {d} {w} {b} t u v q =
+      let k = texts_fit t in
+      told_made c words bytes r x y link d w b (sym makes_texts ∙ sym t) (rw (k.1, k.2) at u) (rw (k.1, k.2) at v) q

@@ -14,6 +14,7 @@ use definition_log::record::log_count;
 use paths_numbers::dt_property::{bytestring_len, lower_bytestring};
 
 // The first and the last record of a chain, 0 where there is none.
+// kept: 0 for none, which is how the words of the log say it
 #[derive(Clone, Copy)]
 pub struct Chain {
     pub first: u32,
@@ -60,6 +61,9 @@ impl Chain {
 // The log in hand: how many records and bytes are made, its chains, and whether the buffers ran
 // short. Bindings and diagnostics are in one chain each for all logs. `part` is the last label or
 // value of the newest definition and `cell` the last cell of that value, 0 where there is none.
+// kept: `short` is a flag and no Result, since an operation that could not fail still cannot
+// kept: `words` and `bytes` stand beside it, since a struct with both `&mut` would need a clause on
+// its references in every function
 #[derive(Clone, Copy)]
 pub struct LowerCtx {
     pub records: u32,

@@ -158,25 +158,19 @@ impl LowerCtx {
             Text::Whole(Piece::Given(second)),
             link,
         );
-        made.with_cell(self.records)
+        LowerCtx {
+            cell: self.records,
+            ..made
+        }
     }
 
-    // The state with one part more, or one cell more.
+    // The state with one part more.
     fn with_part(self, number: u32) -> LowerCtx
         ensures { result ≡ with_part self number }
     {
         LowerCtx {
             part: number,
             cell: 0,
-            ..self
-        }
-    }
-
-    fn with_cell(self, number: u32) -> LowerCtx
-        ensures { result ≡ with_last_cell self number }
-    {
-        LowerCtx {
-            cell: number,
             ..self
         }
     }

@@ -1,5 +1,5 @@
 // Where a path stands in the bytes of a log in the making.
-ghost use Rattle.std.specs.Prelude.{◌≡◌};
+ghost use Rattle.std.specs.Prelude.{◌≡◌, ◌<◌};
 ghost use Rattle.making.specs.machine.PathPlaces.{placed_in, path_in, settled};
 
 use definition_log::layout;
@@ -17,7 +17,7 @@ impl PathAt {
     pub const EMPTY: PathAt = PathAt::Bytes { start: 0, size: 0 };
 
     // The same, or the empty path where its bytes do not lie among those in use.
-    pub fn settle(self, used: u32, bytes: &[u8]) -> PathAt
+    pub(crate) fn settle(self, used: u32, bytes: &[u8]) -> PathAt
         ensures { result ≡ settled used bytes.now self }
     {
         let PathAt::Bytes { start, size } = self else {
@@ -47,18 +47,23 @@ impl PathAt {
 pub fn first_place(out: &[u32], r: u32) -> PathAt
     ensures { result ≡ placed_in out.now r 2 }
 {
-    PathAt::Bytes {
-        start: out_field(out, r, layout::TEXT_START),
-        size: out_field(out, r, layout::TEXT_LENGTH),
-    }
+    placed_in(out, r, layout::TEXT_START)
 }
 
 // The place of its second text: a binding's path, a reference's.
 pub fn second_place(out: &[u32], r: u32) -> PathAt
     ensures { result ≡ placed_in out.now r 4 }
 {
+    placed_in(out, r, layout::SECOND_START)
+}
+
+// The place of a text, whose start is word `i` of a record, and whose length is the next.
+fn placed_in(out: &[u32], r: u32, i: u32) -> PathAt
+    requires { i < 15 }
+    ensures { result ≡ placed_in out.now r i }
+{
     PathAt::Bytes {
-        start: out_field(out, r, layout::SECOND_START),
-        size: out_field(out, r, layout::SECOND_LENGTH),
+        start: out_field(out, r, i),
+        size: out_field(out, r, i + 1),
     }
 }

@@ -1,11 +1,8 @@
 -- A record made, and counted as a cell.
+use Rattle.std.proofs.Common.{refl}
+use Rattle.making.specs.machine.Made.{with_last_cell}
 use Rattle.making.proofs.ctx.LowerCtx.add_cell.Goals as goal
 
 pub returns : goal.returns
-returns c = record {
-  made = c.make-made.result;
-  told = rw
-      c.child_link-link.ensures at
-      c.make-made.ensures;
-  state = c.with_cell.ensures;
-}
+unfolding with_last_cell
+returns c = record { made = c.make-made.result; told = rw c.child_link-link.ensures at c.make-made.ensures; state = refl }
