@@ -9,13 +9,9 @@ use borrow.Author.Tests.{ne_eqb, not-true, not-false}
 use lib.Dec.{eqb}
 use lib.IntN.{ℤ}
 use Rattle.std.specs.Prelude.{Result, Ok, Err}
-use Rattle.paths_numbers.specs.meaning.Expression.{and_op, or_op, conditional_op, eval_code, eval_told, is_true, of_truth}
+use Rattle.paths_numbers.specs.meaning.Expression.{and_op, or_op, conditional_op, is_true, of_truth}
 use Rattle.paths_numbers.specs.meaning.Reading as R
-use Rattle.paths_numbers.specs.meaning.Number.{int_code}
-use Rattle.paths_numbers.specs.declared.expr_eval.IntErrorKind.{IntErrorKind}
-use Rattle.paths_numbers.specs.declared.expr_eval.IntErrorKind.TheVariants as Kind
-use Rattle.paths_numbers.specs.declared.operators.Evaluated.{Evaluated}
-use Rattle.paths_numbers.specs.declared.operators.Evaluated.TheVariants as Eval
+use Rattle.paths_numbers.specs.meaning.Reading.{no_code}
 use Rattle.paths_numbers.proofs.Texts.{by_test, not_both}
 use Rattle.levels.specs.machine.Held.{rules_at}
 use Rattle.definition_log.specs.meaning.Contents.{Span, Diag}
@@ -26,7 +22,7 @@ use Rattle.input.specs.meaning.Input.{record_count, kind_at, next_at, child_at, 
 use Rattle.input.specs.machine.At.{record_at}
 use Rattle.input.specs.machine.Linked.{Linked, At, ChainIn}
 use Rattle.input.specs.machine.Read.{after_at}
-use Rattle.input.specs.machine.Evaluation.{outcome_of, is_logical, decides}
+use Rattle.input.specs.machine.Evaluation.{outcome_of, failure, is_logical, decides}
 use Rattle.input.specs.machine.Reported.{reports_of}
 use Rattle.input.specs.declared.report.Report.{Report}
 use Rattle.input.specs.declared.report.Report.TheVariants as D
@@ -42,21 +38,12 @@ failure_passes words text e d f h = rw h refl
 pub value_passes : (words text : List ℕ) (e : Result ℤ Report) (z : ℤ) (o : Outcome ℤ) → e ≡ Ok z → outcome_of words text e ≡ o → value z ≡ o
 value_passes words text e z o h q = ap (outcome_of words text) (sym h) ∙ q
 
--- a result that there is not has a code, where the operator is not missing
-pub result_coded : (span : Span) (v : Evaluated) → ((z : ℤ) → v ≡ Eval.Value z → ⊥) → (v ≡ Eval.Missing → ⊥)
-    → fails_with (eval_code v) span ≡ evaluated span (eval_told v)
-result_coded span (Eval.Value z) h k = absurd (h z refl)
-result_coded span Eval.Outside h k = refl
-result_coded span Eval.ZeroDivisor h k = refl
-result_coded span Eval.ShiftAmount h k = refl
-result_coded span Eval.Missing h k = absurd (k refl)
-
--- a text that is no number has a code
-pub literal_coded : (span : Span) (e : IntErrorKind) → fails_with {N = ℤ} (int_code e) span ≡ evaluated span (R.fails (int_code e))
-literal_coded span Kind.Empty = refl
-literal_coded span Kind.InvalidDigit = refl
-literal_coded span Kind.PosOverflow = refl
-literal_coded span Kind.NegOverflow = refl
+-- what is reported of a failure is what its code says
+pub failed : (words text : List ℕ) (r code : ℕ) → outcome_of words text (Err (failure r code)) ≡ evaluated (span_at words r) (R.fails code)
+failed words text r code =
+    by_test (eqb code no_code)
+    (λ t. rw t refl)
+    (λ t. rw t refl)
 
 -- an expression record, by its kind
 module _ (level : ℕ) (words text : List ℕ) (r : ℕ) where

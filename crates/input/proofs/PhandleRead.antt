@@ -6,9 +6,10 @@ use mathlib.Core.List.{List, [], ◌∷◌}
 use native.Mathlib.Omega.{arith}
 use borrow.Author.Tests.{ne_eqb}
 use lib.ListN.{length}
-use Rattle.std.specs.Prelude.{Ok, Err}
+use Rattle.std.specs.Prelude.{Option, Some, None, Ok, Err}
+use Rattle.std.specs.Option.{ok_or}
 use Rattle.paths_numbers.specs.meaning.Text.{is_empty}
-use Rattle.paths_numbers.specs.meaning.Reference.{Target, label, label_path, path, unreadable, target, number_of, label_of, path_of}
+use Rattle.paths_numbers.specs.meaning.Reference.{Target, label, label_path, path, unreadable, target, number_of, target_number, label_of, path_of}
 use Rattle.input.specs.meaning.Tree.{macro_kind}
 use Rattle.input.specs.meaning.Phandle.{readable, plain_target, lower_phandle}
 use Rattle.input.specs.meaning.Input.{child_at, number_at, text_at}
@@ -16,7 +17,8 @@ use Rattle.input.specs.machine.At.{record_at}
 use Rattle.input.specs.machine.Read.{FirstOf}
 use Rattle.input.specs.machine.PhandleRead.{label_at, path_at, phandle_read, read_as}
 use Rattle.input.specs.declared.report.Report.TheVariants.{Macro, Nothing}
-use Rattle.paths_numbers.specs.declared.phandle.MirPhandleTarget.TheVariants.{Label}
+use Rattle.paths_numbers.specs.declared.phandle.MirPhandleTarget.{MirPhandleTarget}
+use Rattle.paths_numbers.specs.declared.phandle.MirPhandleTarget.TheVariants.{Label, LabelPath, Path}
 use Rattle.input.proofs.Read.{first_missing, first_there}
 
 -- a text is empty where its length is 0
@@ -80,3 +82,10 @@ module _ (words text : List ℕ) (r : ℕ) where
   pub no_path : (number_at words r ≡ 1 → ⊥) → [] ≡ path_at words text r
   unfolding path_at
   no_path n = simp (ne_eqb (number_at words r) 1 n)
+
+-- a reading of a raw reference, by its number
+pub read_of : (o : Option MirPhandleTarget) → ok_or o Nothing ≡ read_as (target_number o)
+read_of None = refl
+read_of (Some Label) = refl
+read_of (Some LabelPath) = refl
+read_of (Some Path) = refl

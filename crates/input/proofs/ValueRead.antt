@@ -9,14 +9,9 @@ use borrow.Author.Tests.{ne_eqb}
 use Rattle.paths_numbers.specs.meaning.Code.{odd_digits}
 use Rattle.paths_numbers.specs.meaning.Reading as R
 use Rattle.paths_numbers.specs.meaning.Bytestring.{is_odd, bytes_of, count_of, count_told}
-use Rattle.paths_numbers.specs.meaning.Cell.{size_code, size_told, cell_code, cell_told}
+use Rattle.std.specs.Prelude.{Result, Ok}
 use Rattle.paths_numbers.specs.declared.dt_property.BitsSize.{BitsSize}
-use Rattle.paths_numbers.specs.declared.dt_property.SizeRead.{SizeRead}
-use Rattle.paths_numbers.specs.declared.dt_property.SizeRead.TheVariants as S
-use Rattle.paths_numbers.specs.declared.dt_property.Cell.{Cell}
-use Rattle.paths_numbers.specs.declared.dt_property.Cell.TheVariants as C
-use Rattle.paths_numbers.specs.declared.dt_property.ByteCount.{ByteCount}
-use Rattle.paths_numbers.specs.declared.dt_property.ByteCount.TheVariants as B
+use Rattle.paths_numbers.specs.declared.dt_property.MissingDigit.{MissingDigit}
 use Rattle.paths_numbers.proofs.Texts.{by_test}
 use Rattle.definition_log.specs.meaning.Contents.{Span, bytestring}
 use Rattle.definition_log.specs.machine.Parts.{target_made}
@@ -98,21 +93,8 @@ module _ (words text : List ℕ) (r : ℕ) where
         ne_eqb (kind_at words r) preprocessor_kind g,
       )
 
--- a cell without a number has a code, and so has a width that is none
-pub cell_coded : (span : Span) (cell : Cell) → ((n : ℕ) → cell ≡ C.Number n → ⊥)
-    → nothing (report (cell_code cell) [] span ∷ []) ≡ number_cell span (cell_told cell)
-cell_coded span (C.Number n) h = absurd (h n refl)
-cell_coded span C.CharTooLarge h = refl
-cell_coded span C.ExprOutside h = refl
-
-pub size_coded : (level : ℕ) (span : Span) (cells : Trees) (size : SizeRead) → ((s : BitsSize) → size ≡ S.Size s → ⊥)
-    → nothing (report (size_code size) [] span ∷ []) ≡ sized_list level span cells (size_told size)
-size_coded level span cells (S.Size s) h = absurd (h s refl)
-size_coded level span cells S.Unsupported h = refl
-size_coded level span cells (S.Failed e) h = refl
-
 -- a bytestring that was counted has an even count of digits
-pub counted_some : (span : Span) (t : List ℕ) (n : ByteCount) (m : ℕ) → n ≡ B.Bytes m → count_told n ≡ count_of t
+pub counted_some : (span : Span) (t : List ℕ) (n : Result ℕ MissingDigit) (m : ℕ) → n ≡ Ok m → count_told n ≡ count_of t
     → cond (is_odd t) (nothing []) (one (bytestring (bytes_of t))) ≡ counted_bytes span t (count_told n)
 unfolding count_of
 counted_some span t n m e h =

@@ -1,23 +1,23 @@
 // The value of an expression (eval of expr_eval.rs). The nesting, which falls with each link to
 // operands, is what row 6 leaves; the level says what it is reckoned with.
 ghost use Rattle.std.specs.Prelude.{◌≡◌, List, ℕ};
-ghost use Rattle.paths_numbers.specs.meaning.Expression.{conditional_op, eval_told};
-ghost use Rattle.paths_numbers.specs.meaning.Number.{i64_told};
+ghost use Rattle.paths_numbers.specs.meaning.Expression.{conditional_op};
+ghost use Rattle.paths_numbers.specs.meaning.Reading.{told};
 ghost use Rattle.levels.specs.machine.Held.{rules_at};
 ghost use Rattle.definition_log.specs.meaning.Contents.{Span};
 ghost use Rattle.input.specs.meaning.Expr.{evaluated, first_operand, applied, prefix_of, infix_of, eval, evals};
 ghost use Rattle.input.specs.meaning.Input.{child_at, number_at, span_at, chain_at, parts_at};
 ghost use Rattle.input.specs.machine.At.{record_at};
 ghost use Rattle.input.specs.machine.Linked.{RecordIn, ChainIn};
-ghost use Rattle.input.specs.machine.Evaluation.{outcome_of, is_logical, decides};
+ghost use Rattle.input.specs.machine.Evaluation.{outcome_of, failure, is_logical, decides};
 
 use crate::kinds::{CHARACTER, INFIX, MACRO, NUMBER, PARENTHESIS, PREFIX};
 use crate::linked::Input;
 use crate::record::{after, child_at, kind_at, number_at, text_at};
 use crate::report::Report;
 use levels::level::{binary, literal, unary};
-use paths_numbers::expr_eval::{ParsedI64, int_code};
-use paths_numbers::operators::{AND, CONDITIONAL, Evaluated, OR, eval_code, is_true};
+use paths_numbers::codes::Code;
+use paths_numbers::operators::{AND, CONDITIONAL, OR, is_true};
 
 impl Input<'_> {
     // The value of an expression, or what is reported where there is none, which is nothing for a missing operand or operator.
@@ -32,7 +32,7 @@ impl Input<'_> {
         }
         match kind_at(self.words, r) {
             MACRO => Err(Report::Macro(r)),
-            NUMBER => literal_of(r, literal(level, text_at(self.words, self.text, r))),
+            NUMBER => evaluation_of(r, literal(level, text_at(self.words, self.text, r))),
             CHARACTER => Ok(number_at(self.words, r) as i64),
             PREFIX => self.eval_prefix_at(r, nesting - 1, level),
             PARENTHESIS => self.eval_first(child_at(self.words, r), nesting - 1, level),
@@ -162,23 +162,22 @@ fn is_logical(op: u32) -> bool
     }
 }
 
-// An operator's result, at record r.
-fn evaluation_of(r: u32, v: Evaluated) -> Result<i64, Report>
-    ensures { (words text : List ℕ) → outcome_of words text result ≡ evaluated (span_at words r) (eval_told v) }
+// A value that was made at record r, or what is reported where there is none: nothing of a failure without a code.
+fn evaluation_of<E: Code>(r: u32, v: Result<i64, E>) -> Result<i64, Report>
+    ensures { (words text : List ℕ) → outcome_of words text result ≡ evaluated (span_at words r) (told E.code_of v) }
 {
     match v {
-        Evaluated::Value(z) => Ok(z),
-        Evaluated::Missing => Err(Report::Nothing),
-        _ => Err(Report::Code(eval_code(v), r)),
+        Ok(z) => Ok(z),
+        Err(e) => Err(failure(r, e.code())),
     }
 }
 
-// A number's text read, at record r.
-fn literal_of(r: u32, p: ParsedI64) -> Result<i64, Report>
-    ensures { (words text : List ℕ) → outcome_of words text result ≡ evaluated (span_at words r) (i64_told p) }
+// What is reported of a code at record r: nothing of none.
+fn failure(r: u32, code: u32) -> Report
+    ensures { result ≡ failure r code }
 {
-    match p {
-        ParsedI64::Value(z) => Ok(z),
-        ParsedI64::Failed(k) => Err(Report::Code(int_code(k), r)),
+    if code == 0 {
+        return Report::Nothing;
     }
+    Report::Code(code, r)
 }

@@ -1,10 +1,9 @@
 // References read: what lower_phandle of lowering/mod.rs makes of a reference record.
 ghost use Rattle.std.specs.Prelude.{◌≡◌, ◌<◌};
-ghost use Rattle.paths_numbers.specs.meaning.Reference.{target_number};
 ghost use Rattle.input.specs.meaning.Phandle.{plain_target, lower_phandle};
 ghost use Rattle.input.specs.meaning.Input.{record_count};
 ghost use Rattle.input.specs.machine.At.{record_at};
-ghost use Rattle.input.specs.machine.PhandleRead.{label_at, path_at, phandle_read, read_as};
+ghost use Rattle.input.specs.machine.PhandleRead.{label_at, path_at, phandle_read};
 
 use crate::kinds::MACRO;
 use crate::linked::Input;
@@ -35,7 +34,7 @@ fn plain_target(words: &[u32], text: &[u8], r: u32) -> Result<MirPhandleTarget, 
 {
     let name = text_at(words, text, r);
     if number_at(words, r) == RAW {
-        return read_as(paths_numbers::phandle::lower_phandle(name));
+        return paths_numbers::phandle::lower_phandle(name).ok_or(Report::Nothing);
     }
     if name.len() == 0 {
         return Err(Report::Nothing);
@@ -61,16 +60,4 @@ pub fn phandle_path_at<'a, 'b>(words: &'b [u32], text: &'a [u8], r: u32) -> &'a 
         return phandle_path(text_at(words, text, r));
     }
     no_text(text)
-}
-
-// What a raw reference names.
-fn read_as(t: MirPhandleTarget) -> Result<MirPhandleTarget, Report>
-    ensures { result ≡ read_as (target_number t) }
-{
-    match t {
-        MirPhandleTarget::Label => Ok(MirPhandleTarget::Label),
-        MirPhandleTarget::LabelPath => Ok(MirPhandleTarget::LabelPath),
-        MirPhandleTarget::Path => Ok(MirPhandleTarget::Path),
-        MirPhandleTarget::Unreadable => Err(Report::Nothing),
-    }
 }

@@ -16,32 +16,23 @@ use crate::limits::{MOST_LINKS, MOST_RECORDS, MOST_TEXT};
 use crate::record::{child_at, field, kind_at, next_at, number_at, second_at, text_at, w_at};
 use crate::place::Place;
 use crate::{layout, place};
-use definition_log::answer::{
-    REFUSED_DEPTH, REFUSED_KIND, REFUSED_LINK, REFUSED_NAME, REFUSED_SIZE, REFUSED_TEXT,
-};
+use definition_log::answer::Refusal;
 use paths_numbers::phandle::first_slash;
 
 // How a record stands is one number: this times its depth, and its place's number; 0 where no link has led to it.
 // kept: fixed memory, of which an array of places and depths takes three times as much
 const PLACES: u32 = 16;
 
-// Accepted, or refused by one of 01's causes with the record that it returns.
-#[derive(Clone, Copy)]
-pub enum Checked {
-    Accepted,
-    Refused(u32, u32),
-}
-
 // The first cause against an input.
-pub fn check_input(words: &[u32], text: &[u8]) -> Checked
+pub fn check_input(words: &[u32], text: &[u8]) -> Result<(), Refusal>
     ensures { told result ≡ verdict words.now text.now }
 {
     if wrong_size(words, text) {
-        return Checked::Refused(REFUSED_SIZE, 0);
+        return Err(Refusal::Size);
     }
     let mut marks = [0u32; MOST_RECORDS];
     if let Some(r) = first_bad_links(words, &mut marks) {
-        return Checked::Refused(REFUSED_LINK, r);
+        return Err(Refusal::Link(r));
     }
     check_linked(words, text)
 }
@@ -126,7 +117,7 @@ fn mark_links(words: &[u32], marks: &mut [u32], r: u32)
 }
 
 // Rows 3 to 6, once links go up.
-fn check_linked(words: &[u32], text: &[u8]) -> Checked
+fn check_linked(words: &[u32], text: &[u8]) -> Result<(), Refusal>
     requires text_value { wrong_size words.now text.now ≡ false }
     requires words_value { row_two words.now ≡ none }
     ensures { told result ≡ later_rows words.now text.now }
@@ -137,23 +128,23 @@ fn check_linked(words: &[u32], text: &[u8]) -> Checked
 }
 
 // Rows 3 to 6, by how the records stand.
-fn check_reached(words: &[u32], text: &[u8], stands: &[u32]) -> Checked
+fn check_reached(words: &[u32], text: &[u8], stands: &[u32]) -> Result<(), Refusal>
     requires { record_count words.now ≤ most_records }
     ensures { told result ≡ rows_from 4 3 words.now text.now stands.now }
 {
     if let Some(r) = first_bad_text(words, text) {
-        return Checked::Refused(REFUSED_TEXT, r);
+        return Err(Refusal::Text(r));
     }
     if let Some(r) = first_unfit(words, stands) {
-        return Checked::Refused(REFUSED_KIND, r);
+        return Err(Refusal::Kind(r));
     }
     if let Some(r) = first_misnamed(words, text, stands) {
-        return Checked::Refused(REFUSED_NAME, r);
+        return Err(Refusal::Name(r));
     }
     if let Some(r) = first_too_deep(words, stands) {
-        return Checked::Refused(REFUSED_DEPTH, r);
+        return Err(Refusal::Depth(r));
     }
-    Checked::Accepted
+    Ok(())
 }
 
 // How each record stands: what a record is told by the one that leads to it.

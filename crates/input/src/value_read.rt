@@ -2,8 +2,8 @@
 // a record, or to report.
 ghost use Rattle.std.specs.Prelude.{◌≡◌, List, ℕ, ◌<◌};
 ghost use Rattle.paths_numbers.specs.meaning.Bytestring.{count_of, count_told};
-ghost use Rattle.paths_numbers.specs.meaning.Number.{int_told};
-ghost use Rattle.paths_numbers.specs.meaning.Cell.{size_told, cell_told};
+ghost use Rattle.paths_numbers.specs.meaning.Reading.{told};
+ghost use Rattle.paths_numbers.specs.meaning.Cell.{size_told};
 ghost use Rattle.input.specs.meaning.Property.{number_cell, expression_cell, reference_cell, lower_cell};
 ghost use Rattle.input.specs.meaning.Property.{sized_list, counted_bytes, reference_value, lower_value};
 ghost use Rattle.input.specs.meaning.Input.{record_count, span_at, text_at, parts_at};
@@ -19,13 +19,12 @@ use crate::kinds::{
 use crate::linked::Input;
 use crate::record::{child_at, kind_at, number_at, text_at};
 use crate::report::Report;
-use paths_numbers::phandle::MirPhandleTarget;
-use paths_numbers::codes;
+use paths_numbers::codes::{self, Code};
 use paths_numbers::dt_property::{
-    BitsSize, ByteCount, Cell, SizeRead, bytestring_len, cell_code, char_cell, count_code,
-    expr_cell, size_code,
+    BitsSize, MissingDigit, SizeError, bytestring_len, char_cell, expr_cell,
 };
-use paths_numbers::expr_eval::{ParsedInt, int_code, parse_int_tok};
+use paths_numbers::expr_eval::parse_int_tok;
+use paths_numbers::phandle::MirPhandleTarget;
 
 // The width of the cells that a reference may stand in.
 const REFERENCE_BITS: u32 = 32;
@@ -61,7 +60,7 @@ impl Input<'_> {
     {
         match kind_at(self.words, r) {
             NUMBER => number_cell(r, parse_int_tok(text_at(self.words, self.text, r), size)),
-            CHARACTER => fitted_cell(r, char_cell(number_at(self.words, r), size)),
+            CHARACTER => number_cell(r, char_cell(number_at(self.words, r), size)),
             EXPRESSION => self.expression_cell(r, size, nesting, level),
             REFERENCE => self.reference_cell(r, size),
             MACRO => Err(Report::Macro(r)),
@@ -72,23 +71,13 @@ impl Input<'_> {
     }
 }
 
-// A number's text read, at record r.
-fn number_cell(r: u32, p: ParsedInt) -> Result<CellValue, Report>
-    ensures { (words text : List ℕ) → cell_made words text r result ≡ number_cell (span_at words r) (int_told p) }
+// A number that was read at record r, or why there is none.
+fn number_cell<E: Code>(r: u32, p: Result<u64, E>) -> Result<CellValue, Report>
+    ensures { (words text : List ℕ) → cell_made words text r result ≡ number_cell (span_at words r) (told E.code_of p) }
 {
     match p {
-        ParsedInt::Value(n) => Ok(CellValue::Number(n)),
-        ParsedInt::Failed(e) => Err(Report::Code(int_code(e), r)),
-    }
-}
-
-// A number that fits its width or does not, at record r.
-fn fitted_cell(r: u32, cell: Cell) -> Result<CellValue, Report>
-    ensures { (words text : List ℕ) → cell_made words text r result ≡ number_cell (span_at words r) (cell_told cell) }
-{
-    match cell {
-        Cell::Number(n) => Ok(CellValue::Number(n)),
-        _ => Err(Report::Code(cell_code(cell), r)),
+        Ok(n) => Ok(CellValue::Number(n)),
+        Err(e) => Err(Report::Code(e.code(), r)),
     }
 }
 
@@ -103,7 +92,7 @@ impl Input<'_> {
             return Err(Report::Nothing);
         }
         let z = self.eval_first(child_at(self.words, r), nesting - 1, level)?;
-        fitted_cell(r, expr_cell(z, size))
+        number_cell(r, expr_cell(z, size))
     }
 
     // A reference in a cell list of a width.
@@ -139,24 +128,24 @@ impl Input<'_> {
 }
 
 // A cell list of a width that was read, at record r.
-fn sized_list(r: u32, size: SizeRead) -> Result<Value, Report>
+fn sized_list(r: u32, size: Result<BitsSize, SizeError>) -> Result<Value, Report>
     ensures { (level : ℕ) (words text : List ℕ) → value_made words text r level result ≡ sized_list level (span_at words r)
         (parts_at words text r) (size_told size) }
 {
     match size {
-        SizeRead::Size(s) => Ok(Value::CellList(s)),
-        _ => Err(Report::Code(size_code(size), r)),
+        Ok(s) => Ok(Value::CellList(s)),
+        Err(e) => Err(Report::Code(e.code(), r)),
     }
 }
 
 // A bytestring whose bytes were counted, at record r.
-fn counted_bytes(r: u32, n: ByteCount) -> Result<Value, Report>
+fn counted_bytes(r: u32, n: Result<usize, MissingDigit>) -> Result<Value, Report>
     ensures { (level : ℕ) (words text : List ℕ) → count_told n ≡ count_of (text_at words text r)
         → value_made words text r level result ≡ counted_bytes (span_at words r) (text_at words text r) (count_told n) }
 {
     match n {
-        ByteCount::Bytes(_) => Ok(Value::Plain(PlainValue::Bytestring)),
-        ByteCount::MissingDigit => Err(Report::Code(count_code(n), r)),
+        Ok(_) => Ok(Value::Plain(PlainValue::Bytestring)),
+        Err(e) => Err(Report::Code(e.code(), r)),
     }
 }
 

@@ -5,11 +5,17 @@ use Rattle.paths_numbers.specs.meaning.Expression.{and_op, or_op, is_true}
 use Rattle.input.specs.meaning.Expr.{Outcome, value, fails}
 use Rattle.input.specs.machine.Reported.{reports_of}
 use Rattle.input.specs.declared.report.Report.{Report}
+use Rattle.input.specs.declared.report.Report.TheVariants.{Nothing, Code}
+use Rattle.paths_numbers.specs.meaning.Reading.{no_code}
 
 -- a value, or what is reported where there is none
 abbrev pub outcome_of : List ℕ → List ℕ → Result ℤ Report → Outcome ℤ
 outcome_of words text (Ok z) = value z
 outcome_of words text (Err d) = fails (reports_of words text d)
+
+-- what is reported of a failure with this code at record r: "fails without a code" reports nothing
+abbrev pub failure : ℕ → ℕ → Report
+failure r code = cond (eqb code no_code) Nothing (Code code r)
 
 -- "&&, || … evaluate only what they need": whether an operator is one of the two, and whether the first operand decides
 unfoldable pub is_logical : ℕ → Bool

@@ -1,13 +1,13 @@
 -- By whether the reference is raw, and else by its text (PhandleRead).
 use mathlib.Core.Path.{sym, ap, ◌∙◌}
 use lib.ListN.{length}
-use Rattle.input.proofs.PhandleRead.{raw_is, empty_is, name_is}
+use Rattle.input.proofs.PhandleRead.{raw_is, empty_is, name_is, read_of}
 use Rattle.input.proofs.phandle.plain_target.Goals as goal
 
 pub returns-then-number_at-eq-RAW : goal.returns-then-number_at-eq-RAW
 returns-then-number_at-eq-RAW c =
     let a = c.args in
-    rw (c.read_as.ensures, c.lower_phandle.ensures, c.text_at-name.ensures)
+    rw (c.ok_or.ensures.value, read_of c.lower_phandle.result, c.lower_phandle.ensures, c.text_at-name.ensures)
     (raw_is a.words.now a.text.now a.r (sym c.number_at.ensures ∙ c.if-number_at-eq-RAW.true))
 
 pub returns-then-name-eq0 : goal.returns-then-name-eq0

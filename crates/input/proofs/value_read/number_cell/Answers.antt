@@ -1,13 +1,12 @@
 -- By the cases of what was read.
-use Rattle.paths_numbers.specs.meaning.Number.{int_told}
+use mathlib.Core.Path.{refl, sym, ap}
+use Rattle.paths_numbers.specs.meaning.Reading.{told}
 use Rattle.input.specs.meaning.Property.{number_cell}
 use Rattle.input.specs.meaning.Input.{span_at}
-use mathlib.Core.Path.{refl, sym, ap}
 use Rattle.input.proofs.value_read.number_cell.Goals as goal
 
-pub returns-in-Value : goal.returns-in-Value
-returns-in-Value c = λ words text. sym (ap (λ p. number_cell (span_at words c.args.r) (int_told p))
-    c.in-Value.is)
+pub returns-in-Ok : goal.returns-in-Ok
+returns-in-Ok g c = λ words text. sym (ap (λ p. number_cell (span_at words c.args.r) (told g.E.Code.code_of p)) c.in-Ok.is)
 
-pub returns-in-Failed : goal.returns-in-Failed
-returns-in-Failed c = λ words text. rw (c.int_code.ensures, c.in-Failed.is) refl
+pub returns-in-Err : goal.returns-in-Err
+returns-in-Err g c = λ words text. rw (c.code.ensures, c.in-Err.is) refl

@@ -48,7 +48,7 @@ eval-returns-in-9 t c =
 
 pub eval-returns-in-15 : goal.eval-returns-in-15
 eval-returns-in-15 t c =
-    c.literal_of.ensures c.args.self.words.now c.args.self.text.now
+    c.evaluation_of.ensures c.args.self.words.now c.args.self.text.now
     ∙ rw (c.literal.ensures, c.text_at.ensures)
     (eval_kind c.args.level c.args.self.words.now c.args.self.text.now c.args.r 15 (sym c.kind_at.ensures ∙ c.in-15.is))
 

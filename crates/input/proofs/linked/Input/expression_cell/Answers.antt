@@ -36,7 +36,7 @@ returns-in_err-z c =
 
 pub returns : goal.returns
 returns c = let a = c.args in
-    c.fitted_cell.ensures a.self.words.now a.self.text.now
+    c.number_cell.ensures a.self.words.now a.self.text.now
     ∙ ap (number_cell (span_at a.self.words.now a.r)) (c.expr_cell.ensures
     ∙ ap (expr_cell (bits_of a.size)) (read (record { sfits = omega arith })))
     ∙ ap (outcome_cell signed_rules a.size (span_at a.self.words.now a.r)) c.in_ok-z.ensures

@@ -17,7 +17,7 @@ returns-in-15 c = let a = c.args in
 pub returns-in-16 : goal.returns-in-16
 unfolding lower_cell
 returns-in-16 c = let a = c.args in
-    c.fitted_cell.ensures a.self.words.now a.self.text.now
+    c.number_cell-in-16.ensures a.self.words.now a.self.text.now
     ∙ rw (c.char_cell.ensures, c.number_at.ensures)
     (cell_kind_lem a.self.words.now a.self.text.now a.r a.level a.size 16
     (sym c.kind_at.ensures ∙ c.in-16.is))
