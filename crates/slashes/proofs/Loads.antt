@@ -1,26 +1,11 @@
 -- Eight bytes read with the low one first are their word.
-use Rattle.std.proofs.Common.{◌≡◌, ℕ, zero, suc, ◌+◌, ◌*◌, ◌≤◌, List, [], ◌∷◌, length, take, drop, get_or, refl, ap, ◌∙◌, arith, length-drop, drop_of_length-le, length-take-le, Fits, w8, w64}
+use Rattle.std.proofs.Common.{◌<◌, ◌≡◌, ℕ, zero, suc, ◌+◌, ◌*◌, ◌≤◌, List, [], ◌∷◌, length, drop, get_or, refl, ◌∙◌, arith, drop_of_length-le, w64}
 use Rattle.std.specs.Int.{from_le_bytes}
-use Rattle.slashes.specs.machine.Word.{Bytes, none, more, word}
+use Rattle.slashes.specs.machine.Word.{Bytes, none, more, word, Loaded}
 
--- a word is that of these bytes
-pub record Loaded (t : List ℕ) (w : ℕ) : Type 0 where
-  pub bytes : Bytes t
-  pub same : w ≡ word t
-
-bytes_of : (s : List ℕ) → ((k : ℕ) → Fits w8 (get_or s k 0)) → Bytes s
+bytes_of : (s : List ℕ) → ((k : ℕ) → get_or s k 0 < 256) → Bytes s
 bytes_of [] h = none
-bytes_of (b ∷ s) h = more (omega (arith, h 0)) (bytes_of s (λ k. h (suc k)))
-
-bytes_drop : (n : ℕ) {s : List ℕ} → Bytes s → Bytes (drop n s)
-bytes_drop zero b = b
-bytes_drop (suc n) none = none
-bytes_drop (suc n) (more h b) = bytes_drop n b
-
-bytes_take : (n : ℕ) {s : List ℕ} → Bytes s → Bytes (take n s)
-bytes_take zero b = none
-bytes_take (suc n) none = none
-bytes_take (suc n) (more h b) = more h (bytes_take n b)
+bytes_of (b ∷ s) h = more (h 0) (bytes_of s (λ k. h (suc k)))
 
 -- the word of the bytes from i on, by the byte at i
 from_byte : (s : List ℕ) (i : ℕ) → word (drop i s) ≡ word (drop (suc i) s) * 256 + get_or s i 0
@@ -50,10 +35,6 @@ le_word t e =
       from_byte t 7,
     )
 
--- the word read at i, of a slice of bytes
-pub loaded : (s t : List ℕ) (i w : ℕ) → ((k : ℕ) → Fits w8 (get_or s k 0)) → i + 8 ≤ length s → t ≡ take 8 (drop i s)
-    → w ≡ from_le_bytes w64 t → Loaded (take 8 (drop i s)) w
-loaded s t i w b h e f = record {
-  bytes = bytes_take 8 (bytes_drop i (bytes_of s b));
-  same = f ∙ ap (from_le_bytes w64) e ∙ le_word _ (length-take-le 8 (drop i s) (omega (arith, length-drop i s)));
-}
+-- the word read of eight bytes
+pub loaded : (t : List ℕ) (w : ℕ) → length t ≡ 8 → ((k : ℕ) → get_or t k 0 < 256) → w ≡ from_le_bytes w64 t → Loaded t w
+loaded t w e h f = record { bytes = bytes_of t h; same = f ∙ le_word t e }

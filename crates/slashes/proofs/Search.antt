@@ -13,8 +13,7 @@ use lib.Dec.{eqb}
 use lib.ListN.{length, take, drop, take-append-drop, length-drop, drop_of_length-le}
 use lib.Seq.{drop-drop, length-take-le}
 use Rattle.slashes.specs.meaning.Slash.{slash, first_from, next_slash}
-use Rattle.slashes.specs.machine.Word.{Marked, word, mark_of}
-use Rattle.slashes.proofs.Loads.{Loaded}
+use Rattle.slashes.specs.machine.Word.{Loaded, Marked, word, mark_of}
 use Rattle.slashes.proofs.Zeros.{before, digits_of, zeros_before}
 
 -- the first "/" is in the block, or behind it

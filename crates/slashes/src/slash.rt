@@ -1,7 +1,7 @@
 // The next "/" of a path: eight bytes are looked at as one word, and the last ones singly.
 ghost use Rattle.std.specs.Prelude.{◌≡◌, ◌==◌, position};
 ghost use Rattle.slashes.specs.meaning.Slash.{slash, next_slash};
-ghost use Rattle.slashes.specs.machine.Word.{Marked};
+ghost use Rattle.slashes.specs.machine.Word.{Loaded, Marked};
 
 // How many bytes a word has.
 const WORD: usize = 8;
@@ -17,7 +17,7 @@ pub fn next_slash(path: &[u8], from: usize) -> Option<usize>
 {
     let mut rest = path.get(from..)?;
     while let Some((word, behind)) = rest.split_first_chunk::<WORD>() {
-        let marks = slash_marks(u64::from_le_bytes(*word));
+        let marks = slash_marks(load_word(word));
         let k = (marks.trailing_zeros() / 8) as usize;
         if k < WORD {
             return Some(path.len() - rest.len() + k);
@@ -41,4 +41,11 @@ fn slash_marks(w: u64) -> u64
 {
     let x = w ^ SLASHES;
     !(((x & LOW_BITS) + LOW_BITS) | x | LOW_BITS)
+}
+
+// Eight bytes as one word, low byte first.
+fn load_word(bytes: &[u8; WORD]) -> u64
+    ensures { Loaded bytes.now result }
+{
+    u64::from_le_bytes(*bytes)
 }

@@ -12,6 +12,11 @@ unfoldable pub word : List ℕ → ℕ
 word [] = 0
 word (b ∷ s) = word s * 256 + b
 
+-- a word is that of these bytes
+pub record Loaded (t : List ℕ) (w : ℕ) : Type 0 where
+  pub bytes : Bytes t
+  pub same : w ≡ word t
+
 -- the mark of a byte: bit 7 of a "/"
 unfoldable pub mark_of : ℕ → ℕ
 mark_of b = cond (eqb b slash) 128 0

@@ -1,6 +1,6 @@
-use Rattle.std.proofs.Common.{◌≡◌, ℕ, ◌+◌, ◌-◌, ◌≤◌, length, take, drop, sym, ap, ◌∙◌, arith, drop-drop}
+use Rattle.std.proofs.Common.{◌≡◌, ℕ, List, subst, ◌+◌, ◌-◌, ◌≤◌, length, take, drop, sym, ap, ◌∙◌, arith, drop-drop}
 use Rattle.slashes.specs.meaning.Slash.{next_slash}
-use Rattle.slashes.proofs.Loads.{loaded}
+use Rattle.slashes.specs.machine.Word.{Loaded}
 use Rattle.slashes.proofs.Search.{at_position, done, marked_hit, marked_missed}
 use Rattle.slashes.proofs.slash.next_slash.Goals as goal
 
@@ -15,7 +15,7 @@ returns-then-k-lt-WORD c =
     let e = c.in-Some.ensures.cases in
     let i : ℕ = length p - length c.loop-word.rest.now in
     let h : i + 8 ≤ length p = omega (arith, e.2) in
-    let w = loaded p _ i _ c.type_inv.path h (e.0 ∙ ap (take 8) v.behind) c.from_le_bytes.ensures in
+    let w = subst (λ (t : List ℕ). Loaded t c.load_word.result) (e.0 ∙ ap (take 8) v.behind) c.load_word.ensures in
     sym (v.same ∙ marked_hit p i _ _ h w c.slash_marks-marks.ensures c.if-k-lt-WORD.true)
 
 pub loop-word-preserved : goal.loop-word-preserved
@@ -25,7 +25,7 @@ loop-word-preserved c =
     let e = c.in-Some.ensures.cases in
     let i : ℕ = length p - length c.loop-word.rest.now in
     let h : i + 8 ≤ length p = omega (arith, e.2) in
-    let w = loaded p _ i _ c.type_inv.path h (e.0 ∙ ap (take 8) v.behind) c.from_le_bytes.ensures in
+    let w = subst (λ (t : List ℕ). Loaded t c.load_word.result) (e.0 ∙ ap (take 8) v.behind) c.load_word.ensures in
     let n : i + 8 ≡ length p - length c.in-Some.behind.now = omega (arith, e.2) in
     record {
       within = omega (arith, e.2);
