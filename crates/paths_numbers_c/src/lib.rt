@@ -35,6 +35,7 @@ const NO_ROOM: u32 = 1;
 const MISSING: u32 = 1;
 
 // A number with code 0, or a code with value 0.
+// kept: a struct for each type of the value, since C has no generic types.
 #[repr(C)]
 #[derive(Clone, Copy)]
 pub struct PnNumber {
@@ -298,6 +299,7 @@ fn told_built(b: Built) -> PnWritten
     }
 }
 
+// kept: a function for each of C's three structs.
 fn told_number<E: Code>(r: Result<u64, E>) -> PnNumber
     ensures { result ≡ number_told (told E.code_of r) }
 {
