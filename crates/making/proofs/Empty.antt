@@ -2,14 +2,11 @@
 use Prim.Native.Nat.{ℕ, ◌+◌, ◌-◌, ◌≤◌}
 use mathlib.Core.Path.{◌≡◌, refl, sym, ap, ◌∙◌}
 use mathlib.Core.Bool.{Bool}
-use mathlib.Core.List.{List, [], map, append-nil}
-use native.Mathlib.Nat.{zero-add}
+use mathlib.Core.List.{List, [], map}
 use native.Mathlib.Omega.{arith}
 use borrow.Author.Tests.{eqb-true, eqb-false}
 use lib.Dec.{eqb}
 use lib.ListN.{length, replicate, length-replicate, replicate-append-replicate}
-use lib.Seq.{drop-length}
-use Rattle.paths_numbers.specs.meaning.Text.{written}
 use Rattle.paths_numbers.proofs.Texts.{by_test, not_both}
 use Rattle.making.specs.declared.ctx.Chain.{Chain}
 use Rattle.making.specs.declared.ctx.LowerCtx.{LowerCtx}
@@ -25,11 +22,6 @@ use Rattle.making.specs.machine.Represents.{over, at_start, in_checks, checking,
 use Rattle.making.proofs.Layouts.{count_words}
 use Rattle.making.proofs.Entered.{no_runs, no_members, same_need}
 use Rattle.making.proofs.MakingMore.{making_none}
-
--- a whole buffer set to zeros
-pub written_zeros : (d : List ℕ) → written d 0 (replicate (length d) 0) ≡ replicate (length d) 0
-unfolding written
-written_zeros d = rw (length-replicate {A = ℕ} (length d) 0, zero-add (length d), drop-length d) (append-nil (replicate (length d) 0))
 
 -- the state at the start
 abbrev none : Chain
