@@ -4,14 +4,12 @@ use mathlib.Core.Path.{◌≡◌, refl, sym, ap, ◌∙◌}
 use mathlib.Core.Bool.{Bool, true, false, cond}
 use mathlib.Core.List.{List, [], ◌∷◌, ◌++◌, map, append-nil, append_assoc}
 use native.Mathlib.Omega.{arith}
-use native.Mathlib.Numerals.{add-one}
 use borrow.Author.Tests.{le-leb, lt-leb}
 use lib.ListN.{length, get_or, take, drop, set, replicate, length-append, length-drop, length-replicate}
-use lib.Seq.{drop-cons, drop-length, take_all, length-take-le, take-append_seam, set-append_seam}
+use lib.Seq.{drop-cons, drop-length, take_all, length-take-le, take-append_seam}
 use Rattle.std.proofs.lemmas.List.{take_more_set}
 use Rattle.paths_numbers.specs.meaning.Text.{same, written}
 use Rattle.paths_numbers.proofs.Texts.{by_test}
-use Rattle.paths_numbers.proofs.Written.{written_cons}
 use Rattle.definition_log.specs.meaning.Contents.{Def}
 use Rattle.definition_log.specs.meaning.Record.{first_def}
 use Rattle.definition_log.specs.meaning.ReadBack.{chain_of, def_at, read_defs}
@@ -139,35 +137,10 @@ live_none def base order = rw (drop-length order) refl
 pub part_on : (s : List ℕ) (i : ℕ) → take (length s - i) (drop i s) ≡ drop i s
 part_on s i = take_all (length s - i) (drop i s) (omega (arith, length-drop i s))
 
--- one number more of a list that is written number by number: w is the whole written, and the invariant says that the rest written gives it
-pub written_next : (d s w : List ℕ) (i : ℕ) → w ≡ written d i (drop i s) → i < length d → i < length s
-    → w ≡ written (set d i (get_or s i 0)) (i + 1) (drop (i + 1) s)
-written_next d s w i inv h k = inv ∙ rw (drop-cons s i 0 k, written_cons d i (get_or s i 0) (drop (suc i) s) h, add-one i) refl
-
--- a number written behind those that are written
-pub written_more : (d s : List ℕ) (b : ℕ) → length s < length d → set (written d 0 s) (length s) b ≡ written d 0 (s ++ b ∷ [])
-unfolding written
-written_more d s b h =
-    let n : 0 + length (s ++ b ∷ []) ≡ suc (length s) = omega (arith, length-append s (b ∷ [])) in
-    let z : 0 + length s ≡ length s = omega arith in
-    rw (n, z, drop-cons d (length s) 0 h, set-append_seam s (get_or d (length s) 0) (drop (suc (length s)) d) b)
-    (sym (append_assoc s (b ∷ []) (drop (suc (length s)) d)))
-
--- as answers are collected: w is what is written of them, and one more is written
-pub collected : (d s t w : List ℕ) (count b : ℕ) → w ≡ written d 0 s → count ≡ length s → t ≡ s ++ b ∷ [] → count < length d
-    → (set w count b ≡ written d 0 t) × (count + 1 ≡ length t)
-collected d s t w count b inv n e h =
-    let k : length t ≡ length s + 1 = ap length e ∙ length-append s (b ∷ []) in
-    (rw (inv, n, e) (written_more d s b (omega arith)), omega arith)
-
 -- what is written is at the start
 pub written_start : (d s : List ℕ) (n : ℕ) → n ≡ length s → take n (written d 0 s) ≡ s
 unfolding written
 written_start d s n e = rw e (take-append_seam s (drop (0 + length s) d))
-
--- so that part of an array is what was collected in it
-pub collected_part : (d s w : List ℕ) (n : ℕ) → w ≡ written d 0 s → n ≡ length s → take n w ≡ s
-collected_part d s w n e k = rw e (written_start d s n k)
 
 -- a part at the start of a list, written anew
 pub written_over : (list : List ℕ) {part numbers : List ℕ} → part ≡ numbers → part ++ drop (length numbers) list ≡ written list 0 numbers

@@ -173,11 +173,6 @@ module _ (def : ℕ → Def) (base : List ℕ) (heads links later : List ℕ) (m
         linked = t.linked _;
       }
 
--- by a path's hash
-pub deleted_by : (def : ℕ → Def) (heads links later path : List ℕ) (hash : ℕ) → Deleted def heads links later → hash ≡ hash_from 0 path
-    → Holds def (deleted_at path) links later (get_or heads (slot_of (length heads) true hash) 0)
-deleted_by def heads links later path hash d h = rw h (d.at path)
-
 -- a link that is set behind all others leaves them
 linked_kept : (def : ℕ → Def) (test : Def → Bool) (links : List ℕ) (k v : ℕ) (l : List ℕ) → length l ≤ k → Linked def test links l
     → Linked def test (set links k v) l
@@ -250,3 +245,7 @@ room_zeros m order few most fits =
       most = omega arith;
       zeros = λ slot b. get_or-replicate m slot 0 0 (omega arith);
     }
+
+-- a list keeps its length where an element is set
+pub same_length : (before : List ℕ) (i v : ℕ) {after : List ℕ} → after ≡ set before i v → length after ≡ length before
+same_length before i v e = ap length e ∙ simp length-set

@@ -71,7 +71,7 @@ fn history_of<'a>(
 }
 
 // What becomes of a path's history at a definition.
-#[derive(Clone, Copy)]
+#[derive(Clone, Copy, Debug, PartialEq, Eq)]
 struct Passed {
     listed: bool,
     defined: bool,

@@ -1,7 +1,7 @@
 // The later definitions that can take away what is live, held by the hash of their path. A table
 // has a head for each slot and a link for each definition; both name a definition by how many
-// there are from it on, and 0 ends a list. A slot's list holds every such definition with the
-// slot's hash, so a look-up misses none and compares only these.
+// there are from it on, and 0 ends a list (kept: an Option would double the arrays). A slot's list
+// holds every such definition with the slot's hash, so a look-up misses none and compares only these.
 ghost use Rattle.std.specs.Prelude.{◌+◌, ◌≤◌, ◌<◌, ◌≡◌, true, false, cond, map, length, get_or, set};
 ghost use Rattle.paths_numbers.specs.meaning.Byte.{slash};
 ghost use Rattle.paths_numbers.specs.meaning.Text.{starts_with};
@@ -68,7 +68,15 @@ impl LaterTable<'_> {
             (map (def_at words.now bytes.now) later.now) }
     {
         let slot = slot_of(self.heads.len(), deleted, hash);
-        finds(words, bytes, later, self.links, self.heads[slot], deleted, path)
+        finds(
+            words,
+            bytes,
+            later,
+            self.links,
+            self.heads[slot],
+            deleted,
+            path,
+        )
     }
 
     // Whether a later definition deletes the node at a path or one above it, and the path's hash. Each
@@ -174,7 +182,7 @@ fn finds(
     ensures { result ≡ any (takes_at deleted path.now)
         (map (def_at words.now bytes.now) later.now) }
 {
-    // kept: an entry is found by the one before it, which no iterator of the library does over an array
+    // kept: the next entry is read at the one before it, for which the library has no iterator
     let mut e = first as usize;
     while 0 < e {
         if takes_at(words, bytes, later[later.len() - e], deleted, path) {

@@ -12,8 +12,7 @@ use Rattle.queries.proofs.live.live_of.Goals as goal
 
 pub loop-i-init : goal.loop-i-init
 loop-i-init c =
-    let a = c.args in
-    (
+    let a = c.args in (
       omega arith,
       refl,
       refl,
@@ -36,8 +35,7 @@ loop-i-preserved-then-pass c =
     let q = rw (n, part_on a.order.now l.i) at c.pass.ensures in
     let before = one_before (def_at a.words.now a.bytes.now) a.base.now a.order.now l.i c.loop-i-test.true (omega (arith, l.invariant.0)) in
     let e = live_taken (def_at a.words.now a.bytes.now) a.base.now a.order.now l.i c.loop-i-test.true (omega (arith, l.invariant.0))
-    (sym q.value ∙ c.if-pass.true) in
-    (
+    (sym q.value ∙ c.if-pass.true) in (
       omega (arith, l.invariant.0, c.loop-i-test.true),
       q.lengths.0 ∙ l.invariant.1,
       q.lengths.1 ∙ l.invariant.2,
@@ -55,8 +53,7 @@ loop-i-preserved c =
     let q = rw (n, part_on a.order.now l.i) at c.pass.ensures in
     let before = one_before (def_at a.words.now a.bytes.now) a.base.now a.order.now l.i c.loop-i-test.true (omega (arith, l.invariant.0)) in
     let e = live_passed (def_at a.words.now a.bytes.now) a.base.now a.order.now l.i c.loop-i-test.true (omega (arith, l.invariant.0))
-    (sym q.value ∙ c.if-pass.false) in
-    (
+    (sym q.value ∙ c.if-pass.false) in (
       omega (arith, l.invariant.0),
       q.lengths.0 ∙ l.invariant.1,
       q.lengths.1 ∙ l.invariant.2,

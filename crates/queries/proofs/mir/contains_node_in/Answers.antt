@@ -15,11 +15,13 @@ loop-r-init g c =
 pub loop-r-preserved : goal.loop-r-preserved
 loop-r-preserved g c =
     let a = c.args in
-    found_step (def_at a.words.now a.bytes.now) (node_at (g.P.PathLike.path a.path)) (deletes (g.P.PathLike.path a.path)) c.loop-r.found c.loop-r.invariant
+    let p = g.P.PathLike.path a.path in
+    found_step (def_at a.words.now a.bytes.now) (node_at p) (deletes p) c.loop-r.found c.loop-r.invariant
     c.in-Some.ensures.steps c.contains_node_after-found.ensures
 
 pub returns : goal.returns
 returns g c =
     let a = c.args in
-    found_end (def_at a.words.now a.bytes.now) (node_at (g.P.PathLike.path a.path)) (deletes (g.P.PathLike.path a.path)) c.loop-r.found c.loop-r.invariant
+    let p = g.P.PathLike.path a.path in
+    found_end (def_at a.words.now a.bytes.now) (node_at p) (deletes p) c.loop-r.found c.loop-r.invariant
     c.in-None.ensures.steps.0

@@ -8,5 +8,7 @@ use Rattle.queries.proofs.Fold.{found_from}
 use Rattle.queries.proofs.mir.contains_node_in.Given as goal
 
 abbrev pub invariant-loop-r : goal.invariant-loop-r
-invariant-loop-r g l = contains_node (g.P.PathLike.path l.path) (read_defs l.words l.bytes l.first) ≡ found_from (node_at (g.P.PathLike.path l.path)) (deletes (g.P.PathLike.path l.path)) l.found
+invariant-loop-r g l =
+    contains_node (g.P.PathLike.path l.path) (read_defs l.words l.bytes l.first)
+    ≡ found_from (node_at (g.P.PathLike.path l.path)) (deletes (g.P.PathLike.path l.path)) l.found
     (map (def_at l.words l.bytes) (chain_left l.r-iterator))

@@ -33,6 +33,8 @@ pub returns : goal.returns
 returns c =
     let a = c.args in
     let l = c.loop-i in
-    rw (c.or_deleted.ensures ∙ above_end (deleted_in (map (def_at a.words.now a.bytes.now) a.later.now)) a.path.now l.i
-    l.deleted _ l.invariant.1 (omega (arith, c.loop-i-test.false)),
-    hash_end a.path.now l.i l.hash l.invariant.0 (omega (arith, c.loop-i-test.false))) refl
+    rw (
+      c.or_deleted.ensures ∙ above_end (deleted_in (map (def_at a.words.now a.bytes.now) a.later.now)) a.path.now l.i
+          l.deleted _ l.invariant.1 (omega (arith, c.loop-i-test.false)),
+      hash_end a.path.now l.i l.hash l.invariant.0 (omega (arith, c.loop-i-test.false)),
+    ) refl
