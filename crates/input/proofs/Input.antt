@@ -27,7 +27,7 @@ no_visits zero words place depth = refl
 no_visits (suc f) words place depth = refl
 
 -- a link leaves enough for what it leads to
-enough : (f : ℕ) (words : List ℕ) (r l : ℕ) → Link words r l → record_count words ≤ suc f + r → Enough f words l
+pub enough : (f : ℕ) (words : List ℕ) (r l : ℕ) → Link words r l → record_count words ≤ suc f + r → Enough f words l
 enough f words r l k h = λ n. omega (arith, k.up n)
 
 -- enough is as good as more

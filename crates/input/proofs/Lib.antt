@@ -2,6 +2,7 @@ pub mod GoodNames
 pub mod Spans
 pub mod Search
 pub mod Input
+pub mod ChainLeft
 pub mod Read
 pub mod Evaluation
 pub mod NeverGiven

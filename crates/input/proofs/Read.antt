@@ -14,7 +14,7 @@ use Rattle.input.specs.machine.At.{record_at}
 use Rattle.input.specs.machine.Fits.{depth_of, depths_of}
 use Rattle.input.specs.machine.Linked.{Link, Linked, At, RecordIn, ChainIn}
 use Rattle.input.specs.machine.Read.{after_at, optional, FirstOf}
-use Rattle.input.proofs.Input.{chain_none, chain_more}
+use Rattle.input.proofs.Input.{chain_more}
 
 -- how far a chain of links can still go from record r
 unfoldable pub rank : List ℕ → ℕ → ℕ
@@ -41,10 +41,19 @@ pub optional_some : (words text : List ℕ) (r : ℕ) → (r ≡ 0 → ⊥) → 
 unfolding optional
 optional_some words text r n = simp (ne_eqb r 0 n)
 
--- the first of no records
-pub first_end : (words text : List ℕ) (kind : ℕ) → first_of kind (chain_at words text 0) ≡ optional words text 0
+-- the first of no records, of a record of the kind, and of one of another kind
+pub first_end : (words text : List ℕ) (kind : ℕ) → first_of kind empty ≡ optional words text 0
 unfolding first_of optional
-first_end words text kind = rw (chain_none words text) refl
+first_end words text kind = refl
+
+module _ (words text : List ℕ) (r kind : ℕ) (ts : Trees) where
+  pub first_hit : (r ≡ 0 → ⊥) → kind_at words r ≡ kind → first_of kind (more (record_at words text r) ts) ≡ optional words text r
+  unfolding first_of record_at
+  first_hit n e = rw (optional_some words text r n) (simp (eq-eqb (kind_at words r) kind e))
+
+  pub first_miss : (kind_at words r ≡ kind → ⊥) → first_of kind (more (record_at words text r) ts) ≡ first_of kind ts
+  unfolding first_of record_at
+  first_miss e = simp (ne_eqb (kind_at words r) kind e)
 
 -- whether there is one of a kind, from whether there is a first
 pub has_first : (kind : ℕ) (ts : Trees) → first_of kind ts ≡ none → has kind ts ≡ false
@@ -76,16 +85,6 @@ module _ (words : List ℕ) (first kind r : ℕ) (f : FirstOf words first kind r
       (λ q. rw q (sym (has_some kind _ _ (first_there (eqb-false r 0 q)))))
 
 module _ (words : List ℕ) (l : Linked words) (r : ℕ) (n : r ≡ 0 → ⊥) (a : r < record_count words) where
-  -- the first record of a chain is of the kind, or the rest of the chain decides
-  pub first_hit : (kind : ℕ) → kind_at words r ≡ kind → (text : List ℕ) → first_of kind (chain_at words text r) ≡ optional words text r
-  unfolding first_of record_at
-  first_hit kind e text = rw (chain_more words l text r n a, optional_some words text r n) (simp (eq-eqb (kind_at words r) kind e))
-
-  pub first_miss : (kind : ℕ) → (kind_at words r ≡ kind → ⊥) → (text : List ℕ)
-      → first_of kind (chain_at words text r) ≡ first_of kind (chain_at words text (next_at words r))
-  unfolding first_of record_at
-  first_miss kind e text = rw (chain_more words l text r n a) (simp (ne_eqb (kind_at words r) kind e))
-
   -- the depth of a chain is its first record's or the rest's
   depths_more : (text : List ℕ) → depths_of (chain_at words text r) ≡ max (depth_of (record_at words text r))
       (depths_of (chain_at words text (next_at words r)))

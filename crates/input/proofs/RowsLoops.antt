@@ -64,4 +64,3 @@ module _ (test : ℕ → Bool) (n r : ℕ) (x : Option ℕ) (inv : x ≡ lowest 
   pub lowest_done : n ≤ r → none ≡ x
   unfolding lowest
   lowest_done h = let k : n - r ≡ 0 = omega arith in sym (inv ∙ rw k refl)
-

@@ -8,5 +8,6 @@ pub mod NameRead
 pub mod PhandleRead
 pub mod Reported
 pub mod ValueRead
+pub mod ChainLeft
 pub mod Rising
 pub mod RowsPass

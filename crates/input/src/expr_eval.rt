@@ -124,7 +124,15 @@ impl Input<'_> {
 
     // The value of an infix record from its first operand's value and its second operand.
     #[cycle(eval)]
-    fn eval_second(self, r: u32, op: u32, a: i64, y: u32, nesting: u32, level: u32) -> Result<i64, Report>
+    fn eval_second(
+        self,
+        r: u32,
+        op: u32,
+        a: i64,
+        y: u32,
+        nesting: u32,
+        level: u32,
+    ) -> Result<i64, Report>
         requires record_in { RecordIn self.words.now self.text.now y nesting }
         ensures { outcome_of self.entry.words.now self.entry.text.now result ≡ applied (rules_at level) op (span_at self.entry.words.now r) a
             (eval (rules_at level) (record_at self.entry.words.now self.entry.text.now y)) }

@@ -2,11 +2,12 @@
 // read from them.
 #![tactic(auto)]
 
+pub mod chain;
 pub mod expr_eval;
-pub mod linked;
 pub mod kinds;
 pub mod layout;
 pub mod limits;
+pub mod linked;
 pub mod name;
 pub mod phandle;
 mod place;

@@ -7,8 +7,8 @@ ghost use Rattle.input.specs.machine.Linked.{At};
 ghost use Rattle.definition_log.specs.machine.Parts.{meant};
 ghost use Rattle.input.specs.machine.Read.{after_at, FirstOf};
 
-use crate::linked::Input;
 use crate::layout;
+use crate::linked::Input;
 use crate::place::links_by_w;
 use definition_log::parts::Span;
 use definition_log::record::text_in;
@@ -114,12 +114,10 @@ impl Input<'_> {
         requires at { At self.words.now first }
         ensures { FirstOf self.entry.words.now first kind result }
     {
-        let mut r = first;
-        while r != 0 {
+        for r in self.chain(first) {
             if kind_at(self.words, r) == kind {
                 return r;
             }
-            r = next_at(self.words, r);
         }
         0
     }

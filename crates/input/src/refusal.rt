@@ -13,8 +13,8 @@ ghost use Rattle.input.specs.meaning.GoodName.{good_name};
 
 use crate::kinds::{NAME, REFERENCE};
 use crate::limits::{MOST_LINKS, MOST_RECORDS, MOST_TEXT};
-use crate::record::{child_at, field, kind_at, next_at, number_at, second_at, text_at, w_at};
 use crate::place::Place;
+use crate::record::{child_at, field, kind_at, next_at, number_at, second_at, text_at, w_at};
 use crate::{layout, place};
 use definition_log::answer::Refusal;
 use paths_numbers::phandle::first_slash;

@@ -53,7 +53,13 @@ pub enum Value {
 
 impl Input<'_> {
     // The cell of a width at a record, or what is reported where there is none.
-    pub fn read_cell(self, r: u32, size: BitsSize, nesting: u32, level: u32) -> Result<CellValue, Report>
+    pub fn read_cell(
+        self,
+        r: u32,
+        size: BitsSize,
+        nesting: u32,
+        level: u32,
+    ) -> Result<CellValue, Report>
         requires record_in { RecordIn self.words.now self.text.now r nesting }
         ensures { cell_made self.entry.words.now self.entry.text.now r result ≡ lower_cell level size
             (record_at self.entry.words.now self.entry.text.now r) }
@@ -83,7 +89,13 @@ fn number_cell<E: Code>(r: u32, p: Result<u64, E>) -> Result<CellValue, Report>
 
 impl Input<'_> {
     // The cell of a width at an expression record.
-    fn expression_cell(self, r: u32, size: BitsSize, nesting: u32, level: u32) -> Result<CellValue, Report>
+    fn expression_cell(
+        self,
+        r: u32,
+        size: BitsSize,
+        nesting: u32,
+        level: u32,
+    ) -> Result<CellValue, Report>
         requires record_in { RecordIn self.words.now self.text.now r nesting }
         ensures { cell_made self.entry.words.now self.entry.text.now r result ≡ expression_cell level size (span_at self.entry.words.now r)
             (parts_at self.entry.words.now self.entry.text.now r) }

@@ -26,20 +26,20 @@ eval-returns-then-nesting-eq0 t c =
 pub eval-eval_prefix_at-requires : goal.eval-eval_prefix_at-requires
 eval-eval_prefix_at-requires t c = (
   omega arith,
-    children_in c.args.self.words.now c.args.self.text.now c.args.self.linked c.args.r c.args.nesting c.requires.record_in,
+  children_in c.args.self.words.now c.args.self.text.now c.args.self.linked c.args.r c.args.nesting c.requires.record_in,
 )
 
 pub eval-eval_first-requires : goal.eval-eval_first-requires
 eval-eval_first-requires t c = (
   omega arith,
-    rw c.child_at.ensures
-        (children_in c.args.self.words.now c.args.self.text.now c.args.self.linked c.args.r c.args.nesting c.requires.record_in),
+  rw c.child_at.ensures
+      (children_in c.args.self.words.now c.args.self.text.now c.args.self.linked c.args.r c.args.nesting c.requires.record_in),
 )
 
 pub eval-eval_infix_at-requires : goal.eval-eval_infix_at-requires
 eval-eval_infix_at-requires t c = (
   omega arith,
-    children_in c.args.self.words.now c.args.self.text.now c.args.self.linked c.args.r c.args.nesting c.requires.record_in,
+  children_in c.args.self.words.now c.args.self.text.now c.args.self.linked c.args.r c.args.nesting c.requires.record_in,
 )
 
 pub eval-returns-in-9 : goal.eval-returns-in-9
@@ -85,8 +85,8 @@ eval_first-returns-then-first-eq0 t c = rw c.if-first-eq0.true (no_first c.args.
 pub eval_first-eval-requires : goal.eval_first-eval-requires
 eval_first-eval-requires t c = (
   omega arith,
-    chain_first c.args.self.words.now c.args.self.text.now c.args.self.linked c.args.first c.args.nesting c.requires.chain_in
-        c.if-first-eq0.false,
+  chain_first c.args.self.words.now c.args.self.text.now c.args.self.linked c.args.first c.args.nesting c.requires.chain_in
+      c.if-first-eq0.false,
 )
 
 pub eval_first-returns : goal.eval_first-returns
@@ -103,8 +103,8 @@ eval_binary-returns-then-y-eq0 t c =
 pub eval_binary-eval-requires : goal.eval_binary-eval-requires
 eval_binary-eval-requires t c = (
   omega arith,
-    chain_first c.args.self.words.now c.args.self.text.now c.args.self.linked c.args.x c.args.nesting c.requires.chain_in
-        (before_some c.args.self.words.now c.args.self.text.now c.args.x _ c.after-y.ensures c.if-y-eq0.false),
+  chain_first c.args.self.words.now c.args.self.text.now c.args.self.linked c.args.x c.args.nesting c.requires.chain_in
+      (before_some c.args.self.words.now c.args.self.text.now c.args.x _ c.after-y.ensures c.if-y-eq0.false),
 )
 
 pub eval_binary-returns-in_err-a : goal.eval_binary-returns-in_err-a
@@ -118,10 +118,10 @@ eval_binary-returns-in_err-a t c =
 pub eval_binary-eval_second-requires : goal.eval_binary-eval_second-requires
 eval_binary-eval_second-requires t c = (
   omega arith,
-    chain_first c.args.self.words.now c.args.self.text.now c.args.self.linked c.after-y.result c.args.nesting
-        (chain_after c.args.self.words.now c.args.self.text.now c.args.x c.after-y.result c.after-y.ensures c.args.self.linked
-        c.args.nesting c.requires.chain_in)
-        c.if-y-eq0.false,
+  chain_first c.args.self.words.now c.args.self.text.now c.args.self.linked c.after-y.result c.args.nesting
+      (chain_after c.args.self.words.now c.args.self.text.now c.args.x c.after-y.result c.after-y.ensures c.args.self.linked
+      c.args.nesting c.requires.chain_in)
+      c.if-y-eq0.false,
 )
 
 pub eval_binary-returns : goal.eval_binary-returns
@@ -145,9 +145,9 @@ eval_conditional_at-eval-requires t c =
     let words = c.args.self.words.now in
     let text = c.args.self.text.now in (
       omega arith,
-        chain_first words text c.args.self.linked c.args.x c.args.nesting c.requires.chain_in
-            (before_some words text c.args.x c.after-y.result c.after-y.ensures
-            (before_some words text c.after-y.result _ c.after-z.ensures c.if-z-eq0.false)),
+      chain_first words text c.args.self.linked c.args.x c.args.nesting c.requires.chain_in
+          (before_some words text c.args.x c.after-y.result c.after-y.ensures
+          (before_some words text c.after-y.result _ c.after-z.ensures c.if-z-eq0.false)),
     )
 
 pub eval_conditional_at-returns-in_err-a : goal.eval_conditional_at-returns-in_err-a
@@ -163,10 +163,10 @@ eval_conditional_at-eval-requires-then-is_true t c =
     let words = c.args.self.words.now in
     let text = c.args.self.text.now in (
       omega arith,
-        chain_first words text c.args.self.linked c.after-y.result c.args.nesting
-            (chain_after words text c.args.x c.after-y.result c.after-y.ensures c.args.self.linked c.args.nesting
-            c.requires.chain_in)
-            (before_some words text c.after-y.result _ c.after-z.ensures c.if-z-eq0.false),
+      chain_first words text c.args.self.linked c.after-y.result c.args.nesting
+          (chain_after words text c.args.x c.after-y.result c.after-y.ensures c.args.self.linked c.args.nesting
+          c.requires.chain_in)
+          (before_some words text c.after-y.result _ c.after-z.ensures c.if-z-eq0.false),
     )
 
 pub eval_conditional_at-returns-then-is_true : goal.eval_conditional_at-returns-then-is_true
@@ -182,11 +182,11 @@ eval_conditional_at-eval-requires-2 t c =
     let words = c.args.self.words.now in
     let text = c.args.self.text.now in (
       omega arith,
-        chain_first words text c.args.self.linked c.after-z.result c.args.nesting
-            (chain_after words text c.after-y.result c.after-z.result c.after-z.ensures c.args.self.linked c.args.nesting
-            (chain_after words text c.args.x c.after-y.result c.after-y.ensures c.args.self.linked c.args.nesting
-            c.requires.chain_in))
-            c.if-z-eq0.false,
+      chain_first words text c.args.self.linked c.after-z.result c.args.nesting
+          (chain_after words text c.after-y.result c.after-z.result c.after-z.ensures c.args.self.linked c.args.nesting
+          (chain_after words text c.args.x c.after-y.result c.after-y.ensures c.args.self.linked c.args.nesting
+          c.requires.chain_in))
+          c.if-z-eq0.false,
     )
 
 pub eval_conditional_at-returns : goal.eval_conditional_at-returns

@@ -1,51 +1,49 @@
 use Prim.Native.Nat.{ℕ}
 use mathlib.Core.Path.{refl, sym, ap, ◌∙◌}
-use Rattle.input.specs.meaning.Tree.{first_of}
-use Rattle.input.specs.meaning.Input.{chain_at}
-use Rattle.input.proofs.Read.{rank_less, first_hit, first_miss, first_end}
+use mathlib.Core.List.{List}
+use Rattle.input.specs.meaning.Tree.{Trees, first_of}
+use Rattle.input.specs.machine.ChainLeft.{trees_of, chain_left}
+use Rattle.input.proofs.Read.{first_hit, first_miss, first_end}
+use Rattle.input.proofs.ChainLeft.{chain_is, are_records}
 use Rattle.input.proofs.linked.Input.first_of.Goals as goal
 
 pub loop-r-init : goal.loop-r-init
-loop-r-init c = (c.requires.at, λ text. refl)
+loop-r-init c =
+    let s = c.args.self in
+    let a = c.args in
+    let e = ap chain_left c.into_iter-r-iterator.ensures.into_iter_gives ∙ c.chain-r-items.ensures in
+    rw e (
+      are_records s.words.now s.linked a.first c.requires.at,
+      λ text. ap (λ (t : Trees). first_of a.kind t) (sym (chain_is s.words.now s.linked text a.first c.requires.at)),
+    )
 
 pub returns-then-kind_at-kind : goal.returns-then-kind_at-kind
 returns-then-kind_at-kind c =
-    let s = c in
-    let l = c.loop-r in
-    let n = c.loop-r-test.true in
+    let w = c.args.self.words.now in
+    let inv = rw c.in-Some.ensures.steps at c.loop-r.invariant in
+    let n = inv.0.0.0 in
     let e = sym c.kind_at.ensures ∙ c.if-kind_at-kind.true in
     record {
-      at = l.invariant.0;
+      at = λ z. inv.0.0.1;
       kinded = λ z. e;
-      tree = λ text. l.invariant.1 text ∙ first_hit s.args.self.words.now s.args.self.linked l.r n (l.invariant.0 n) s.args.kind e text;
+      tree = λ text. inv.1 text ∙ first_hit w text c.in-Some.r c.args.kind _ n e;
     }
-
-pub loop-r-smaller : goal.loop-r-smaller
-loop-r-smaller c =
-    let s = c in
-    let l = c.loop-r in
-    let n = c.loop-r-test.true in
-    rw c.next_at-r.ensures (rank_less s.args.self.words.now l.r _ n (l.invariant.0 n) (s.args.self.linked.all l.r (l.invariant.0 n)).next)
 
 pub loop-r-preserved : goal.loop-r-preserved
 loop-r-preserved c =
-    let s = c in
-    let l = c.loop-r in
-    let n = c.loop-r-test.true in
-    let a = l.invariant.0 n in
-    rw c.next_at-r.ensures (
-      (s.args.self.linked.all l.r a).next.within,
-      λ text. l.invariant.1 text ∙ first_miss s.args.self.words.now s.args.self.linked l.r n a s.args.kind
-          (λ e. c.if-kind_at-kind.false (c.kind_at.ensures ∙ e)) text,
+    let inv = rw c.in-Some.ensures.steps at c.loop-r.invariant in (
+      inv.0.1,
+      λ text. inv.1 text ∙ first_miss c.args.self.words.now text c.in-Some.r c.args.kind _
+          (λ e. c.if-kind_at-kind.false (c.kind_at.ensures ∙ e)),
     )
 
 pub returns : goal.returns
 returns c =
-    let s = c in
-    let l = c.loop-r in
+    let w = c.args.self.words.now in
     record {
       at = λ n. absurd (n refl);
       kinded = λ n. absurd (n refl);
-      tree = λ text. l.invariant.1 text ∙ ap (λ (r : ℕ). first_of s.args.kind (chain_at s.args.self.words.now text r)) c.loop-r-test.false
-          ∙ first_end s.args.self.words.now text s.args.kind;
+      tree = λ text. c.loop-r.invariant.1 text
+          ∙ ap (λ (l : List ℕ). first_of c.args.kind (trees_of w text l)) c.in-None.ensures.steps.0
+          ∙ first_end w text c.args.kind;
     }
