@@ -2,12 +2,14 @@
 use Prim.Native.Nat.{ℕ, ◌≤◌}
 use mathlib.Core.Path.{◌≡◌, refl, sym, ap, ◌∙◌}
 use mathlib.Core.Bool.{true, false}
+use mathlib.Core.Logic.{◌⊎◌, inl, inr}
 use mathlib.Core.List.{List, [], ◌∷◌}
 use mathlib.Core.Option.{Option, some, none}
 use native.Mathlib.Omega.{arith}
 use borrow.Author.Tests.{ne_eqb}
+use Rattle.std.specs.Prelude.{Result}
 use Rattle.paths_numbers.specs.meaning.Path.{joined}
-use Rattle.paths_numbers.specs.meaning.Reference.{Target, label, label_path, path}
+use Rattle.paths_numbers.specs.meaning.Reference.{Target}
 use Rattle.paths_numbers.proofs.Texts.{not_both}
 use Rattle.making.specs.declared.ctx.LowerCtx.{LowerCtx}
 use Rattle.making.specs.declared.place.PathAt.{PathAt}
@@ -24,7 +26,7 @@ use Rattle.making.specs.machine.Represents.{Context, Represents, Steps}
 use Rattle.making.proofs.InHand.{represents_defs, represents_bindings}
 use Rattle.queries.specs.meaning.Live.{contains_node}
 use Rattle.input.specs.meaning.Tree.{Tree, span_of, name_kind, reference_kind, first_of}
-use Rattle.input.specs.meaning.Report.{report, undefined_macro}
+use Rattle.input.specs.meaning.Report.{report}
 use Rattle.input.specs.meaning.Name.{full_name}
 use Rattle.input.specs.meaning.Phandle.{lower_phandle}
 use Rattle.resolving.specs.meaning.Resolve.{Resolution, reaches, missing, first_binding, resolve, unresolved}
@@ -35,15 +37,14 @@ use Rattle.items.specs.meaning.Lower.{delete_property_named, lower_directive, ve
 use Rattle.items.specs.meaning.Lower.{delete_node_directive, delete_property_directive}
 use Rattle.resolving.specs.machine.Lowers.{Lowers, LowersAt}
 use Rattle.input.specs.machine.Read.{optional, FirstOf}
-use Rattle.input.specs.machine.NameRead.{name_text, is_there, full_read, FullNameRead}
-use Rattle.input.specs.machine.PhandleRead.{label_at, path_at, phandle_read}
+use Rattle.input.specs.machine.NameRead.{name_text, unit_text, is_there, full_read, FullNameRead}
+use Rattle.input.specs.machine.PhandleRead.{phandle_read}
 use Rattle.input.specs.meaning.GoodName.{good_names_in}
 use Rattle.resolving.specs.machine.Leading.{resolution, bound_by, Leads, ReportsMissing}
 use Rattle.items.specs.machine.Deleting.{DeletesAt, DeletesThere, DeletesBound}
-use Rattle.input.specs.declared.name.NameOrMacro.TheVariants as N
 use Rattle.input.specs.declared.name.FullName.{FullName}
-use Rattle.input.specs.declared.phandle.PhandleRead.{PhandleRead}
-use Rattle.input.specs.declared.phandle.PhandleRead.TheVariants as P
+use Rattle.input.specs.declared.report.Report.{Report}
+use Rattle.definition_log.specs.declared.parts.TargetKind.{TargetKind}
 use Rattle.resolving.specs.declared.resolve.Resolved.{Resolved}
 use Rattle.resolving.specs.declared.resolve.Resolved.TheVariants as R
 use Rattle.input.proofs.Read.{optional_none, optional_some, first_missing, first_there}
@@ -135,59 +136,14 @@ module _ (t : Target) (rec : Tree) (span : Span) (c : LowerCtx) {out bytes l p :
     target_missing code text q m x =
         record { lowers = λ k s h. rw (resolved h ∙ q, ← m) (x.reports k s code text h n i q) }
 
-    module _ {d : LowerCtx} {w b : List ℕ} {at : Span} (m : at ≡ span_of rec) (x : ReportsMissing v l p at c d out bytes w b) where
-      pub target_label_lem : v ≡ R.NoLabel → Deletes t rec span c d out bytes w b
-      unfolding resolution
-      target_label_lem q = target_missing 3 l (ap (resolution out bytes l p) q) m x
-
-      pub target_node : (code : ℕ) → v ≡ R.NoNode code → Deletes t rec span c d out bytes w b
-      unfolding resolution
-      target_node code q = target_missing code p (ap (resolution out bytes l p) q) m x
-
-      pub target_nowhere : (code r : ℕ) → v ≡ R.NoNodeBelow code r → Deletes t rec span c d out bytes w b
-      unfolding resolution
-      target_nowhere code r q = target_missing code (joined (second_text out bytes r) p []) (ap (resolution out bytes l p) q) m x
-
--- what a reference was read as
-module _ (words text : List ℕ) (r : ℕ) (read : PhandleRead) (span : Span) {c d : LowerCtx} {out bytes w b : List ℕ} where
-  found_target : (t : Target) → (phandle_read words text r read).result ≡ some t
-      → Lowers c d out bytes w b (λ s. delete_resolved (record_at words text r) span (resolve t s.binds s.defs) s)
-      → Lowers c d out bytes w b (delete_target (record_at words text r) span (phandle_read words text r read).reports
-      (phandle_read words text r read).result)
-  found_target t e h = rw e h
-
-  module _ (h : (t : Target) → (phandle_read words text r read).result ≡ some t
-      → Lowers c d out bytes w b (λ s. delete_resolved (record_at words text r) span (resolve t s.binds s.defs) s)) where
-    pub delete_label : read ≡ P.Label → Lowers c d out bytes w b
-        (delete_target (record_at words text r) span (phandle_read words text r read).reports (phandle_read words text r read).result)
-    unfolding phandle_read
-    delete_label e = let q = ap (λ (k : PhandleRead). (phandle_read words text r k).result) e in found_target (label (label_at words text r)) q
-        (h _ q)
-
-    pub delete_below : read ≡ P.LabelPath → Lowers c d out bytes w b
-        (delete_target (record_at words text r) span (phandle_read words text r read).reports (phandle_read words text r read).result)
-    unfolding phandle_read
-    delete_below e = let q = ap (λ (k : PhandleRead). (phandle_read words text r k).result) e in found_target
-        (label_path (label_at words text r) (path_at words text r)) q (h _ q)
-
-    pub delete_path : read ≡ P.Path → Lowers c d out bytes w b (delete_target (record_at words text r) span
-        (phandle_read words text r read).reports (phandle_read words text r read).result)
-    unfolding phandle_read
-    delete_path e = let q = ap (λ (k : PhandleRead). (phandle_read words text r k).result) e in found_target (path (path_at words text r)) q
-        (h _ q)
-
-  pub delete_macro : (m : ℕ) → read ≡ P.Macro m → Lowers c d out bytes w b (emit (undefined_macro (record_at words text m) ∷ []))
-      → Lowers c d out bytes w b (delete_target (record_at words text r) span (phandle_read words text r read).reports
-      (phandle_read words text r read).result)
-  unfolding phandle_read
-  delete_macro m e h = rw e h
-
-pub delete_unread : (words text : List ℕ) (r : ℕ) (read : PhandleRead) (span : Span) {c : LowerCtx} {out bytes : List ℕ}
-    → read ≡ P.Unreadable
-    → Lowers c c out bytes out bytes (delete_target (record_at words text r) span (phandle_read words text r read).reports
-    (phandle_read words text r read).result)
-unfolding phandle_read
-delete_unread words text r read span e = rw e (idle (λ s. emit_none s))
+    pub target_nowhere : {d : LowerCtx} {w b : List ℕ} {at : Span} → at ≡ span_of rec → ReportsMissing v l p at c d out bytes w b
+        → (v ≡ R.NoLabel) ⊎ (((code : ℕ) × (v ≡ R.NoNode code)) ⊎ ((code : ℕ) × (r : ℕ) × (v ≡ R.NoNodeBelow code r)))
+        → Deletes t rec span c d out bytes w b
+    unfolding resolution
+    target_nowhere m x (inl q) = target_missing 3 l (ap (resolution out bytes l p) q) m x
+    target_nowhere m x (inr (inl (code, q))) = target_missing code p (ap (resolution out bytes l p) q) m x
+    target_nowhere m x (inr (inr (code, r, q))) =
+        target_missing code (joined (second_text out bytes r) p []) (ap (resolution out bytes l p) q) m x
 
 -- counts never fall
 resolved_grows : (rec : Tree) (span : Span) (v : Resolution) (s : State)
@@ -218,7 +174,7 @@ module _ (words text : List ℕ) (r : ℕ) (span : Span) where
       → Lowers c c out bytes out bytes (delete_referenced span (optional words text r))
   no_reference_lem e = idle (λ s. rw (e, optional_none words text) refl)
 
-  pub a_reference_lem : {c d : LowerCtx} {out bytes w b : List ℕ} (read : PhandleRead) → (r ≡ 0 → ⊥)
+  pub a_reference_lem : {c d : LowerCtx} {out bytes w b : List ℕ} (read : Result TargetKind Report) → (r ≡ 0 → ⊥)
       → phandle_read words text r read ≡ lower_phandle (record_at words text r)
       → Lowers c d out bytes w b (delete_target (record_at words text r) span (phandle_read words text r read).reports
       (phandle_read words text r read).result)
@@ -229,7 +185,7 @@ module _ (words text : List ℕ) (r : ℕ) (span : Span) where
 module _ (words text : List ℕ) (parts : ℕ) (f : FullName) (g : FullNameRead words parts f) (span : Span) where
   pub by_name_lem : good_names_in (chain_at words text parts) ≡ true → is_there (full_read words text f).result ≡ true → (p : List ℕ) (s : State)
       → lower_delete_node p (chain_at words text parts) span s ≡ delete_node
-      (joined p (name_text words text f.name) (name_text words text f.unit)) span (emit (full_read words text f).reports s)
+      (joined p (name_text words text f.name) (unit_text words text f.unit)) span (emit (full_read words text f).reports s)
   unfolding lower_delete_node
   by_name_lem good t p s = go (full_name (chain_at words text parts)).result refl (rw (g.read text) at t)
     where
@@ -237,7 +193,7 @@ module _ (words text : List ℕ) (parts : ℕ) (f : FullName) (g : FullNameRead 
           → is_there (full_name (chain_at words text parts)).result ≡ true
           → delete_named p (chain_at words text parts) span (full_name (chain_at words text parts)).result
           (emit (full_name (chain_at words text parts)).reports s)
-          ≡ delete_node (joined p (name_text words text f.name) (name_text words text f.unit)) span
+          ≡ delete_node (joined p (name_text words text f.name) (unit_text words text f.unit)) span
           (emit (full_read words text f).reports s)
       go (some n) e h = rw (g.read text, e, full_joined words text parts f g good p n e) refl
       go none e h = absurd (not_both (rw e at h) refl)

@@ -4,6 +4,7 @@ use mathlib.Core.Path.{◌≡◌, refl, sym, ap, subst, ◌∙◌}
 use mathlib.Core.List.{List, [], ◌∷◌, append_assoc, append-nil}
 use native.Mathlib.Omega.{arith}
 use borrow.Author.Tests.{eq-eqb, ne_eqb}
+use Rattle.std.specs.Prelude.{Result}
 use Rattle.paths_numbers.proofs.Texts.{by_test}
 use Rattle.making.specs.declared.ctx.LowerCtx.{LowerCtx}
 use Rattle.making.specs.declared.place.PathAt.{PathAt}
@@ -21,7 +22,7 @@ use Rattle.input.specs.meaning.Input.{record_count, kind_at, next_at, child_at, 
 use Rattle.input.specs.machine.At.{record_at}
 use Rattle.input.specs.machine.Linked.{Linked, At}
 use Rattle.input.specs.machine.NameRead.{name_read}
-use Rattle.input.specs.declared.name.NameOrMacro.{NameOrMacro}
+use Rattle.input.specs.declared.report.Report.{Report}
 use Rattle.resolving.specs.machine.Lowers.{Lowers}
 use Rattle.items.specs.machine.Labelled.{labelled_by, LabelsAt}
 use Rattle.input.proofs.Input.{chain_none, chain_more}
@@ -78,7 +79,7 @@ labels_then {m = m} {n} x y =
     }
 
 -- a label of record r by what the reading of its name answers
-module _ {place : PathAt} {c d : LowerCtx} {words bytes w b : List ℕ} (input text : List ℕ) (r first : ℕ) (x : NameOrMacro)
+module _ {place : PathAt} {c d : LowerCtx} {words bytes w b : List ℕ} (input text : List ℕ) (r first : ℕ) (x : Result ℕ Report)
     (e : first ≡ child_at input r)
     (h : name_read input text x ≡ name_or_macro (chain_at input text first)) where
   pub label_read : LabelsAt place c d words bytes w b (λ (p : List ℕ). labelled p (record_at input text r) (name_read input text x))

@@ -30,7 +30,7 @@ use Rattle.input.specs.meaning.Property.{lower_values}
 use Rattle.items.specs.meaning.Lower.{named_property, lower_property}
 use Rattle.input.specs.meaning.Input.{child_at, second_at, span_at, chain_at}
 use Rattle.input.specs.meaning.GoodName.{good_names_in}
-use Rattle.input.specs.machine.NameRead.{name_text, is_there, full_read, FullNameRead}
+use Rattle.input.specs.machine.NameRead.{name_text, unit_text, is_there, full_read, FullNameRead}
 use Rattle.resolving.specs.machine.Lowers.{Lowers, LowersAt}
 use Rattle.items.specs.machine.Filled.{add_values, filled, Fills}
 use Rattle.items.specs.machine.PropertyMade.{is_top, property_at}
@@ -69,7 +69,7 @@ top_empty {at = at} {p = p} r z = empty_length p (place_len at) (place_length r 
 -- the definition as the log makes it
 pub property_at_lem : (words text : List ℕ) (r : ℕ) (f : FullName) {span name_span : SpanRead} {n u : List ℕ} → meant span ≡ span_at words r
     → meant name_span ≡ property_name_span (chain_at words text (child_at words r)) (meant span) → n ≡ name_text words text f.name
-    → u ≡ name_text words text f.unit
+    → u ≡ unit_text words text f.unit
     → (p : List ℕ) → bare_def D.Property span name_span (joined p n u) ≡ property_at words text r f p
 unfolding property_at
 property_at_lem words text r f {span} {name_span} {n} {u} a b x y p =
@@ -100,7 +100,7 @@ pub property_kept_at : (words text : List ℕ) (r : ℕ) (f : FullName) (keep : 
     {span name_span : SpanRead} {n u : List ℕ}
     → keep ≡ true → meant span ≡ span_at words r → meant name_span ≡ property_name_span (chain_at words text (child_at words r)) (meant span)
     → n ≡ name_text words text f.name
-    → u ≡ name_text words text f.unit → Steps c d ws bs w b (define
+    → u ≡ unit_text words text f.unit → Steps c d ws bs w b (define
     (bare_def D.Property span name_span (joined (path_in c.bytes bs parent) n u)))
     → LowersAt parent c d ws bs w b (λ p s. cond keep (define (property_at words text r f p) s) s)
 property_kept_at words text r f keep {parent} {c} {d} {ws} {bs} {w} {b} e i j x y h =
@@ -192,7 +192,7 @@ module _ (level : ℕ) (words text : List ℕ) (r : ℕ) (f : FullName) (h : Ful
       ≡ named_property level p parts values (span_at words r) o (emit ((lower_values level values).reports ++ (full_name parts).reports) s)
   unfolding property_at
   kept_as true (some n) e k p s =
-      property_filled (joined p (name_text words text f.name) (name_text words text f.unit)) (span_at words r)
+      property_filled (joined p (name_text words text f.name) (unit_text words text f.unit)) (span_at words r)
       (property_name_span parts (span_at words r)) (lower_values level values) (full_name parts).reports s
       ∙ ap (λ (q : List ℕ). define
       (property_def q (span_at words r) (property_name_span parts (span_at words r)) (lower_values level values).made)

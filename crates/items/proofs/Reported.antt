@@ -1,10 +1,10 @@
 -- Diagnostics made, by what they report.
 use Prim.Native.Nat.{ℕ, ◌+◌}
 use mathlib.Core.Path.{◌≡◌, refl, sym}
-use mathlib.Core.Bool.{true, false}
 use mathlib.Core.List.{List, [], ◌∷◌, ◌++◌, append_assoc, append-nil}
 use lib.ListN.{length-append}
 use native.Mathlib.Omega.{arith}
+use Rattle.std.specs.Prelude.{Some, None, Result}
 use Rattle.making.specs.declared.ctx.LowerCtx.{LowerCtx}
 use Rattle.definition_log.specs.declared.parts.Span.{Span as SpanRead}
 use Rattle.definition_log.specs.meaning.Contents.{Span, Def, Ext, Binding, Diag}
@@ -16,6 +16,7 @@ use Rattle.input.specs.meaning.Report.{report}
 use Rattle.resolving.specs.machine.Lowers.{Lowers}
 use Rattle.input.specs.machine.NameRead.{name_read, full_read}
 use Rattle.input.specs.declared.name.FullName.{FullName}
+use Rattle.input.specs.declared.report.Report.{Report}
 use Rattle.resolving.proofs.Lowers.{emit_grows, steps_lower}
 
 -- states are equal by their parts
@@ -63,12 +64,12 @@ pub reports_then : {c d e : LowerCtx} {words bytes w b v u : List ℕ} (x y : Li
 reports_then x y f g = record { lowers = λ k s h. rw (sym (emit_then x y s)) (g.lowers k (emit x s) (f.lowers k s h)) }
 
 -- the macros in the places of a name and of its unit address
-pub full_reports : (words text : List ℕ) (f : FullName) → f.addressed ≡ true
-    → (name_read words text f.name).reports ++ (name_read words text f.unit).reports ≡ (full_read words text f).reports
+pub full_reports : (words text : List ℕ) (f : FullName) (u : Result ℕ Report) → f.unit ≡ Some u
+    → (name_read words text f.name).reports ++ (name_read words text u).reports ≡ (full_read words text f).reports
 unfolding full_read
-full_reports words text f e = rw e refl
+full_reports words text f u e = rw e refl
 
-pub name_reports : (words text : List ℕ) (f : FullName) → f.addressed ≡ false
+pub name_reports : (words text : List ℕ) (f : FullName) → f.unit ≡ None
     → (name_read words text f.name).reports ≡ (full_read words text f).reports
 unfolding full_read
 name_reports words text f e = rw e refl

@@ -12,22 +12,21 @@ ghost use Rattle.items.specs.meaning.Lower.{by_resolution, by_target, placed_as,
 ghost use Rattle.input.specs.meaning.GoodName.{good_names_in};
 ghost use Rattle.input.specs.meaning.Input.{record_count, child_at, span_at, parts_at};
 ghost use Rattle.input.specs.machine.At.{record_at};
-ghost use Rattle.input.specs.machine.Linked.{Linked};
 ghost use Rattle.resolving.specs.machine.Lowers.{Lowers};
 ghost use Rattle.input.specs.machine.NameRead.{FullNameRead};
 ghost use Rattle.items.specs.machine.NodePlaced.{PlacesAt, PlacesInAt, leads_on, placed_at, placed_nowhere};
 ghost use Rattle.items.specs.machine.NodeLowered.{Settles};
-ghost use Rattle.input.specs.machine.PhandleRead.{phandle_read};
 ghost use Rattle.items.specs.machine.AtRecord.{node_name_at, named_at};
 
 use crate::dt_property::is_top;
 use crate::open_node::{Opened, define_below, define_leading, define_there, open_node};
-use crate::report::{NO_SPAN, emit_name, undefined_macro};
+use crate::report::{NO_SPAN, emit_name, emit_report};
 use definition_log::parts::TargetKind;
 use input::kinds::{REFERENCE, SLASH};
-use input::name::{FullName, full_name, is_named, node_name_span};
-use input::phandle::{PhandleRead, lower_phandle, phandle_label_at, phandle_path_at};
-use input::record::{child_at, first_of, has_kind, span_at};
+use input::linked::Input;
+use input::name::{FullName, is_named};
+use input::phandle::{phandle_label_at, phandle_path_at};
+use input::record::{child_at, span_at};
 use making::ctx::LowerCtx;
 use making::place::PathAt;
 use paths_numbers::codes::{ROOT_INSIDE, SUBNODE_OUTSIDE};
@@ -53,98 +52,93 @@ pub struct PlacedNode {
 
 // Opens or refuses the node of record r: by the reference among its parts, else by its name.
 pub fn place_node(
-    words: &[u32],
-    text: &[u8],
+    input: Input<'_>,
     r: u32,
     parent: PathAt,
     out: &mut [u32],
     bytes: &mut [u8],
     ctx: LowerCtx,
 ) -> PlacedNode
-    requires linked { Linked words.now }
-    requires r_bound { r < record_count words.now }
-    requires r_value { good_names_in (parts_at words.now text.now r) ≡ true }
+    requires r_bound { r < record_count input.words.now }
+    requires r_value { good_names_in (parts_at input.words.now input.text.now r) ≡ true }
     ensures { PlacesInAt parent ctx out.old bytes.old out.new bytes.new
-        words.now text.now r (λ p s. place_of p (parts_at words.now text.now r)
-        (span_at words.now r) s) result }
+        input.entry.words.now input.entry.text.now r (λ p s. place_of p (parts_at input.entry.words.now input.entry.text.now r)
+        (span_at input.entry.words.now r) s) result }
 {
-    let reference = first_of(words, child_at(words, r), REFERENCE);
+    let reference = input.first_of(child_at(input.words, r), REFERENCE);
     if reference == 0 {
-        return place_by_name(words, text, r, parent, out, bytes, ctx);
+        return place_by_name(input, r, parent, out, bytes, ctx);
     }
-    place_by_reference(words, text, r, reference, out, bytes, ctx)
+    place_by_reference(input, r, reference, out, bytes, ctx)
 }
 
 // Opens the node of record r where its reference leads, or puts it aside.
 fn place_by_reference(
-    words: &[u32],
-    text: &[u8],
+    input: Input<'_>,
     r: u32,
     reference: u32,
     out: &mut [u32],
     bytes: &mut [u8],
     ctx: LowerCtx,
 ) -> PlacedNode
-    requires linked { Linked words.now }
-    requires r_bound { r < record_count words.now }
-    requires reference_bound { reference < record_count words.now }
+    requires r_bound { r < record_count input.words.now }
+    requires reference_bound { reference < record_count input.words.now }
     ensures { (parent : PathAt) → PlacesInAt parent ctx out.old bytes.old out.new
-        bytes.new words.now text.now r
-        (λ p s. by_target (record_at words.now text.now reference)
-        (lower_phandle (record_at words.now text.now reference)).reports
-        (lower_phandle (record_at words.now text.now reference)).result s) result }
+        bytes.new input.entry.words.now input.entry.text.now r
+        (λ p s. by_target (record_at input.entry.words.now input.entry.text.now reference)
+        (lower_phandle (record_at input.entry.words.now input.entry.text.now reference)).reports
+        (lower_phandle (record_at input.entry.words.now input.entry.text.now reference)).result s) result }
 {
-    let read = lower_phandle(words, text, reference);
-    match read {
-        PhandleRead::Macro(m) => placed_nowhere(undefined_macro(words, text, m, out, bytes, ctx)),
-        PhandleRead::Unreadable => placed_nowhere(ctx),
-        PhandleRead::Label => {
-            let kind = TargetKind::Label;
-            place_resolved(words, text, r, reference, read, kind, out, bytes, ctx)
-        }
-        PhandleRead::LabelPath => {
-            let kind = TargetKind::LabelPath;
-            place_resolved(words, text, r, reference, read, kind, out, bytes, ctx)
-        }
-        PhandleRead::Path => {
-            let kind = TargetKind::Path;
-            place_resolved(words, text, r, reference, read, kind, out, bytes, ctx)
-        }
+    match input.lower_phandle(reference) {
+        Ok(kind) => place_resolved(input, r, reference, kind, out, bytes, ctx),
+        Err(report) => placed_nowhere(emit_report(
+            input.words,
+            input.text,
+            report,
+            out,
+            bytes,
+            ctx,
+        )),
     }
 }
 
 // The same of a reference that names a target of this kind.
 fn place_resolved(
-    words: &[u32],
-    text: &[u8],
+    input: Input<'_>,
     r: u32,
     reference: u32,
-    read: PhandleRead,
     kind: TargetKind,
     out: &mut [u32],
     bytes: &mut [u8],
     ctx: LowerCtx,
 ) -> PlacedNode
-    requires linked { Linked words.now }
-    requires r_bound { r < record_count words.now }
-    requires read_value { (phandle_read words.now text.now reference read).result ≡ some (named_at kind words.now text.now reference) }
+    requires r_bound { r < record_count input.words.now }
     ensures { (parent : PathAt) → PlacesInAt parent ctx out.old bytes.old out.new
-        bytes.new words.now text.now r
-        (λ p s. by_resolution (record_at words.now text.now reference)
-        (named_at kind words.now text.now reference) s.defs
-        (resolve (named_at kind words.now text.now reference) s.binds s.defs)) result }
+        bytes.new input.entry.words.now input.entry.text.now r
+        (λ p s. by_resolution (record_at input.entry.words.now input.entry.text.now reference)
+        (named_at kind input.entry.words.now input.entry.text.now reference) s.defs
+        (resolve (named_at kind input.entry.words.now input.entry.text.now reference) s.binds s.defs)) result }
 {
     let binds = ctx.binds.first;
     let defs = ctx.defs.first;
-    let leads = resolve_phandle(words, text, reference, read, out, bytes, binds, defs);
+    let leads = resolve_phandle(
+        input.words,
+        input.text,
+        reference,
+        Ok(kind),
+        out,
+        bytes,
+        binds,
+        defs,
+    );
     if leads_on(leads) {
-        let made = define_leading(words, text, r, reference, leads, out, bytes, ctx);
-        return placed_at(open_node(words, text, child_at(words, r), out, bytes, made));
+        let made = define_leading(input, r, reference, leads, out, bytes, ctx);
+        return placed_at(open_node(input, child_at(input.words, r), out, bytes, made));
     }
     let keeps = sets_overlay_in(out, defs);
-    let label = phandle_label_at(words, text, reference);
-    let path = phandle_path_at(words, text, reference);
-    let span = span_at(words, reference);
+    let label = phandle_label_at(input.words, input.text, reference);
+    let path = phandle_path_at(input.words, input.text, reference);
+    let span = span_at(input.words, reference);
     let told = report_unresolved(ctx, out, bytes, leads, label, path, span);
     PlacedNode {
         node: NodePlace::Aside(reference, kind, keeps),
@@ -156,43 +150,36 @@ fn place_resolved(
 fn leads_on(v: Resolved) -> bool
     ensures { result ≡ leads_on v }
 {
-    match v {
-        Resolved::Bound(_) => true,
-        Resolved::BoundPath(_) => true,
-        Resolved::AtPath => true,
-        Resolved::Node(_) => true,
-        Resolved::NoLabel => false,
-        Resolved::NoNode(_) => false,
-        Resolved::NoNodeBelow(_, _) => false,
-    }
+    matches!(
+        v,
+        Resolved::Bound(_) | Resolved::BoundPath(_) | Resolved::AtPath | Resolved::Node(_)
+    )
 }
 
 // Opens or refuses the node of record r by its name.
 pub fn place_by_name(
-    words: &[u32],
-    text: &[u8],
+    input: Input<'_>,
     r: u32,
     parent: PathAt,
     out: &mut [u32],
     bytes: &mut [u8],
     ctx: LowerCtx,
 ) -> PlacedNode
-    requires linked { Linked words.now }
-    requires r_bound { r < record_count words.now }
-    requires r_value { good_names_in (parts_at words.now text.now r) ≡ true }
-    ensures { PlacesAt parent ctx out.old bytes.old out.new bytes.new words.now
-        text.now r (λ p. by_name p (parts_at words.now text.now r)
-        (node_name_at words.now text.now r) (full_name (parts_at words.now text.now r)).reports
-        (full_name (parts_at words.now text.now r)).result) result }
+    requires r_bound { r < record_count input.words.now }
+    requires r_value { good_names_in (parts_at input.words.now input.text.now r) ≡ true }
+    ensures { PlacesAt parent ctx out.old bytes.old out.new bytes.new input.entry.words.now
+        input.entry.text.now r (λ p. by_name p (parts_at input.entry.words.now input.entry.text.now r)
+        (node_name_at input.entry.words.now input.entry.text.now r) (full_name (parts_at input.entry.words.now input.entry.text.now r)).reports
+        (full_name (parts_at input.entry.words.now input.entry.text.now r)).result) result }
 {
-    let parts = child_at(words, r);
-    let full = full_name(words, parts);
-    let reported = emit_name(words, text, full, out, bytes, ctx);
+    let parts = child_at(input.words, r);
+    let full = input.full_name(parts);
+    let reported = emit_name(input.words, input.text, full, out, bytes, ctx);
     if is_named(full) {
-        return place_below(words, text, r, full, parent, out, bytes, reported);
+        return place_below(input, r, full, parent, out, bytes, reported);
     }
-    if has_kind(words, parts, SLASH) {
-        return place_root(words, text, r, parent, out, bytes, reported);
+    if input.has_kind(parts, SLASH) {
+        return place_root(input, r, parent, out, bytes, reported);
     }
     PlacedNode {
         node: NodePlace::Discarded,
@@ -202,8 +189,7 @@ pub fn place_by_name(
 
 // A node with a name: under its parent, which is not the top.
 fn place_below(
-    words: &[u32],
-    text: &[u8],
+    input: Input<'_>,
     r: u32,
     full: FullName,
     parent: PathAt,
@@ -211,51 +197,46 @@ fn place_below(
     bytes: &mut [u8],
     ctx: LowerCtx,
 ) -> PlacedNode
-    requires linked { Linked words.now }
-    requires r_bound { r < record_count words.now }
-    requires full_name_read { FullNameRead words.now (child_at words.now r) full }
-    requires r_value { good_names_in (parts_at words.now text.now r) ≡ true }
-    ensures { (n : List ℕ) → (full_name (parts_at words.now text.now r)).result ≡ some n
-        → PlacesAt parent ctx out.old bytes.old out.new bytes.new words.now
-        text.now r (λ p. placed_as p n (node_name_at words.now text.now r) []) result }
+    requires r_bound { r < record_count input.words.now }
+    requires full_name_read { FullNameRead input.words.now (child_at input.words.now r) full }
+    requires r_value { good_names_in (parts_at input.words.now input.text.now r) ≡ true }
+    ensures { (n : List ℕ) → (full_name (parts_at input.entry.words.now input.entry.text.now r)).result ≡ some n
+        → PlacesAt parent ctx out.old bytes.old out.new bytes.new input.entry.words.now
+        input.entry.text.now r (λ p. placed_as p n (node_name_at input.entry.words.now input.entry.text.now r) []) result }
 {
     if is_top(parent) {
-        return placed_nowhere(refuse_node(words, r, SUBNODE_OUTSIDE, out, bytes, ctx));
+        return placed_nowhere(refuse_node(input, r, SUBNODE_OUTSIDE, out, bytes, ctx));
     }
-    placed_at(define_below(words, text, r, full, parent, out, bytes, ctx))
+    placed_at(define_below(input, r, full, parent, out, bytes, ctx))
 }
 
 // A node with a slash: the root, on top.
 fn place_root(
-    words: &[u32],
-    text: &[u8],
+    input: Input<'_>,
     r: u32,
     parent: PathAt,
     out: &mut [u32],
     bytes: &mut [u8],
     ctx: LowerCtx,
 ) -> PlacedNode
-    requires linked { Linked words.now }
-    requires r_bound { r < record_count words.now }
-    ensures { PlacesAt parent ctx out.old bytes.old out.new bytes.new words.now
-        text.now r (λ p. placed_as p root (node_name_at words.now text.now r) []) result }
+    requires r_bound { r < record_count input.words.now }
+    ensures { PlacesAt parent ctx out.old bytes.old out.new bytes.new input.entry.words.now
+        input.entry.text.now r (λ p. placed_as p root (node_name_at input.entry.words.now input.entry.text.now r) []) result }
 {
     if !is_top(parent) {
-        return placed_nowhere(refuse_node(words, r, ROOT_INSIDE, out, bytes, ctx));
+        return placed_nowhere(refuse_node(input, r, ROOT_INSIDE, out, bytes, ctx));
     }
     let root = [b'/'];
-    placed_at(define_there(words, text, r, &root, out, bytes, ctx))
+    placed_at(define_there(input, r, &root, out, bytes, ctx))
 }
 
 // A node that is opened.
 fn placed_at(node: Opened) -> PlacedNode
     ensures { result ≡ placed_at node }
 {
-    let place = node.place;
-    let labelled = node.ctx;
     PlacedNode {
-        node: NodePlace::At(place),
-        ctx: labelled,
+        node: NodePlace::At(node.place),
+        ctx: node.ctx,
     }
 }
 
@@ -265,26 +246,25 @@ fn placed_nowhere(ctx: LowerCtx) -> PlacedNode
 {
     PlacedNode {
         node: NodePlace::Nowhere,
-        ctx: ctx,
+        ctx,
     }
 }
 
 // Reports a code at a node's name.
 fn refuse_node(
-    words: &[u32],
+    input: Input<'_>,
     r: u32,
     code: u32,
     out: &mut [u32],
     bytes: &mut [u8],
     ctx: LowerCtx,
 ) -> LowerCtx
-    requires linked { Linked words.now }
-    requires r_bound { r < record_count words.now }
+    requires r_bound { r < record_count input.words.now }
     ensures { (text : List ℕ) → Lowers ctx result out.old bytes.old out.new bytes.new
-        (emit (report code [] (node_name_at words.now text r) ∷ [])) }
+        (emit (report code [] (node_name_at input.entry.words.now text r) ∷ [])) }
 {
     let none: [u8; 0] = [];
-    let span = node_name_span(words, child_at(words, r), span_at(words, r));
+    let span = input.node_name_span(child_at(input.words, r), span_at(input.words, r));
     ctx.emit(out, bytes, code, &none, span, NO_SPAN)
 }
 

@@ -12,7 +12,7 @@ ghost use Rattle.items.specs.meaning.Lower.{lower_property};
 ghost use Rattle.input.specs.meaning.Input.{child_at, span_at, chain_at, parts_at};
 ghost use Rattle.input.specs.machine.At.{record_at, contents_at};
 ghost use Rattle.input.specs.meaning.GoodName.{good_names_in};
-ghost use Rattle.input.specs.machine.Linked.{Linked, At, RecordIn, ChainIn};
+ghost use Rattle.input.specs.machine.Linked.{At, RecordIn, ChainIn};
 ghost use Rattle.input.specs.machine.ValueRead.{plain_made};
 ghost use Rattle.resolving.specs.machine.Lowers.{LowersAt};
 ghost use Rattle.items.specs.machine.Filled.{FillsProperty, FillsCells};
@@ -21,10 +21,11 @@ ghost use Rattle.items.specs.machine.AtRecord.{named_at};
 
 use crate::report::{emit_code, emit_name, emit_report};
 use definition_log::parts::TargetKind;
-use input::name::{FullName, full_name, is_named, name_text, property_name_span};
+use input::linked::Input;
+use input::name::{FullName, is_named, name_text, unit_text};
 use input::phandle::{phandle_label_at, phandle_path_at};
 use input::record::{child_at, next_at, second_at, span_at, text_at};
-use input::value_read::{CellRead, PlainValue, ValueRead, read_cell, read_value};
+use input::value_read::{CellValue, PlainValue, Value};
 use making::ctx::LowerCtx;
 use making::place::PathAt;
 use making::recs::DefKind;
@@ -33,8 +34,7 @@ use paths_numbers::dt_property::BitsSize;
 
 // Lowers a property under a path. A state that ran short stays as it is.
 pub fn lower_dt_property(
-    words: &[u32],
-    text: &[u8],
+    input: Input<'_>,
     r: u32,
     parent: PathAt,
     nesting: u32,
@@ -43,27 +43,25 @@ pub fn lower_dt_property(
     ctx: LowerCtx,
     level: u32,
 ) -> LowerCtx
-    requires linked { Linked words.now }
-    requires record_in { RecordIn words.now text.now r nesting }
-    requires r_value { good_names_in (parts_at words.now text.now r) ≡ true }
+    requires record_in { RecordIn input.words.now input.text.now r nesting }
+    requires r_value { good_names_in (parts_at input.words.now input.text.now r) ≡ true }
     ensures { LowersAt parent ctx result out.old bytes.old out.new bytes.new
-        (λ p s. lower_property level p (parts_at words.now text.now r)
-        (contents_at words.now text.now r)
-        (span_at words.now r) s) }
+        (λ p s. lower_property level p (parts_at input.entry.words.now input.entry.text.now r)
+        (contents_at input.entry.words.now input.entry.text.now r)
+        (span_at input.entry.words.now r) s) }
 {
     if ctx.short {
         return ctx;
     }
     if is_top(parent) {
-        return emit_code(words, PROPERTY_OUTSIDE, r, out, bytes, ctx);
+        return emit_code(input.words, PROPERTY_OUTSIDE, r, out, bytes, ctx);
     }
-    let name = full_name(words, child_at(words, r));
+    let name = input.full_name(child_at(input.words, r));
     let keep = is_named(name);
-    let made = define_property(words, text, r, parent, name, keep, out, bytes, ctx);
+    let made = define_property(input, r, parent, name, keep, out, bytes, ctx);
     let filled = lower_prop_values(
-        words,
-        text,
-        second_at(words, r),
+        input,
+        second_at(input.words, r),
         keep,
         nesting - 1,
         out,
@@ -71,23 +69,19 @@ pub fn lower_dt_property(
         made,
         level,
     );
-    emit_name(words, text, name, out, bytes, filled)
+    emit_name(input.words, input.text, name, out, bytes, filled)
 }
 
 // Whether a path is that of the file's top, the empty one.
 pub(crate) fn is_top(path: PathAt) -> bool
     ensures { result ≡ is_top path }
 {
-    if path.root {
-        return false;
-    }
-    path.size == 0
+    !path.root && path.size == 0
 }
 
 // The definition of a property that is kept, before its values.
 fn define_property(
-    words: &[u32],
-    text: &[u8],
+    input: Input<'_>,
     r: u32,
     parent: PathAt,
     f: FullName,
@@ -96,18 +90,15 @@ fn define_property(
     bytes: &mut [u8],
     ctx: LowerCtx,
 ) -> LowerCtx
-    requires linked { Linked words.now }
-    requires at { At words.now (child_at words.now r) }
+    requires at { At input.words.now (child_at input.words.now r) }
     ensures { LowersAt parent ctx result out.old bytes.old out.new bytes.new
-        (λ p s. cond keep (define (property_at words.now text.now r f p) s) s) }
+        (λ p s. cond keep (define (property_at input.entry.words.now input.entry.text.now r f p) s) s) }
 {
     if !keep {
         return ctx;
     }
-    let name = f.name;
-    let unit = f.unit;
-    let span = span_at(words, r);
-    let name_span = property_name_span(words, child_at(words, r), span);
+    let span = span_at(input.words, r);
+    let name_span = input.property_name_span(child_at(input.words, r), span);
     ctx.define(
         out,
         bytes,
@@ -115,15 +106,14 @@ fn define_property(
         span,
         name_span,
         parent,
-        name_text(words, text, name),
-        name_text(words, text, unit),
+        name_text(input.words, input.text, f.name),
+        unit_text(input.words, input.text, f.unit),
     )
 }
 
 // The values of a chain, in order.
 fn lower_prop_values(
-    words: &[u32],
-    text: &[u8],
+    input: Input<'_>,
     first: u32,
     keep: bool,
     nesting: u32,
@@ -132,24 +122,22 @@ fn lower_prop_values(
     ctx: LowerCtx,
     level: u32,
 ) -> LowerCtx
-    requires linked { Linked words.now }
-    requires chain_in { ChainIn words.now text.now first nesting }
+    requires chain_in { ChainIn input.words.now input.text.now first nesting }
     ensures { FillsProperty keep ctx result out.old bytes.old out.new bytes.new
-        (lower_values level (chain_at words.now text.now first)) }
+        (lower_values level (chain_at input.entry.words.now input.entry.text.now first)) }
 {
     let mut r = first;
     let mut next = ctx;
     while r != 0 {
-        next = lower_prop_value(words, text, r, keep, nesting, out, bytes, next, level);
-        r = next_at(words, r);
+        next = lower_prop_value(input, r, keep, nesting, out, bytes, next, level);
+        r = next_at(input.words, r);
     }
     next
 }
 
 // A value, or what is reported of it.
 fn lower_prop_value(
-    words: &[u32],
-    text: &[u8],
+    input: Input<'_>,
     r: u32,
     keep: bool,
     nesting: u32,
@@ -158,17 +146,25 @@ fn lower_prop_value(
     ctx: LowerCtx,
     level: u32,
 ) -> LowerCtx
-    requires linked { Linked words.now }
-    requires record_in { RecordIn words.now text.now r nesting }
+    requires record_in { RecordIn input.words.now input.text.now r nesting }
     ensures { FillsProperty keep ctx result out.old bytes.old out.new bytes.new
-        (lower_value level (record_at words.now text.now r)) }
+        (lower_value level (record_at input.entry.words.now input.entry.text.now r)) }
 {
-    match read_value(words, text, r) {
-        ValueRead::Plain(value) => push_value(words, text, r, value, keep, out, bytes, ctx),
-        ValueRead::CellList(size) => lower_cell_list(
-            words, text, r, size, keep, nesting, out, bytes, ctx, level,
+    match input.read_value(r) {
+        Ok(Value::Plain(value)) => push_value(
+            input.words,
+            input.text,
+            r,
+            value,
+            keep,
+            out,
+            bytes,
+            ctx,
         ),
-        ValueRead::Failed(report) => emit_report(words, text, report, out, bytes, ctx),
+        Ok(Value::CellList(size)) => lower_cell_list(
+            input, r, size, keep, nesting, out, bytes, ctx, level,
+        ),
+        Err(report) => emit_report(input.words, input.text, report, out, bytes, ctx),
     }
 }
 
@@ -204,8 +200,7 @@ fn push_value(
 
 // A cell list of a width, and its cells.
 fn lower_cell_list(
-    words: &[u32],
-    text: &[u8],
+    input: Input<'_>,
     r: u32,
     size: BitsSize,
     keep: bool,
@@ -215,16 +210,14 @@ fn lower_cell_list(
     ctx: LowerCtx,
     level: u32,
 ) -> LowerCtx
-    requires linked { Linked words.now }
-    requires record_in { RecordIn words.now text.now r nesting }
+    requires record_in { RecordIn input.words.now input.text.now r nesting }
     ensures { FillsProperty keep ctx result out.old bytes.old out.new bytes.new
-        (sized_list level (span_at words.now r) (parts_at words.now text.now r) (R.value size)) }
+        (sized_list level (span_at input.entry.words.now r) (parts_at input.entry.words.now input.entry.text.now r) (R.value size)) }
 {
     let made = push_cell_list(size, keep, out, bytes, ctx);
     lower_cells(
-        words,
-        text,
-        child_at(words, r),
+        input,
+        child_at(input.words, r),
         size,
         keep,
         nesting - 1,
@@ -254,8 +247,7 @@ fn push_cell_list(
 
 // The cells of a chain, in order.
 fn lower_cells(
-    words: &[u32],
-    text: &[u8],
+    input: Input<'_>,
     first: u32,
     size: BitsSize,
     keep: bool,
@@ -265,24 +257,22 @@ fn lower_cells(
     ctx: LowerCtx,
     level: u32,
 ) -> LowerCtx
-    requires linked { Linked words.now }
-    requires chain_in { ChainIn words.now text.now first nesting }
+    requires chain_in { ChainIn input.words.now input.text.now first nesting }
     ensures { FillsCells keep ctx result out.old bytes.old out.new bytes.new
-        (lower_cells level size (chain_at words.now text.now first)) }
+        (lower_cells level size (chain_at input.entry.words.now input.entry.text.now first)) }
 {
     let mut r = first;
     let mut next = ctx;
     while r != 0 {
-        next = lower_cell(words, text, r, size, keep, nesting, out, bytes, next, level);
-        r = next_at(words, r);
+        next = lower_cell(input, r, size, keep, nesting, out, bytes, next, level);
+        r = next_at(input.words, r);
     }
     next
 }
 
 // A cell of a width, or what is reported of it.
 fn lower_cell(
-    words: &[u32],
-    text: &[u8],
+    input: Input<'_>,
     r: u32,
     size: BitsSize,
     keep: bool,
@@ -292,15 +282,23 @@ fn lower_cell(
     ctx: LowerCtx,
     level: u32,
 ) -> LowerCtx
-    requires linked { Linked words.now }
-    requires record_in { RecordIn words.now text.now r nesting }
+    requires record_in { RecordIn input.words.now input.text.now r nesting }
     ensures { FillsCells keep ctx result out.old bytes.old out.new bytes.new
-        (lower_cell level size (record_at words.now text.now r)) }
+        (lower_cell level size (record_at input.entry.words.now input.entry.text.now r)) }
 {
-    match read_cell(words, text, r, size, nesting, level) {
-        CellRead::Number(n) => push_number(n, keep, out, bytes, ctx),
-        CellRead::Phandle(kind) => push_reference(words, text, r, kind, keep, out, bytes, ctx),
-        CellRead::Failed(report) => emit_report(words, text, report, out, bytes, ctx),
+    match input.read_cell(r, size, nesting, level) {
+        Ok(CellValue::Number(n)) => push_number(n, keep, out, bytes, ctx),
+        Ok(CellValue::Phandle(kind)) => push_reference(
+            input.words,
+            input.text,
+            r,
+            kind,
+            keep,
+            out,
+            bytes,
+            ctx,
+        ),
+        Err(report) => emit_report(input.words, input.text, report, out, bytes, ctx),
     }
 }
 

@@ -8,18 +8,19 @@ ghost use Rattle.input.specs.meaning.Tree.{has, omit_kind};
 ghost use Rattle.input.specs.meaning.Name.{name_or_macro, labelled, labels_of};
 ghost use Rattle.input.specs.meaning.Input.{record_count, span_at, chain_at, parts_at};
 ghost use Rattle.input.specs.machine.At.{record_at};
-ghost use Rattle.input.specs.machine.Linked.{Linked, At};
-ghost use Rattle.input.specs.machine.NameRead.{name_text};
+ghost use Rattle.input.specs.machine.Linked.{At};
+ghost use Rattle.input.specs.machine.NameRead.{name_text, unit_text};
 ghost use Rattle.items.specs.machine.Labelled.{LabelsAt};
 ghost use Rattle.items.specs.machine.Opened.{Opens, OpensAt};
 ghost use Rattle.items.specs.machine.NodePlaced.{DefinesLeading};
 ghost use Rattle.input.specs.machine.PhandleRead.{label_at, path_at};
 
-use crate::report::undefined_macro;
+use crate::report::emit_report;
 use input::kinds::{LABEL, OMIT};
-use input::name::{FullName, NameOrMacro, name_or_macro, name_text, node_name_span};
+use input::linked::Input;
+use input::name::{FullName, name_text, unit_text};
 use input::phandle::phandle_path_at;
-use input::record::{child_at, has_kind, kind_at, next_at, no_text, span_at, text_at};
+use input::record::{child_at, kind_at, next_at, no_text, span_at, text_at};
 use making::ctx::LowerCtx;
 use making::place::{PathAt, first_place, second_place};
 use making::recs::DefKind;
@@ -34,8 +35,7 @@ pub struct Opened {
 
 // Opens the node of record r at the path of its name under its parent's.
 pub fn define_below(
-    words: &[u32],
-    text: &[u8],
+    input: Input<'_>,
     r: u32,
     full: FullName,
     parent: PathAt,
@@ -43,52 +43,46 @@ pub fn define_below(
     bytes: &mut [u8],
     ctx: LowerCtx,
 ) -> Opened
-    requires linked { Linked words.now }
-    requires r_bound { r < record_count words.now }
+    requires r_bound { r < record_count input.words.now }
     ensures { OpensAt parent ctx out.old bytes.old out.new bytes.new
-        (parts_at words.now text.now r) (span_at words.now r)
-        (λ (p : List ℕ). joined p (name_text words.now text.now full.name)
-        (name_text words.now text.now full.unit)) result }
+        (parts_at input.entry.words.now input.entry.text.now r) (span_at input.entry.words.now r)
+        (λ (p : List ℕ). joined p (name_text input.entry.words.now input.entry.text.now full.name)
+        (unit_text input.entry.words.now input.entry.text.now full.unit)) result }
 {
-    let parts = child_at(words, r);
-    let kind = node_kind(words, parts);
-    let span = span_at(words, r);
-    let name_span = node_name_span(words, parts, span);
-    let name = full.name;
-    let unit = full.unit;
-    let name_of = name_text(words, text, name);
-    let unit_of = name_text(words, text, unit);
+    let parts = child_at(input.words, r);
+    let kind = node_kind(input, parts);
+    let span = span_at(input.words, r);
+    let name_span = input.node_name_span(parts, span);
+    let name_of = name_text(input.words, input.text, full.name);
+    let unit_of = unit_text(input.words, input.text, full.unit);
     let made = ctx.define(out, bytes, kind, span, name_span, parent, name_of, unit_of);
-    open_node(words, text, parts, out, bytes, made)
+    open_node(input, parts, out, bytes, made)
 }
 
 // Opens the node of record r at a path.
 pub fn define_there(
-    words: &[u32],
-    text: &[u8],
+    input: Input<'_>,
     r: u32,
     path: &[u8],
     out: &mut [u32],
     bytes: &mut [u8],
     ctx: LowerCtx,
 ) -> Opened
-    requires linked { Linked words.now }
-    requires r_bound { r < record_count words.now }
+    requires r_bound { r < record_count input.words.now }
     ensures { (parent : PathAt) → OpensAt parent ctx out.old bytes.old out.new bytes.new
-        (parts_at words.now text.now r) (span_at words.now r) (λ (p : List ℕ). path.now) result }
+        (parts_at input.entry.words.now input.entry.text.now r) (span_at input.entry.words.now r) (λ (p : List ℕ). path.now) result }
 {
-    let parts = child_at(words, r);
-    let kind = node_kind(words, parts);
-    let span = span_at(words, r);
-    let name_span = node_name_span(words, parts, span);
+    let parts = child_at(input.words, r);
+    let kind = node_kind(input, parts);
+    let span = span_at(input.words, r);
+    let name_span = input.node_name_span(parts, span);
     let made = ctx.define_text(out, bytes, kind, span, name_span, path);
-    open_node(words, text, parts, out, bytes, made)
+    open_node(input, parts, out, bytes, made)
 }
 
 // The definition of the node of record r where its reference leads.
 pub fn define_leading(
-    words: &[u32],
-    text: &[u8],
+    input: Input<'_>,
     r: u32,
     reference: u32,
     leads: Resolved,
@@ -96,17 +90,16 @@ pub fn define_leading(
     bytes: &mut [u8],
     ctx: LowerCtx,
 ) -> LowerCtx
-    requires linked { Linked words.now }
-    requires r_bound { r < record_count words.now }
-    ensures { DefinesLeading leads (label_at words.now text.now reference)
-        (path_at words.now text.now reference) ctx result out.old bytes.old out.new
-        bytes.new (parts_at words.now text.now r) (span_at words.now r) }
+    requires r_bound { r < record_count input.words.now }
+    ensures { DefinesLeading leads (label_at input.entry.words.now input.entry.text.now reference)
+        (path_at input.entry.words.now input.entry.text.now reference) ctx result out.old bytes.old out.new
+        bytes.new (parts_at input.entry.words.now input.entry.text.now r) (span_at input.entry.words.now r) }
 {
-    let parts = child_at(words, r);
-    let kind = node_kind(words, parts);
-    let span = span_at(words, r);
-    let name_span = node_name_span(words, parts, span);
-    let path = phandle_path_at(words, text, reference);
+    let parts = child_at(input.words, r);
+    let kind = node_kind(input, parts);
+    let span = span_at(input.words, r);
+    let name_span = input.node_name_span(parts, span);
+    let path = phandle_path_at(input.words, input.text, reference);
     match leads {
         Resolved::Bound(b) => {
             let place = second_place(out, b);
@@ -129,12 +122,11 @@ pub fn define_leading(
 }
 
 // The kind of a node's definition.
-fn node_kind(words: &[u32], parts: u32) -> DefKind
-    requires linked { Linked words.now }
-    requires at { At words.now parts }
-    ensures { (text : List ℕ) → bare_value result ≡ node [] (has omit_kind (chain_at words.now text parts)) }
+fn node_kind(input: Input<'_>, parts: u32) -> DefKind
+    requires at { At input.words.now parts }
+    ensures { (text : List ℕ) → bare_value result ≡ node [] (has omit_kind (chain_at input.entry.words.now text parts)) }
 {
-    if has_kind(words, parts, OMIT) {
+    if input.has_kind(parts, OMIT) {
         return DefKind::OmittedNode;
     }
     DefKind::Node
@@ -142,76 +134,69 @@ fn node_kind(words: &[u32], parts: u32) -> DefKind
 
 // The labels of a node whose definition was made just before.
 pub fn open_node(
-    words: &[u32],
-    text: &[u8],
+    input: Input<'_>,
     parts: u32,
     out: &mut [u32],
     bytes: &mut [u8],
     made: LowerCtx,
 ) -> Opened
-    requires linked { Linked words.now }
-    requires at { At words.now parts }
+    requires at { At input.words.now parts }
     ensures { Opens made out.old bytes.old out.new bytes.new
-        (chain_at words.now text.now parts) result }
+        (chain_at input.entry.words.now input.entry.text.now parts) result }
 {
     let place = made.newest_path(out);
-    let labelled = collect_labels(words, text, parts, place, out, bytes, made);
+    let labelled = collect_labels(input, parts, place, out, bytes, made);
     Opened {
-        place: place,
+        place,
         ctx: labelled,
     }
 }
 
 // The labels of a node among its parts.
 pub fn collect_labels(
-    words: &[u32],
-    text: &[u8],
+    input: Input<'_>,
     parts: u32,
     place: PathAt,
     out: &mut [u32],
     bytes: &mut [u8],
     ctx: LowerCtx,
 ) -> LowerCtx
-    requires linked { Linked words.now }
-    requires at { At words.now parts }
+    requires at { At input.words.now parts }
     ensures { LabelsAt place ctx result out.old bytes.old out.new bytes.new
-        (λ (p : List ℕ). labels_of p (chain_at words.now text.now parts)) }
+        (λ (p : List ℕ). labels_of p (chain_at input.entry.words.now input.entry.text.now parts)) }
 {
     let mut state = ctx;
     let mut r = parts;
     while r != 0 {
-        if kind_at(words, r) == LABEL {
-            state = lower_label(words, text, r, place, out, bytes, state);
+        if kind_at(input.words, r) == LABEL {
+            state = lower_label(input, r, place, out, bytes, state);
         }
-        r = next_at(words, r);
+        r = next_at(input.words, r);
     }
     state
 }
 
 // A label of a node whose path stands at a place: added to the node's definition and bound.
 fn lower_label(
-    words: &[u32],
-    text: &[u8],
+    input: Input<'_>,
     r: u32,
     place: PathAt,
     out: &mut [u32],
     bytes: &mut [u8],
     ctx: LowerCtx,
 ) -> LowerCtx
-    requires linked { Linked words.now }
-    requires r_bound { r < record_count words.now }
+    requires r_bound { r < record_count input.words.now }
     ensures { LabelsAt place ctx result out.old bytes.old out.new bytes.new
-        (λ (p : List ℕ). labelled p (record_at words.now text.now r)
-        (name_or_macro (parts_at words.now text.now r))) }
+        (λ (p : List ℕ). labelled p (record_at input.entry.words.now input.entry.text.now r)
+        (name_or_macro (parts_at input.entry.words.now input.entry.text.now r))) }
 {
-    match name_or_macro(words, child_at(words, r)) {
-        NameOrMacro::Name(n) => {
-            let label = text_at(words, text, n);
-            let span = span_at(words, r);
+    match input.name_or_macro(child_at(input.words, r)) {
+        Ok(n) => {
+            let label = text_at(input.words, input.text, n);
+            let span = span_at(input.words, r);
             let added = ctx.add_label(out, bytes, label);
             added.bind(out, bytes, label, place, span)
         }
-        NameOrMacro::Macro(m) => undefined_macro(words, text, m, out, bytes, ctx),
-        NameOrMacro::Nothing => ctx,
+        Err(report) => emit_report(input.words, input.text, report, out, bytes, ctx),
     }
 }

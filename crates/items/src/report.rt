@@ -1,6 +1,6 @@
 // What lowering reports (undefined_macro of lowering/mod.rs and the calls of diag.rs), by the record
 // that a diagnostic speaks of.
-ghost use Rattle.std.specs.Prelude.{◌≡◌, List, [], ◌∷◌, ℕ};
+ghost use Rattle.std.specs.Prelude.{[], ◌∷◌};
 ghost use Rattle.making.specs.meaning.State.{emit};
 ghost use Rattle.input.specs.meaning.Report.{report, undefined_macro};
 ghost use Rattle.input.specs.meaning.Input.{span_at};
@@ -10,7 +10,7 @@ ghost use Rattle.input.specs.machine.NameRead.{name_read, full_read};
 ghost use Rattle.input.specs.machine.Reported.{reports_of};
 
 use definition_log::parts::Span;
-use input::name::{FullName, NameOrMacro};
+use input::name::FullName;
 use input::record::{span_at, text_at};
 use input::report::Report;
 use making::ctx::LowerCtx;
@@ -84,22 +84,27 @@ pub fn emit_name(
     ensures { Lowers ctx result out.old bytes.old out.new bytes.new
         (emit (full_read words.now text.now f).reports) }
 {
-    let name = f.name;
-    let unit = f.unit;
-    let named = emit_report(words, text, name_report(name), out, bytes, ctx);
-    if f.addressed {
-        return emit_report(words, text, name_report(unit), out, bytes, named);
+    let named = emit_unnamed(words, text, f.name, out, bytes, ctx);
+    match f.unit {
+        Some(unit) => emit_unnamed(words, text, unit, out, bytes, named),
+        None => named,
     }
-    named
 }
 
-// What is reported of a name.
-fn name_report(n: NameOrMacro) -> Report
-    ensures { (words text : List ℕ) → reports_of words text result ≡ (name_read words text n).reports }
+// Reports what stands in the place of a name.
+fn emit_unnamed(
+    words: &[u32],
+    text: &[u8],
+    n: Result<u32, Report>,
+    out: &mut [u32],
+    bytes: &mut [u8],
+    ctx: LowerCtx,
+) -> LowerCtx
+    ensures { Lowers ctx result out.old bytes.old out.new bytes.new
+        (emit (name_read words.now text.now n).reports) }
 {
     match n {
-        NameOrMacro::Name(_) => Report::Nothing,
-        NameOrMacro::Macro(m) => Report::Macro(m),
-        NameOrMacro::Nothing => Report::Nothing,
+        Ok(_) => ctx,
+        Err(report) => emit_report(words, text, report, out, bytes, ctx),
     }
 }

@@ -23,8 +23,7 @@ use paths_numbers::codes;
 // Lowers a chain of items under a path.
 #[cycle(nesting)]
 pub fn lower_items(
-    words: &[u32],
-    text: &[u8],
+    input: Input<'_>,
     first: u32,
     parent: PathAt,
     nesting: u32,
@@ -33,17 +32,16 @@ pub fn lower_items(
     ctx: LowerCtx,
     level: u32,
 ) -> LowerCtx
-    requires linked { Linked words.now }
-    requires chain_in { ChainIn words.now text.now first nesting }
-    requires first_value { good_names_in (chain_at words.now text.now first) ≡ true }
+    requires chain_in { ChainIn input.words.now input.text.now first nesting }
+    requires first_value { good_names_in (chain_at input.words.now input.text.now first) ≡ true }
     ensures { LowersAt parent ctx result out.old bytes.old out.new bytes.new
-        (λ p s. lower_items level (chain_at words.now text.now first) p s) }
+        (λ p s. lower_items level (chain_at input.entry.words.now input.entry.text.now first) p s) }
 {
     let mut state = ctx;
     let mut r = first;
     while r != 0 {
-        state = lower_item(words, text, r, parent, nesting, out, bytes, state, level);
-        r = next_at(words, r);
+        state = lower_item(input, r, parent, nesting, out, bytes, state, level);
+        r = next_at(input.words, r);
     }
     state
 }
@@ -51,8 +49,7 @@ pub fn lower_items(
 // Lowers an item under a path.
 #[cycle(nesting)]
 fn lower_item(
-    words: &[u32],
-    text: &[u8],
+    input: Input<'_>,
     r: u32,
     parent: PathAt,
     nesting: u32,
@@ -61,24 +58,23 @@ fn lower_item(
     ctx: LowerCtx,
     level: u32,
 ) -> LowerCtx
-    requires linked { Linked words.now }
-    requires record_in { RecordIn words.now text.now r nesting }
-    requires r_value { good_names (record_at words.now text.now r) ≡ true }
+    requires record_in { RecordIn input.words.now input.text.now r nesting }
+    requires r_value { good_names (record_at input.words.now input.text.now r) ≡ true }
     ensures { LowersAt parent ctx result out.old bytes.old out.new bytes.new
-        (λ p s. lower_item level (record_at words.now text.now r) p s) }
+        (λ p s. lower_item level (record_at input.entry.words.now input.entry.text.now r) p s) }
 {
-    let kind = kind_at(words, r);
+    let kind = kind_at(input.words, r);
     if kind == NODE {
-        return lower_dt_node(words, text, r, parent, nesting, out, bytes, ctx, level);
+        return lower_dt_node(input, r, parent, nesting, out, bytes, ctx, level);
     }
     if kind == PROPERTY {
-        return lower_dt_property(words, text, r, parent, nesting, out, bytes, ctx, level);
+        return lower_dt_property(input, r, parent, nesting, out, bytes, ctx, level);
     }
     if kind == DIRECTIVE {
-        return handle_dts_directive(words, text, r, parent, out, bytes, ctx);
+        return handle_dts_directive(input, r, parent, out, bytes, ctx);
     }
     if kind == PREPROCESSOR {
-        return emit_code(words, codes::PREPROCESSOR, r, out, bytes, ctx);
+        return emit_code(input.words, codes::PREPROCESSOR, r, out, bytes, ctx);
     }
     ctx
 }
@@ -86,8 +82,7 @@ fn lower_item(
 // Lowers a node: where it goes, and then its body. A state that ran short stays as it is.
 #[cycle(nesting)]
 fn lower_dt_node(
-    words: &[u32],
-    text: &[u8],
+    input: Input<'_>,
     r: u32,
     parent: PathAt,
     nesting: u32,
@@ -96,26 +91,23 @@ fn lower_dt_node(
     ctx: LowerCtx,
     level: u32,
 ) -> LowerCtx
-    requires linked { Linked words.now }
-    requires record_in { RecordIn words.now text.now r nesting }
-    requires r_value { good_names (record_at words.now text.now r) ≡ true }
+    requires record_in { RecordIn input.words.now input.text.now r nesting }
+    requires r_value { good_names (record_at input.words.now input.text.now r) ≡ true }
     ensures { LowersAt parent ctx result out.old bytes.old out.new bytes.new
-        (λ p s. lower_node p (parts_at words.now text.now r) (span_at words.now r)
-        (λ (q : List ℕ) (u : State). lower_items level (contents_at words.now text.now r) q u) s) }
+        (λ p s. lower_node p (parts_at input.entry.words.now input.entry.text.now r) (span_at input.entry.words.now r)
+        (λ (q : List ℕ) (u : State). lower_items level (contents_at input.entry.words.now input.entry.text.now r) q u) s) }
 {
     if ctx.short {
         return ctx;
     }
-    let placed = place_node(words, text, r, parent, out, bytes, ctx);
+    let placed = place_node(input, r, parent, out, bytes, ctx);
     let node = placed.node;
     let made = placed.ctx;
     match node {
         NodePlace::At(place) => {
-            let first = second_at(words, r);
+            let first = second_at(input.words, r);
             lower_items(
-                words,
-                text,
-                first,
+                input, first,
                 place,
                 nesting - 1,
                 out,
@@ -125,11 +117,11 @@ fn lower_dt_node(
             )
         }
         NodePlace::Aside(phandle, kind, keeps) => {
-            let body = lower_apart(words, text, r, keeps, nesting - 1, out, bytes, made, level);
-            settle_aside(words, text, r, phandle, kind, keeps, out, bytes, body, made)
+            let body = lower_apart(input, r, keeps, nesting - 1, out, bytes, made, level);
+            settle_aside(input.words, input.text, r, phandle, kind, keeps, out, bytes, body, made)
         }
         NodePlace::Discarded => {
-            let body = lower_apart(words, text, r, false, nesting - 1, out, bytes, made, level);
+            let body = lower_apart(input, r, false, nesting - 1, out, bytes, made, level);
             body.leave_dropped(out, bytes, made)
         }
         NodePlace::Nowhere => made,
@@ -139,8 +131,7 @@ fn lower_dt_node(
 // Lowers the body of a node at "/" into a log of its own.
 #[cycle(nesting)]
 fn lower_apart(
-    words: &[u32],
-    text: &[u8],
+    input: Input<'_>,
     r: u32,
     keeps: bool,
     nesting: u32,
@@ -149,18 +140,17 @@ fn lower_apart(
     ctx: LowerCtx,
     level: u32,
 ) -> LowerCtx
-    requires linked { Linked words.now }
-    requires chain_in { ChainIn words.now text.now (second_at words.now r) nesting }
-    requires r_value { good_names_in (contents_at words.now text.now r) ≡ true }
+    requires chain_in { ChainIn input.words.now input.text.now (second_at input.words.now r) nesting }
+    requires r_value { good_names_in (contents_at input.words.now input.text.now r) ≡ true }
     ensures { LowersApart ctx result keeps out.old bytes.old out.new bytes.new
-        (λ (q : List ℕ) (u : State). lower_items level (contents_at words.now text.now r) q u) }
+        (λ (q : List ℕ) (u : State). lower_items level (contents_at input.entry.words.now input.entry.text.now r) q u) }
 {
     let inner = ctx.enter(keeps);
-    let first = second_at(words, r);
+    let first = second_at(input.words, r);
     let root = PathAt {
         root: true,
         start: 0,
         size: 0,
     };
-    lower_items(words, text, first, root, nesting, out, bytes, inner, level)
+    lower_items(input, first, root, nesting, out, bytes, inner, level)
 }

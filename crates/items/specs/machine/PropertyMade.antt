@@ -5,7 +5,7 @@ use Rattle.making.specs.declared.place.PathAt.{PathAt}
 use Rattle.definition_log.specs.meaning.Contents.{property, Def}
 use Rattle.input.specs.meaning.Name.{property_name_span}
 use Rattle.input.specs.meaning.Input.{child_at, span_at, chain_at}
-use Rattle.input.specs.machine.NameRead.{name_text}
+use Rattle.input.specs.machine.NameRead.{name_text, unit_text}
 use Rattle.input.specs.declared.name.FullName.{FullName}
 
 -- whether a place is that of the empty path
@@ -16,7 +16,7 @@ is_top p = cond p.root false (eqb p.size 0)
 unfoldable pub property_at : List ℕ → List ℕ → ℕ → FullName → List ℕ → Def
 property_at words text r f p =
     record {
-      path = joined p (name_text words text f.name) (name_text words text f.unit);
+      path = joined p (name_text words text f.name) (unit_text words text f.unit);
       value = property [];
       span = span_at words r;
       name_span = property_name_span (chain_at words text (child_at words r)) (span_at words r);

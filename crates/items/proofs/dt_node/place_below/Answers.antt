@@ -16,8 +16,8 @@ use Rattle.items.proofs.dt_node.place_below.Goals as goal
 pub returns-then-is_top : goal.returns-then-is_top
 returns-then-is_top c =
     let s = c in
-    let words = s.args.words.now in
-    let text = s.args.text.now in
+    let words = s.args.input.words.now in
+    let text = s.args.input.text.now in
     let parts = chain_at words text (child_at words s.args.r) in
     let name_span = node_name_span parts (span_at words s.args.r) in
     λ n e.
@@ -30,8 +30,8 @@ returns-then-is_top c =
 pub returns : goal.returns
 returns c =
     let s = c in
-    let words = s.args.words.now in
-    let text = s.args.text.now in
+    let words = s.args.input.words.now in
+    let text = s.args.input.text.now in
     let first = child_at words s.args.r in
     let parts = chain_at words text first in
     let name_span = node_name_span parts (span_at words s.args.r) in

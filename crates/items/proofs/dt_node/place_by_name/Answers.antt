@@ -13,14 +13,12 @@ use Rattle.items.proofs.dt_node.place_by_name.Goals as goal
 
 pub full_name-full-requires : goal.full_name-full-requires
 full_name-full-requires c = let s = c in record {
-  linked = s.requires.linked;
-  at = child_there _ s.requires.linked s.args.r
+  at = child_there _ s.args.input.linked s.args.r
       s.requires.r_bound _ c.child_at-parts.ensures;
 }
 
 pub place_below-requires : goal.place_below-requires
 place_below-requires c = let s = c in record {
-  linked = s.requires.linked;
   r_bound = s.requires.r_bound;
   full_name_read = rw
       c.child_at-parts.ensures at
@@ -31,8 +29,8 @@ place_below-requires c = let s = c in record {
 pub returns-then-is_named : goal.returns-then-is_named
 returns-then-is_named c =
     let s = c in
-    let words = s.args.words.now in
-    let text = s.args.text.now in
+    let words = s.args.input.words.now in
+    let text = s.args.input.text.now in
     let parts = chain_at words text (child_at words s.args.r) in
     let read = (rw
     c.child_at-parts.ensures at
@@ -47,19 +45,18 @@ returns-then-is_named c =
 
 pub has_kind-requires : goal.has_kind-requires
 has_kind-requires c = let s = c in record {
-  linked = s.requires.linked;
-  at = child_there _ s.requires.linked s.args.r s.requires.r_bound _
+  at = child_there _ s.args.input.linked s.args.r s.requires.r_bound _
       c.child_at-parts.ensures;
 }
 
 pub place_root-requires : goal.place_root-requires
-place_root-requires c = let s = c in record { linked = s.requires.linked; r_bound = s.requires.r_bound }
+place_root-requires c = let s = c in record { r_bound = s.requires.r_bound }
 
 pub returns-then-has_kind : goal.returns-then-has_kind
 returns-then-has_kind c =
     let s = c in
-    let words = s.args.words.now in
-    let text = s.args.text.now in
+    let words = s.args.input.words.now in
+    let text = s.args.input.text.now in
     let parts = chain_at words text (child_at words s.args.r) in
     let read = (rw
     c.child_at-parts.ensures at
@@ -77,8 +74,8 @@ returns-then-has_kind c =
 pub returns : goal.returns
 returns c =
     let s = c in
-    let words = s.args.words.now in
-    let text = s.args.text.now in
+    let words = s.args.input.words.now in
+    let text = s.args.input.text.now in
     let parts = chain_at words text (child_at words s.args.r) in
     let read = (rw c.child_at-parts.ensures at
     c.full_name-full.ensures).read text in

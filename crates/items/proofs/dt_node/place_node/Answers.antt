@@ -5,27 +5,26 @@ use Rattle.items.proofs.dt_node.place_node.Goals as goal
 
 pub first_of-reference-requires : goal.first_of-reference-requires
 first_of-reference-requires c = let s = c in record {
-  linked = s.requires.linked;
-  at = child_there _ s.requires.linked s.args.r
+  at = child_there _ s.args.input.linked s.args.r
       s.requires.r_bound _ c.child_at.ensures;
 }
 
 pub returns-then-reference-eq0 : goal.returns-then-reference-eq0
 returns-then-reference-eq0 c =
     let s = c in
-    let text = s.args.text.now in
+    let text = s.args.input.text.now in
     without_reference _ _ (rw c.child_at.ensures at
     (first_missing _ _ _ _ c.first_of-reference.ensures text
     c.if-reference-eq0.true))
     c.place_by_name.ensures
 
 pub place_by_reference-requires : goal.place_by_reference-requires
-place_by_reference-requires c = let s = c in record { linked = s.requires.linked; r_bound = s.requires.r_bound; reference_bound = c.first_of-reference.ensures.at c.if-reference-eq0.false }
+place_by_reference-requires c = let s = c in record { r_bound = s.requires.r_bound; reference_bound = c.first_of-reference.ensures.at c.if-reference-eq0.false }
 
 pub returns : goal.returns
 returns c =
     let s = c in
-    let text = s.args.text.now in
+    let text = s.args.input.text.now in
     by_reference _ _ _ (rw c.child_at.ensures at
     (first_there _ _ _ _ c.first_of-reference.ensures text
     c.if-reference-eq0.false))

@@ -1,5 +1,5 @@
 -- By where the reference leads (NodeReferenced).
-use mathlib.Core.Path.{sym, ◌∙◌}
+use mathlib.Core.Path.{refl, sym, ◌∙◌}
 use Rattle.input.proofs.Read.{child_there}
 use Rattle.items.proofs.NodeReferenced.{place_found, place_missing}
 use Rattle.input.specs.machine.At.{record_at}
@@ -7,8 +7,7 @@ use Rattle.items.proofs.dt_node.place_resolved.Goals as goal
 
 pub open_node-requires : goal.open_node-requires
 open_node-requires c = let s = c in record {
-  linked = s.requires.linked;
-  at = child_there _ s.requires.linked s.args.r s.requires.r_bound _
+  at = child_there _ s.args.input.linked s.args.r s.requires.r_bound _
       c.child_at.ensures;
 }
 
@@ -18,8 +17,8 @@ returns-then-leads_on c =
     let a = s.args in
     λ parent.
     rw c.placed_at.ensures (place_found a.ctx a.out.now a.bytes.now _ _ _
-    c.resolve_phandle-leads.result c.resolve_phandle-leads.ensures.1 (c.resolve_phandle-leads.ensures.0 _ s.requires.read_value)
-    (record_at a.words.now a.text.now a.reference)
+    c.resolve_phandle-leads.result c.resolve_phandle-leads.ensures.1 (c.resolve_phandle-leads.ensures.0 _ refl)
+    (record_at a.input.words.now a.input.text.now a.reference)
     (sym c.leads_on.ensures
     ∙ c.if-leads_on.true)
     c.define_leading-made.ensures
@@ -32,7 +31,7 @@ returns c =
     let a = s.args in
     λ parent.
     place_missing a.ctx a.out.now a.bytes.now
-    c.resolve_phandle-leads.result a.words.now a.text.now a.reference a.kind c.resolve_phandle-leads.ensures.1 (c.resolve_phandle-leads.ensures.0 _ s.requires.read_value)
+    c.resolve_phandle-leads.result a.input.words.now a.input.text.now a.reference a.kind c.resolve_phandle-leads.ensures.1 (c.resolve_phandle-leads.ensures.0 _ refl)
     (sym c.leads_on.ensures
     ∙ c.if-leads_on.false)
     (c.sets_overlay_in-keeps.ensures a.bytes.now)

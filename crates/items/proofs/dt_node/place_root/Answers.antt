@@ -14,8 +14,8 @@ use Rattle.items.proofs.dt_node.place_root.Goals as goal
 pub returns-then-not-is_top : goal.returns-then-not-is_top
 returns-then-not-is_top c =
     let s = c in
-    let words = s.args.words.now in
-    let text = s.args.text.now in
+    let words = s.args.input.words.now in
+    let text = s.args.input.text.now in
     let name_span = node_name_span (chain_at words text (child_at words s.args.r)) (span_at words s.args.r) in
     rw c.placed_nowhere.ensures (places_nowhere (λ p. placed_as p root name_span []) (report 6 [] name_span ∷ []) false
     (sym c.is_top.ensures
@@ -25,8 +25,8 @@ returns-then-not-is_top c =
 pub returns : goal.returns
 returns c =
     let s = c in
-    let words = s.args.words.now in
-    let text = s.args.text.now in
+    let words = s.args.input.words.now in
+    let text = s.args.input.text.now in
     let name_span = node_name_span (chain_at words text (child_at words s.args.r)) (span_at words s.args.r) in
     rw c.placed_at.ensures (places_at (λ p. placed_as p root name_span []) true (sym
     c.is_top.ensures

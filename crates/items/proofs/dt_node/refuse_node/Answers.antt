@@ -7,8 +7,7 @@ use Rattle.items.proofs.dt_node.refuse_node.Goals as goal
 
 pub node_name_span-span-requires : goal.node_name_span-span-requires
 node_name_span-span-requires c = let s = c in record {
-  linked = s.requires.linked;
-  at = child_there _ s.requires.linked s.args.r
+  at = child_there _ s.args.input.linked s.args.r
       s.requires.r_bound _ c.child_at.ensures;
 }
 

@@ -4,22 +4,21 @@ use Rattle.items.proofs.PropertyMade.{property_kept_at, property_dropped_at}
 use Rattle.items.proofs.dt_property.define_property.Goals as goal
 
 pub returns-then-not-keep : goal.returns-then-not-keep
-returns-then-not-keep c = let a = c.args in property_dropped_at a.words.now a.text.now a.r a.f
+returns-then-not-keep c = let a = c.args in property_dropped_at a.input.words.now a.input.text.now a.r a.f
     a.keep (not-true _ c.if-not-keep.true-raw)
 
 pub property_name_span-name_span-requires : goal.property_name_span-name_span-requires
 property_name_span-name_span-requires c = let s = c in record {
-  linked = s.requires.linked;
   at = rw
       c.child_at.ensures s.requires.at;
 }
 
 pub returns : goal.returns
 returns c = let a = c.args in
-    property_kept_at a.words.now a.text.now a.r a.f a.keep
+    property_kept_at a.input.words.now a.input.text.now a.r a.f a.keep
     (not-false _ c.if-not-keep.false-raw)
     c.span_at-span.ensures
     (rw c.child_at.ensures at
-    (c.property_name_span-name_span.ensures a.text.now))
+    (c.property_name_span-name_span.ensures a.input.text.now))
     c.name_text.ensures
-    c.name_text-2.ensures c.define.ensures
+    c.unit_text.ensures c.define.ensures

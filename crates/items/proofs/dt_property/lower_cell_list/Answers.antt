@@ -7,12 +7,11 @@ use Rattle.items.proofs.dt_property.lower_cell_list.Goals as goal
 
 pub overflow_sub-nesting : goal.overflow_sub-nesting
 overflow_sub-nesting c = let s = c in omega
-    (arith, some_nesting s.args.words.now s.args.text.now s.requires.linked s.args.r s.args.nesting s.requires.record_in)
+    (arith, some_nesting s.args.input.words.now s.args.input.text.now s.args.input.linked s.args.r s.args.nesting s.requires.record_in)
 
 pub lower_cells-requires : goal.lower_cells-requires
 lower_cells-requires c = let s = c in record {
-  linked = s.requires.linked;
-  chain_in = rw c.child_at.ensures (children_in s.args.words.now s.args.text.now s.requires.linked s.args.r
+  chain_in = rw c.child_at.ensures (children_in s.args.input.words.now s.args.input.text.now s.args.input.linked s.args.r
       s.args.nesting s.requires.record_in);
 }
 

@@ -8,39 +8,37 @@ use Rattle.items.proofs.dt_property.lower_dt_property.Goals as goal
 
 pub returns-then-ctx : goal.returns-then-ctx
 returns-then-ctx c = let a = c.args in
-    let words = a.words.now in
-    property_short a.level (chain_at words a.text.now (child_at words a.r)) (chain_at words a.text.now (second_at words a.r))
+    let words = a.input.words.now in
+    property_short a.level (chain_at words a.input.text.now (child_at words a.r)) (chain_at words a.input.text.now (second_at words a.r))
     (span_at words a.r) c.if-ctx.true
 
 pub returns-then-is_top : goal.returns-then-is_top
 returns-then-is_top c = let a = c.args in
-    let words = a.words.now in
-    property_top a.level (chain_at words a.text.now (child_at words a.r)) (chain_at words a.text.now (second_at words a.r))
+    let words = a.input.words.now in
+    property_top a.level (chain_at words a.input.text.now (child_at words a.r)) (chain_at words a.input.text.now (second_at words a.r))
     (span_at words a.r) c.if-ctx.false
     (sym c.is_top.ensures
     ∙ c.if-is_top.true) c.emit_code.ensures
 
 pub full_name-name-requires : goal.full_name-name-requires
 full_name-name-requires c = let s = c in record {
-  linked = s.requires.linked;
   at = rw c.child_at.ensures
-      (s.requires.linked.all s.args.r s.requires.record_in.there).child.within;
+      (s.args.input.linked.all s.args.r s.requires.record_in.there).child.within;
 }
 
 pub define_property-made-requires : goal.define_property-made-requires
-define_property-made-requires c = let s = c in record { linked = s.requires.linked; at = (s.requires.linked.all s.args.r s.requires.record_in.there).child.within }
+define_property-made-requires c = let s = c in record { at = (s.args.input.linked.all s.args.r s.requires.record_in.there).child.within }
 
 pub overflow_sub-nesting : goal.overflow_sub-nesting
 overflow_sub-nesting c = let s = c in omega (
   arith,
-  some_nesting s.args.words.now s.args.text.now s.requires.linked s.args.r s.args.nesting
+  some_nesting s.args.input.words.now s.args.input.text.now s.args.input.linked s.args.r s.args.nesting
       s.requires.record_in,
 )
 
 pub lower_prop_values-filled-requires : goal.lower_prop_values-filled-requires
 lower_prop_values-filled-requires c = let s = c in record {
-  linked = s.requires.linked;
-  chain_in = rw c.second_at.ensures (second_in s.args.words.now s.args.text.now s.requires.linked s.args.r
+  chain_in = rw c.second_at.ensures (second_in s.args.input.words.now s.args.input.text.now s.args.input.linked s.args.r
       s.args.nesting s.requires.record_in);
 }
 
@@ -56,8 +54,8 @@ shape_of-bytes c = c.emit_name.auto.bytes
 pub returns : goal.returns
 returns c = let s = c
     in
-    let words = s.args.words.now in
-    let text = s.args.text.now in
+    let words = s.args.input.words.now in
+    let text = s.args.input.text.now in
     property_lowers s.args.level words text s.args.r
     c.full_name-name.result
     (rw c.child_at.ensures at

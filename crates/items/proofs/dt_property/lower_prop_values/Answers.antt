@@ -9,23 +9,22 @@ loop-r-init c = (c.requires.chain_in, refl, refl, λ d w b h. h)
 
 pub lower_prop_value-next-requires : goal.lower_prop_value-next-requires
 lower_prop_value-next-requires c = let s = c in let l = c.loop-r in record {
-  linked = s.requires.linked;
-  record_in = chain_first s.args.words.now s.args.text.now s.requires.linked l.r s.args.nesting l.invariant.0
+  record_in = chain_first s.args.input.words.now s.args.input.text.now s.args.input.linked l.r s.args.nesting l.invariant.0
       c.loop-r-test.true;
 }
 
 pub loop-r-smaller : goal.loop-r-smaller
 loop-r-smaller c = let s = c in let l = c.loop-r in let n = c.loop-r-test.true in
-    rw c.next_at-r.ensures (rank_less s.args.words.now l.r _ n (l.invariant.0.at n) (s.requires.linked.all l.r (l.invariant.0.at n)).next)
+    rw c.next_at-r.ensures (rank_less s.args.input.words.now l.r _ n (l.invariant.0.at n) (s.args.input.linked.all l.r (l.invariant.0.at n)).next)
 
 pub loop-r-preserved : goal.loop-r-preserved
 loop-r-preserved c = let s = c in let l = c.loop-r in let n = c.loop-r-test.true in
     rw c.next_at-r.ensures (
-      chain_next s.args.words.now s.args.text.now s.requires.linked l.r s.args.nesting l.invariant.0 n,
+      chain_next s.args.input.words.now s.args.input.text.now s.args.input.linked l.r s.args.nesting l.invariant.0 n,
       c.lower_prop_value-next.auto.out ∙ l.invariant.1,
       c.lower_prop_value-next.auto.bytes ∙ l.invariant.2,
       λ d w b h. l.invariant.3 d w b
-          (same_fills (values_more s.args.words.now s.args.text.now l.r s.requires.linked n (l.invariant.0.at n) s.args.level)
+          (same_fills (values_more s.args.input.words.now s.args.input.text.now l.r s.args.input.linked n (l.invariant.0.at n) s.args.level)
           (fills_then adding_values s.args.keep _ _ c.lower_prop_value-next.ensures h)),
     )
 
@@ -37,5 +36,5 @@ shape_of-bytes c = c.loop-r.invariant.2
 
 pub returns : goal.returns
 returns c = let s = c in let l = c.loop-r in
-    l.invariant.3 _ _ _ (same_fills (values_end s.args.words.now s.args.text.now l.r s.args.level c.loop-r-test.false)
+    l.invariant.3 _ _ _ (same_fills (values_end s.args.input.words.now s.args.input.text.now l.r s.args.level c.loop-r-test.false)
     (fills_none adding_values s.args.keep))

@@ -12,11 +12,11 @@ use mathlib.Core.Path.{◌≡◌}
 use Rattle.items.proofs.dt_property.lower_prop_values.Given as goal
 
 abbrev pub invariant-loop-r : goal.invariant-loop-r
-invariant-loop-r l = ChainIn l.words l.text l.r l.nesting
+invariant-loop-r l = ChainIn l.input.words.now l.input.text.now l.r l.nesting
     × (length l.out ≡ length l.initial.out)
     × (length l.bytes ≡ length l.initial.bytes) × ((d : LowerCtx) (w b : List ℕ)
-    → FillsProperty l.keep l.next d l.out l.bytes w b (lower_values l.level (chain_at l.words l.text l.r))
-    → FillsProperty l.keep l.initial.next d l.initial.out l.initial.bytes w b (lower_values l.level (chain_at l.words l.text l.initial.r)))
+    → FillsProperty l.keep l.next d l.out l.bytes w b (lower_values l.level (chain_at l.input.words.now l.input.text.now l.r))
+    → FillsProperty l.keep l.initial.next d l.initial.out l.initial.bytes w b (lower_values l.level (chain_at l.input.words.now l.input.text.now l.initial.r)))
 
 abbrev pub decreases-loop-r : goal.decreases-loop-r
-decreases-loop-r l = rank l.words l.r
+decreases-loop-r l = rank l.input.words.now l.r

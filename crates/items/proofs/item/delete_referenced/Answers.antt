@@ -8,24 +8,21 @@ use Rattle.items.proofs.item.delete_referenced.Goals as goal
 pub returns-then-r-eq0 : goal.returns-then-r-eq0
 returns-then-r-eq0 c =
     let a = c.args in
-    no_reference_lem a.words.now a.text.now a.r (meant a.span) c.if-r-eq0.true
-
-pub lower_phandle-read-requires : goal.lower_phandle-read-requires
-lower_phandle-read-requires c = record {
-  linked = c.requires.linked;
-  r_bound = c.requires.at
-      c.if-r-eq0.false;
-}
+    no_reference_lem a.input.words.now a.input.text.now a.r (meant a.span) c.if-r-eq0.true
 
 pub returns-then-ctx : goal.returns-then-ctx
 returns-then-ctx c =
     let a = c.args in
-    short_lowers c.if-ctx.true (reference_grows (meant a.span) (optional a.words.now a.text.now a.r))
+    short_lowers c.if-ctx.true (reference_grows (meant a.span) (optional a.input.words.now a.input.text.now a.r))
 
-pub returns : goal.returns
-returns c =
+pub returns-in-Ok : goal.returns-in-Ok
+returns-in-Ok c =
     let a = c.args in
-    a_reference_lem a.words.now a.text.now a.r (meant a.span) _
-    c.if-r-eq0.false
-    c.lower_phandle-read.ensures
-    c.delete_read.ensures
+    a_reference_lem a.input.words.now a.input.text.now a.r (meant a.span) _ c.if-r-eq0.false c.lower_phandle.ensures
+    (rw c.in-Ok.is c.delete_target.ensures)
+
+pub returns-in-Err : goal.returns-in-Err
+returns-in-Err c =
+    let a = c.args in
+    a_reference_lem a.input.words.now a.input.text.now a.r (meant a.span) _ c.if-r-eq0.false c.lower_phandle.ensures
+    (rw c.in-Err.is c.emit_report.ensures)

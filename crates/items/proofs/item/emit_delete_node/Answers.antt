@@ -15,14 +15,14 @@ pub returns-then-is_named : goal.returns-then-is_named
 returns-then-is_named c =
     let a = c.args in
     let f = c.full_name-full in
-    under_as (by_name_lem a.words.now a.text.now a.parts f.result f.ensures (meant a.span)
+    under_as (by_name_lem a.input.words.now a.input.text.now a.parts f.result f.ensures (meant a.span)
     c.requires.parts_value
-    (sym (c.is_named.ensures a.words.now
-    a.text.now) ∙ c.if-is_named.true))
+    (sym (c.is_named.ensures a.input.words.now
+    a.input.text.now) ∙ c.if-is_named.true))
     (under_then (lowers_under
     c.emit_name-told.ensures) (rw (
       c.name_text.ensures,
-      c.name_text-then-is_named.ensures,
+      c.unit_text.ensures,
     ) at c.delete_named.ensures))
 
 pub returns : goal.returns
@@ -30,11 +30,11 @@ returns c =
     let a = c.args in
     let f = c.full_name-full in
     under_as
-    (λ p s. by_reference a.words.now a.text.now a.parts f.result f.ensures (meant a.span)
-    (sym (c.is_named.ensures a.words.now a.text.now)
+    (λ p s. by_reference a.input.words.now a.input.text.now a.parts f.result f.ensures (meant a.span)
+    (sym (c.is_named.ensures a.input.words.now a.input.text.now)
     ∙ c.if-is_named.false) s p
     ∙ ap (λ (o : Option Tree). delete_referenced (meant a.span) o
-    (emit (full_read a.words.now a.text.now f.result).reports s))
-    (c.first_of-r.ensures.tree a.text.now))
+    (emit (full_read a.input.words.now a.input.text.now f.result).reports s))
+    (c.first_of-r.ensures.tree a.input.text.now))
     (lowers_under (lowers_then
     c.emit_name-told.ensures c.delete_referenced.ensures))

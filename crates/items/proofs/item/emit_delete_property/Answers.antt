@@ -5,13 +5,13 @@ use Rattle.items.proofs.item.emit_delete_property.Goals as goal
 pub returns-then-n-eq0 : goal.returns-then-n-eq0
 returns-then-n-eq0 c =
     let a = c.args in
-    no_property a.words.now a.text.now a.parts _ c.first_of-n.ensures a.span c.if-n-eq0.true
+    no_property a.input.words.now a.input.text.now a.parts _ c.first_of-n.ensures a.span c.if-n-eq0.true
 
 pub returns : goal.returns
 returns c =
     let a = c.args
     in
-    a_property a.words.now a.text.now a.parts _
+    a_property a.input.words.now a.input.text.now a.parts _
     c.first_of-n.ensures a.span
     c.if-n-eq0.false
     c.text_at.ensures c.no_text.ensures

@@ -1,69 +1,69 @@
 -- By the directive's W (Directives).
+use native.Mathlib.Omega.{arith}
 use Rattle.items.proofs.Directives.{is_version, is_plugin_lem, is_include, is_delete_node, is_delete_property, is_other}
 use Rattle.items.proofs.item.handle_dts_directive.Goals as goal
 
-pub returns-then-kind-eq-VERSION : goal.returns-then-kind-eq-VERSION
-returns-then-kind-eq-VERSION c =
+pub returns-in-1 : goal.returns-in-1
+returns-in-1 c =
     let a = c.args in
-    is_version a.words.now a.text.now a.r _
-    c.number_at-kind.ensures
+    is_version a.input.words.now a.input.text.now a.r _
+    c.number_at.ensures
     c.span_at-span.ensures
-    c.if-kind-eq-VERSION.true c.define_at.ensures
+    c.in-1.is c.define_at.ensures
 
-pub returns-then-kind-eq-PLUGIN : goal.returns-then-kind-eq-PLUGIN
-returns-then-kind-eq-PLUGIN c =
+pub returns-in-2 : goal.returns-in-2
+returns-in-2 c =
     let a = c.args
     in
-    is_plugin_lem a.words.now a.text.now a.r _
-    c.number_at-kind.ensures
+    is_plugin_lem a.input.words.now a.input.text.now a.r _
+    c.number_at.ensures
     c.span_at-span.ensures
-    c.if-kind-eq-PLUGIN.true c.define_at-then-kind-eq-PLUGIN.ensures
+    c.in-2.is c.define_at-in-2.ensures
 
-pub returns-then-kind-eq-INCLUDE : goal.returns-then-kind-eq-INCLUDE
-returns-then-kind-eq-INCLUDE c =
+pub returns-in-3 : goal.returns-in-3
+returns-in-3 c =
     let a = c.args in
-    is_include a.words.now a.text.now a.r _
-    c.number_at-kind.ensures
+    is_include a.input.words.now a.input.text.now a.r _
+    c.number_at.ensures
     c.span_at-span.ensures
-    c.if-kind-eq-INCLUDE.true
+    c.in-3.is
     c.no_text.ensures c.emit.ensures
 
 pub emit_delete_node-requires : goal.emit_delete_node-requires
 emit_delete_node-requires c =
     let s = c in record {
-      linked = s.requires.linked;
-      at = rw c.child_at-parts.ensures (s.requires.linked.all s.args.r s.requires.r_bound).child.within;
+      at = rw c.child_at-parts.ensures (s.args.input.linked.all s.args.r s.requires.r_bound).child.within;
       parts_value = rw
           c.child_at-parts.ensures s.requires.r_value;
     }
 
-pub returns-then-kind-eq-DELETE_NODE : goal.returns-then-kind-eq-DELETE_NODE
-returns-then-kind-eq-DELETE_NODE c =
+pub returns-in-4 : goal.returns-in-4
+returns-in-4 c =
     let a = c.args in
-    is_delete_node a.words.now a.text.now a.r _
-    c.number_at-kind.ensures
+    is_delete_node a.input.words.now a.input.text.now a.r _
+    c.number_at.ensures
     c.span_at-span.ensures
-    c.if-kind-eq-DELETE_NODE.true
+    c.in-4.is
     c.child_at-parts.ensures
     c.emit_delete_node.ensures
 
 pub emit_delete_property-requires : goal.emit_delete_property-requires
 emit_delete_property-requires c =
-    let s = c in record { linked = s.requires.linked; at = rw c.child_at-parts.ensures (s.requires.linked.all s.args.r s.requires.r_bound).child.within }
+    let s = c in record { at = rw c.child_at-parts.ensures (s.args.input.linked.all s.args.r s.requires.r_bound).child.within }
 
-pub returns-then-kind-eq-DELETE_PROPERTY : goal.returns-then-kind-eq-DELETE_PROPERTY
-returns-then-kind-eq-DELETE_PROPERTY c =
+pub returns-in-5 : goal.returns-in-5
+returns-in-5 c =
     let a = c.args in
-    is_delete_property a.words.now a.text.now a.r _
-    c.number_at-kind.ensures
+    is_delete_property a.input.words.now a.input.text.now a.r _
+    c.number_at.ensures
     c.span_at-span.ensures
-    c.if-kind-eq-DELETE_PROPERTY.true
+    c.in-5.is
     c.child_at-parts.ensures
     c.emit_delete_property.ensures
 
-pub returns : goal.returns
-returns c =
+pub returns-in_default : goal.returns-in_default
+returns-in_default c =
     let a = c.args in
-    is_other a.words.now a.text.now a.r _ c.number_at-kind.ensures
-    c.if-kind-eq-VERSION.false c.if-kind-eq-PLUGIN.false
-    c.if-kind-eq-INCLUDE.false c.if-kind-eq-DELETE_NODE.false c.if-kind-eq-DELETE_PROPERTY.false
+    is_other a.input.words.now a.input.text.now a.r _ c.number_at.ensures
+    (λ e. omega arith) (λ e. omega arith)
+    (λ e. omega arith) (λ e. omega arith) (λ e. omega arith)

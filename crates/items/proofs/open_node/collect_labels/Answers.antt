@@ -8,17 +8,17 @@ use Rattle.items.proofs.open_node.collect_labels.Goals.{then-kind_at-eq-LABEL, e
 pub loop-r-init : goal.loop-r-init
 loop-r-init c =
     let s = c in
-    (refl, refl, labels_start s.args.words.now s.args.text.now s.args.parts s.requires.at)
+    (refl, refl, labels_start s.args.input.words.now s.args.input.text.now s.args.parts s.requires.at)
 
 pub lower_label-state-requires : goal.lower_label-state-requires
-lower_label-state-requires c = record { linked = c.requires.linked; r_bound = c.loop-r.invariant.2.at c.loop-r-test.true }
+lower_label-state-requires c = record { r_bound = c.loop-r.invariant.2.at c.loop-r-test.true }
 
 pub loop-r-smaller : goal.loop-r-smaller
 loop-r-smaller c =
     let s = c in
     let l = c.loop-r in
     let n = c.loop-r-test.true in
-    rw c.next_at-r.ensures (rank_less s.args.words.now l.r _ n (l.invariant.2.at n) (s.requires.linked.all l.r (l.invariant.2.at n)).next)
+    rw c.next_at-r.ensures (rank_less s.args.input.words.now l.r _ n (l.invariant.2.at n) (s.args.input.linked.all l.r (l.invariant.2.at n)).next)
 
 pub loop-r-preserved : goal.loop-r-preserved
 loop-r-preserved c =
@@ -28,11 +28,11 @@ loop-r-preserved c =
     let k = c.kind_at.ensures in
     rw c.next_at-r.ensures (elim c.if-kind_at-eq-LABEL.branch [
       | then-kind_at-eq-LABEL w ↦
-          let m = labels_more s.requires.linked l.invariant.2 n (sym k ∙ w.if-kind_at-eq-LABEL.true) w.lower_label-state.ensures in
+          let m = labels_more s.args.input.linked l.invariant.2 n (sym k ∙ w.if-kind_at-eq-LABEL.true) w.lower_label-state.ensures in
           rw (w.out-is, w.bytes-is, w.state-is)
           (w.lower_label-state.auto.out ∙ l.invariant.0, w.lower_label-state.auto.bytes ∙ l.invariant.1, m)
       | else-kind_at-eq-LABEL w ↦
-          let m = labels_other s.requires.linked l.invariant.2 n (λ e. w.if-kind_at-eq-LABEL.false (k ∙ e)) in
+          let m = labels_other s.args.input.linked l.invariant.2 n (λ e. w.if-kind_at-eq-LABEL.false (k ∙ e)) in
           rw (w.out-is, w.bytes-is, w.state-is) (l.invariant.0, l.invariant.1, m)
     ])
 
@@ -43,4 +43,4 @@ pub shape_of-bytes : goal.shape_of-bytes
 shape_of-bytes c = c.loop-r.invariant.1
 
 pub returns : goal.returns
-returns c = labels_whole c.requires.linked c.loop-r.invariant.2 c.loop-r-test.false
+returns c = labels_whole c.args.input.linked c.loop-r.invariant.2 c.loop-r-test.false

@@ -3,48 +3,45 @@ use mathlib.Core.Path.{refl, ◌∙◌}
 use Rattle.paths_numbers.specs.meaning.Path.{joined}
 use Rattle.making.specs.machine.PathPlaces.{path_in}
 use Rattle.input.specs.meaning.Input.{span_at}
-use Rattle.input.specs.machine.NameRead.{name_text}
+use Rattle.input.specs.machine.NameRead.{name_text, unit_text}
 use Rattle.input.proofs.Read.{child_there}
 use Rattle.items.proofs.Opened.{defined_opens, below_parent}
 use Rattle.items.proofs.open_node.define_below.Goals as goal
 
 pub node_kind-kind-requires : goal.node_kind-kind-requires
 node_kind-kind-requires c = let s = c in record {
-  linked = s.requires.linked;
-  at = child_there _ s.requires.linked s.args.r
+  at = child_there _ s.args.input.linked s.args.r
       s.requires.r_bound _ c.child_at-parts.ensures;
 }
 
 pub node_name_span-name_span-requires : goal.node_name_span-name_span-requires
 node_name_span-name_span-requires c = let s = c in record {
-  linked = s.requires.linked;
-  at = child_there _ s.requires.linked
+  at = child_there _ s.args.input.linked
       s.args.r s.requires.r_bound _ c.child_at-parts.ensures;
 }
 
 pub open_node-requires : goal.open_node-requires
 open_node-requires c = let s = c in record {
-  linked = s.requires.linked;
-  at = child_there _ s.requires.linked s.args.r s.requires.r_bound _
+  at = child_there _ s.args.input.linked s.args.r s.requires.r_bound _
       c.child_at-parts.ensures;
 }
 
 pub returns : goal.returns
 returns c =
     let a = c.args in
-    let words = a.words.now in
-    let text = a.text.now in
+    let words = a.input.words.now in
+    let text = a.input.text.now in
     let part = c.child_at-parts.ensures in
     defined_opens
     c.node_kind-kind.result
     c.span_at-span.result
     c.node_name_span-name_span.result (span_at words a.r)
     (joined (path_in a.ctx.bytes a.bytes.now a.parent) (name_text words text a.full.name)
-    (name_text words text a.full.unit))
-    (λ p. joined p (name_text words text a.full.name) (name_text words text a.full.unit))
+    (unit_text words text a.full.unit))
+    (λ p. joined p (name_text words text a.full.name) (unit_text words text a.full.unit))
     (rw (
       c.name_text-name_of.ensures,
-      c.name_text-unit_of.ensures,
+      c.unit_text-unit_of.ensures,
     ) at c.define-made.ensures)
     (rw part at c.open_node.ensures)
     (rw part at
@@ -54,4 +51,4 @@ returns c =
       part,
       c.span_at-span.ensures,
     ) refl)
-    (below_parent (name_text words text a.full.name) (name_text words text a.full.unit))
+    (below_parent (name_text words text a.full.name) (unit_text words text a.full.unit))

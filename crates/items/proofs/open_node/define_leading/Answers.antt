@@ -10,23 +10,21 @@ use Rattle.items.proofs.open_node.define_leading.Goals as goal
 
 pub node_kind-kind-requires : goal.node_kind-kind-requires
 node_kind-kind-requires c = let s = c in record {
-  linked = s.requires.linked;
-  at = child_there _ s.requires.linked s.args.r
+  at = child_there _ s.args.input.linked s.args.r
       s.requires.r_bound _ c.child_at-parts.ensures;
 }
 
 pub node_name_span-name_span-requires : goal.node_name_span-name_span-requires
 node_name_span-name_span-requires c = let s = c in record {
-  linked = s.requires.linked;
-  at = child_there _ s.requires.linked
+  at = child_there _ s.args.input.linked
       s.args.r s.requires.r_bound _ c.child_at-parts.ensures;
 }
 
 pub returns-in-Bound : goal.returns-in-Bound
 returns-in-Bound c =
     let a = c.args in
-    let words = a.words.now in
-    let text = a.text.now in
+    let words = a.input.words.now in
+    let text = a.input.text.now in
     let part = c.child_at-parts.ensures in
     defines_bound a.leads (label_at words text a.reference) (path_at words text a.reference)
     c.node_kind-kind.result
@@ -48,8 +46,8 @@ returns-in-Bound c =
 pub returns-in-BoundPath : goal.returns-in-BoundPath
 returns-in-BoundPath c =
     let a = c.args in
-    let words = a.words.now in
-    let text = a.text.now in
+    let words = a.input.words.now in
+    let text = a.input.text.now in
     let part = c.child_at-parts.ensures in
     defines_below a.leads (label_at words text a.reference) (path_at words text a.reference)
     c.node_kind-kind.result
@@ -71,8 +69,8 @@ returns-in-BoundPath c =
 pub returns-in-AtPath : goal.returns-in-AtPath
 returns-in-AtPath c =
     let a = c.args in
-    let words = a.words.now in
-    let text = a.text.now in
+    let words = a.input.words.now in
+    let text = a.input.text.now in
     let part = c.child_at-parts.ensures
     in
     defines_path a.leads (label_at words text a.reference) (path_at words text a.reference)
@@ -90,8 +88,8 @@ returns-in-AtPath c =
 pub returns-in-Node : goal.returns-in-Node
 returns-in-Node c =
     let a = c.args in
-    let words = a.words.now in
-    let text = a.text.now in
+    let words = a.input.words.now in
+    let text = a.input.text.now in
     let part = c.child_at-parts.ensures in
     defines_named a.leads (label_at words text a.reference) (path_at words text a.reference)
     c.node_kind-kind.result

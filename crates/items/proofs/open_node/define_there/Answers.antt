@@ -7,30 +7,27 @@ use Rattle.items.proofs.open_node.define_there.Goals as goal
 
 pub node_kind-kind-requires : goal.node_kind-kind-requires
 node_kind-kind-requires c = let s = c in record {
-  linked = s.requires.linked;
-  at = child_there _ s.requires.linked s.args.r
+  at = child_there _ s.args.input.linked s.args.r
       s.requires.r_bound _ c.child_at-parts.ensures;
 }
 
 pub node_name_span-name_span-requires : goal.node_name_span-name_span-requires
 node_name_span-name_span-requires c = let s = c in record {
-  linked = s.requires.linked;
   at = child_there _
-      s.requires.linked s.args.r s.requires.r_bound _ c.child_at-parts.ensures;
+      s.args.input.linked s.args.r s.requires.r_bound _ c.child_at-parts.ensures;
 }
 
 pub open_node-requires : goal.open_node-requires
 open_node-requires c = let s = c in record {
-  linked = s.requires.linked;
-  at = child_there _ s.requires.linked s.args.r s.requires.r_bound _
+  at = child_there _ s.args.input.linked s.args.r s.requires.r_bound _
       c.child_at-parts.ensures;
 }
 
 pub returns : goal.returns
 returns c =
     let a = c.args in
-    let words = a.words.now in
-    let text = a.text.now in
+    let words = a.input.words.now in
+    let text = a.input.text.now in
     let part = c.child_at-parts.ensures in
     λ parent.
     defined_opens {parent = parent}

@@ -15,7 +15,7 @@ use Prim.Native.Nat.{ℕ, ◌<◌}
 use Rattle.lowering.proofs.lower_item.+nesting.Goals as goal
 
 pub lower_apart-lower_items-requires : goal.lower_apart-lower_items-requires
-lower_apart-lower_items-requires t c = let s = c in let e = c.second_at-first.ensures in (omega arith, (s.requires.linked, (rw e s.requires.chain_in, rw e s.requires.r_value)))
+lower_apart-lower_items-requires t c = let s = c in let e = c.second_at-first.ensures in (omega arith, (s.args.input.linked, (rw e s.requires.chain_in, rw e s.requires.r_value)))
 
 pub lower_apart-returns : goal.lower_apart-returns
 lower_apart-returns t c = enters_apart _ refl c.enter-inner.ensures
@@ -27,39 +27,39 @@ lower_dt_node-returns-then-ctx t c = let a = c.args in short_lowers (λ p. node_
     c.if-ctx.true
 
 pub lower_dt_node-place_node-placed-requires : goal.lower_dt_node-place_node-placed-requires
-lower_dt_node-place_node-placed-requires t c = let s = c in record { linked = s.requires.linked; r_bound = s.requires.record_in.there; r_value = parts_good _ _ _ s.requires.r_value }
+lower_dt_node-place_node-placed-requires t c = let s = c in record { r_bound = s.requires.record_in.there; r_value = parts_good _ _ _ s.requires.r_value }
 
 pub lower_dt_node-overflow_sub-nesting : goal.lower_dt_node-overflow_sub-nesting
-lower_dt_node-overflow_sub-nesting t c = let s = c in omega (arith, some_nesting _ _ s.requires.linked _ _ s.requires.record_in)
+lower_dt_node-overflow_sub-nesting t c = let s = c in omega (arith, some_nesting _ _ s.args.input.linked _ _ s.requires.record_in)
 
 pub lower_dt_node-lower_items-requires : goal.lower_dt_node-lower_items-requires
 lower_dt_node-lower_items-requires t c = let s = c in let e = c.second_at-first.ensures in (
   omega
-      (arith, some_nesting _ _ s.requires.linked _ _ s.requires.record_in),
-  (s.requires.linked, (rw e (second_in _ _ s.requires.linked _ _ s.requires.record_in), rw e (body_good _ _ _ s.requires.r_value))),
+      (arith, some_nesting _ _ s.args.input.linked _ _ s.requires.record_in),
+  (s.args.input.linked, (rw e (second_in _ _ s.args.input.linked _ _ s.requires.record_in), rw e (body_good _ _ _ s.requires.r_value))),
 )
 
 pub lower_dt_node-overflow_sub-nesting-in-Aside : goal.lower_dt_node-overflow_sub-nesting-in-Aside
-lower_dt_node-overflow_sub-nesting-in-Aside t c = let s = c in omega (arith, some_nesting _ _ s.requires.linked _ _ s.requires.record_in)
+lower_dt_node-overflow_sub-nesting-in-Aside t c = let s = c in omega (arith, some_nesting _ _ s.args.input.linked _ _ s.requires.record_in)
 
 pub lower_dt_node-lower_apart-body-requires : goal.lower_dt_node-lower_apart-body-requires
 lower_dt_node-lower_apart-body-requires t c = let s = c in (
-  omega (arith, some_nesting _ _ s.requires.linked _ _ s.requires.record_in),
-  (s.requires.linked, (second_in _ _ s.requires.linked _ _ s.requires.record_in, body_good _ _ _ s.requires.r_value)),
+  omega (arith, some_nesting _ _ s.args.input.linked _ _ s.requires.record_in),
+  (s.args.input.linked, (second_in _ _ s.args.input.linked _ _ s.requires.record_in, body_good _ _ _ s.requires.r_value)),
 )
 
 pub lower_dt_node-overflow_sub-nesting-in-Discarded : goal.lower_dt_node-overflow_sub-nesting-in-Discarded
-lower_dt_node-overflow_sub-nesting-in-Discarded t c = let s = c in omega (arith, some_nesting _ _ s.requires.linked _ _ s.requires.record_in)
+lower_dt_node-overflow_sub-nesting-in-Discarded t c = let s = c in omega (arith, some_nesting _ _ s.args.input.linked _ _ s.requires.record_in)
 
 pub lower_dt_node-lower_apart-body-requires-in-Discarded : goal.lower_dt_node-lower_apart-body-requires-in-Discarded
 lower_dt_node-lower_apart-body-requires-in-Discarded t c = let s = c in (
-  omega (arith, some_nesting _ _ s.requires.linked _ _ s.requires.record_in),
-  (s.requires.linked, (second_in _ _ s.requires.linked _ _ s.requires.record_in, body_good _ _ _ s.requires.r_value)),
+  omega (arith, some_nesting _ _ s.args.input.linked _ _ s.requires.record_in),
+  (s.args.input.linked, (second_in _ _ s.args.input.linked _ _ s.requires.record_in, body_good _ _ _ s.requires.r_value)),
 )
 
 pub lower_dt_node-returns-in-At : goal.lower_dt_node-returns-in-At
 lower_dt_node-returns-in-At t c = let s = c in node_at_lem
-    (λ q u. lower_items s.args.level (chain_at s.args.words.now s.args.text.now (second_at s.args.words.now s.args.r))
+    (λ q u. lower_items s.args.level (chain_at s.args.input.words.now s.args.input.text.now (second_at s.args.input.words.now s.args.r))
     q u)
     c.if-ctx.false
     c.place_node-placed.ensures c.in-At.is
@@ -68,7 +68,7 @@ lower_dt_node-returns-in-At t c = let s = c in node_at_lem
 
 pub lower_dt_node-returns-in-Aside : goal.lower_dt_node-returns-in-Aside
 lower_dt_node-returns-in-Aside t c = let s = c in node_aside
-    (λ q u. lower_items s.args.level (chain_at s.args.words.now s.args.text.now (second_at s.args.words.now s.args.r))
+    (λ q u. lower_items s.args.level (chain_at s.args.input.words.now s.args.input.text.now (second_at s.args.input.words.now s.args.r))
     q u)
     c.if-ctx.false
     c.place_node-placed.ensures _ _ _
@@ -77,7 +77,7 @@ lower_dt_node-returns-in-Aside t c = let s = c in node_aside
 
 pub lower_dt_node-returns-in-Discarded : goal.lower_dt_node-returns-in-Discarded
 lower_dt_node-returns-in-Discarded t c = let s = c in node_discarded
-    (λ q u. lower_items s.args.level (chain_at s.args.words.now s.args.text.now (second_at s.args.words.now s.args.r))
+    (λ q u. lower_items s.args.level (chain_at s.args.input.words.now s.args.input.text.now (second_at s.args.input.words.now s.args.r))
     q u)
     c.if-ctx.false
     c.place_node-placed.ensures
@@ -86,72 +86,72 @@ lower_dt_node-returns-in-Discarded t c = let s = c in node_discarded
     c.leave_dropped.ensures
 
 pub lower_dt_node-returns-in-Nowhere : goal.lower_dt_node-returns-in-Nowhere
-lower_dt_node-returns-in-Nowhere t c = let s = c in node_nowhere (λ q u. lower_items s.args.level (chain_at s.args.words.now s.args.text.now
-    (second_at s.args.words.now s.args.r)) q u)
+lower_dt_node-returns-in-Nowhere t c = let s = c in node_nowhere (λ q u. lower_items s.args.level (chain_at s.args.input.words.now s.args.input.text.now
+    (second_at s.args.input.words.now s.args.r)) q u)
     c.if-ctx.false
     c.place_node-placed.ensures c.in-Nowhere.is
 
 pub lower_item-lower_dt_node-requires : goal.lower_item-lower_dt_node-requires
-lower_item-lower_dt_node-requires t c = let s = c in (omega arith, (s.requires.linked, (s.requires.record_in, s.requires.r_value)))
+lower_item-lower_dt_node-requires t c = let s = c in (omega arith, (s.args.input.linked, (s.requires.record_in, s.requires.r_value)))
 
 pub lower_item-returns-then-kind-eq-NODE : goal.lower_item-returns-then-kind-eq-NODE
 lower_item-returns-then-kind-eq-NODE t c = let a = c.args in is_node_lem
-    a.level a.words.now a.text.now a.r
+    a.level a.input.words.now a.input.text.now a.r
     (sym c.kind_at-kind.ensures
     ∙ c.if-kind-eq-NODE.true) c.lower_dt_node.ensures
 
 pub lower_item-lower_dt_property-requires : goal.lower_item-lower_dt_property-requires
-lower_item-lower_dt_property-requires t c = let s = c in record { linked = s.requires.linked; record_in = s.requires.record_in; r_value = parts_good _ _ _ s.requires.r_value }
+lower_item-lower_dt_property-requires t c = let s = c in record { record_in = s.requires.record_in; r_value = parts_good _ _ _ s.requires.r_value }
 
 pub lower_item-returns-then-kind-eq-PROPERTY : goal.lower_item-returns-then-kind-eq-PROPERTY
 lower_item-returns-then-kind-eq-PROPERTY t c = let a = c.args in let k = c.kind_at-kind.ensures in is_property_lem
-    a.level a.words.now a.text.now a.r
+    a.level a.input.words.now a.input.text.now a.r
     (λ e. c.if-kind-eq-NODE.false (k ∙ e))
     (sym k ∙ c.if-kind-eq-PROPERTY.true)
     c.lower_dt_property.ensures
 
 pub lower_item-handle_dts_directive-requires : goal.lower_item-handle_dts_directive-requires
-lower_item-handle_dts_directive-requires t c = let s = c in record { linked = s.requires.linked; r_bound = s.requires.record_in.there; r_value = parts_good _ _ _ s.requires.r_value }
+lower_item-handle_dts_directive-requires t c = let s = c in record { r_bound = s.requires.record_in.there; r_value = parts_good _ _ _ s.requires.r_value }
 
 pub lower_item-returns-then-kind-eq-DIRECTIVE : goal.lower_item-returns-then-kind-eq-DIRECTIVE
 lower_item-returns-then-kind-eq-DIRECTIVE t c = let a = c.args in let k = c.kind_at-kind.ensures in is_directive_lem
-    a.level a.words.now a.text.now a.r
+    a.level a.input.words.now a.input.text.now a.r
     (λ e. c.if-kind-eq-NODE.false
     (k ∙ e)) (λ e. c.if-kind-eq-PROPERTY.false (k ∙ e))
     (sym k ∙ c.if-kind-eq-DIRECTIVE.true)
     c.handle_dts_directive.ensures
 
 pub lower_item-returns-then-kind-eq-PREPROCESSOR : goal.lower_item-returns-then-kind-eq-PREPROCESSOR
-lower_item-returns-then-kind-eq-PREPROCESSOR t c = let a = c.args in let k = c.kind_at-kind.ensures in is_preprocessor a.level a.words.now a.text.now a.r
+lower_item-returns-then-kind-eq-PREPROCESSOR t c = let a = c.args in let k = c.kind_at-kind.ensures in is_preprocessor a.level a.input.words.now a.input.text.now a.r
     (λ e. c.if-kind-eq-NODE.false (k ∙ e))
     (λ e. c.if-kind-eq-PROPERTY.false (k ∙ e))
     (λ e. c.if-kind-eq-DIRECTIVE.false (k ∙ e))
     (sym k ∙ c.if-kind-eq-PREPROCESSOR.true) c.emit_code.ensures
 
 pub lower_item-returns : goal.lower_item-returns
-lower_item-returns t c = let a = c.args in let k = c.kind_at-kind.ensures in is_other a.level a.words.now a.text.now a.r (λ e. c.if-kind-eq-NODE.false (k ∙ e))
+lower_item-returns t c = let a = c.args in let k = c.kind_at-kind.ensures in is_other a.level a.input.words.now a.input.text.now a.r (λ e. c.if-kind-eq-NODE.false (k ∙ e))
     (λ e. c.if-kind-eq-PROPERTY.false (k ∙ e)) (λ e. c.if-kind-eq-DIRECTIVE.false (k ∙ e)) (λ e. c.if-kind-eq-PREPROCESSOR.false (k ∙ e))
 
 pub lower_items-loop-r-init : goal.lower_items-loop-r-init
 lower_items-loop-r-init t c = let s = c in (
   refl,
   refl,
-  items_start s.args.level s.args.words.now
-      s.args.text.now s.args.first s.args.nesting s.requires.chain_in s.requires.first_value,
+  items_start s.args.level s.args.input.words.now
+      s.args.input.text.now s.args.first s.args.nesting s.requires.chain_in s.requires.first_value,
 )
 
 pub lower_items-lower_item-state-requires : goal.lower_items-lower_item-state-requires
 lower_items-lower_item-state-requires t c = let s = c in let l = c.loop-r in let n = c.loop-r-test.true in (
   omega arith,
   (
-    s.requires.linked,
-    (chain_first _ _ s.requires.linked _ _ l.invariant.2.chain n, item_good s.requires.linked l.invariant.2 n),
+    s.args.input.linked,
+    (chain_first _ _ s.args.input.linked _ _ l.invariant.2.chain n, item_good s.args.input.linked l.invariant.2 n),
   ),
 )
 
 pub lower_items-loop-r-smaller : goal.lower_items-loop-r-smaller
 lower_items-loop-r-smaller t c = let s = c in let l = c.loop-r in let n = c.loop-r-test.true in rw c.next_at-r.ensures
-    (rank_less s.args.words.now l.r _ n (l.invariant.2.chain.at n) (s.requires.linked.all l.r (l.invariant.2.chain.at n)).next)
+    (rank_less s.args.input.words.now l.r _ n (l.invariant.2.chain.at n) (s.args.input.linked.all l.r (l.invariant.2.chain.at n)).next)
 
 pub lower_items-loop-r-preserved : goal.lower_items-loop-r-preserved
 lower_items-loop-r-preserved t c = let s = c in let l = c.loop-r in let n = c.loop-r-test.true in rw c.next_at-r.ensures (
@@ -159,9 +159,9 @@ lower_items-loop-r-preserved t c = let s = c in let l = c.loop-r in let n = c.lo
       ∙ l.invariant.0,
   c.lower_item-state.auto.bytes
       ∙ l.invariant.1,
-  items_more s.requires.linked l.invariant.2 n c.lower_item-state.ensures,
+  items_more s.args.input.linked l.invariant.2 n c.lower_item-state.ensures,
 )
 
 pub lower_items-returns : goal.lower_items-returns
-lower_items-returns t c = items_whole c.requires.linked c.loop-r.invariant.2
+lower_items-returns t c = items_whole c.args.input.linked c.loop-r.invariant.2
     c.loop-r-test.false
