@@ -44,7 +44,7 @@ use Rattle.resolving.specs.machine.Leading.{resolution, bound_by, Leads, Reports
 use Rattle.items.specs.machine.Deleting.{DeletesAt, DeletesThere, DeletesBound}
 use Rattle.input.specs.declared.name.FullName.{FullName}
 use Rattle.input.specs.declared.report.Report.{Report}
-use Rattle.definition_log.specs.declared.parts.TargetKind.{TargetKind}
+use Rattle.paths_numbers.specs.declared.phandle.MirPhandleTarget.{MirPhandleTarget}
 use Rattle.resolving.specs.declared.resolve.Resolved.{Resolved}
 use Rattle.resolving.specs.declared.resolve.Resolved.TheVariants as R
 use Rattle.input.proofs.Read.{optional_none, optional_some, first_missing, first_there}
@@ -174,7 +174,7 @@ module _ (words text : List ℕ) (r : ℕ) (span : Span) where
       → Lowers c c out bytes out bytes (delete_referenced span (optional words text r))
   no_reference_lem e = idle (λ s. rw (e, optional_none words text) refl)
 
-  pub a_reference_lem : {c d : LowerCtx} {out bytes w b : List ℕ} (read : Result TargetKind Report) → (r ≡ 0 → ⊥)
+  pub a_reference_lem : {c d : LowerCtx} {out bytes w b : List ℕ} (read : Result MirPhandleTarget Report) → (r ≡ 0 → ⊥)
       → phandle_read words text r read ≡ lower_phandle (record_at words text r)
       → Lowers c d out bytes w b (delete_target (record_at words text r) span (phandle_read words text r read).reports
       (phandle_read words text r read).result)

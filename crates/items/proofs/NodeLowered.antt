@@ -8,7 +8,8 @@ use Rattle.paths_numbers.specs.meaning.Reference.{Target}
 use Rattle.paths_numbers.proofs.Texts.{not_both}
 use Rattle.making.specs.declared.ctx.LowerCtx.{LowerCtx}
 use Rattle.making.specs.declared.place.PathAt.{PathAt}
-use Rattle.definition_log.specs.declared.parts.TargetKind.{TargetKind}
+use Rattle.making.specs.declared.place.PathAt.TheVariants as P
+use Rattle.paths_numbers.specs.declared.phandle.MirPhandleTarget.{MirPhandleTarget}
 use Rattle.definition_log.specs.meaning.Contents.{Span, Def}
 use Rattle.definition_log.specs.machine.Parts.{target_made}
 use Rattle.making.specs.meaning.State.{State, emit, apart}
@@ -29,7 +30,7 @@ use Rattle.items.specs.declared.dt_node.PlacedNode.{PlacedNode}
 
 -- a body in a log of its own
 pub enters_apart : {c d e : LowerCtx} {keeps : Bool} {words bytes w b : List ℕ} {f : List ℕ → State → State} (top : PathAt)
-    → top.root ≡ true → Enters c d keeps → LowersAt top d e words bytes w b f
+    → top ≡ P.Root → Enters c d keeps → LowersAt top d e words bytes w b f
     → LowersApart c e keeps words bytes w b f
 enters_apart {c} {keeps = keeps} {words} {bytes} top t en lo =
     record {
@@ -88,7 +89,7 @@ module _ {parent : PathAt} {c : LowerCtx} {words bytes w₁ b₁ input text : Li
       }
 
   -- in a log of its own, for what its reference names
-  pub node_aside : {d f : LowerCtx} {w₂ b₂ w b : List ℕ} (r : ℕ) (kind : TargetKind) (keeps : Bool) → v.node ≡ N.Aside r kind keeps
+  pub node_aside : {d f : LowerCtx} {w₂ b₂ w b : List ℕ} (r : ℕ) (kind : MirPhandleTarget) (keeps : Bool) → v.node ≡ N.Aside r kind keeps
       → LowersApart v.ctx d keeps w₁ b₁ w₂ b₂ body
       → Settles d f v.ctx keeps w₂ b₂ w b (target_made kind (label_at input text r) (path_at input text r)) span (span_at input r)
       → LowersAt parent c f words bytes w b (λ p s. lower_node p parts span body s)

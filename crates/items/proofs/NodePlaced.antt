@@ -13,6 +13,8 @@ use Rattle.paths_numbers.specs.meaning.Path.{root, join}
 use Rattle.paths_numbers.proofs.Texts.{by_test, not_both, same_refl}
 use Rattle.making.specs.declared.ctx.LowerCtx.{LowerCtx}
 use Rattle.making.specs.declared.place.PathAt.{PathAt}
+use Rattle.making.specs.declared.place.PathAt.TheVariants as P
+use Rattle.making.specs.machine.PathPlaces.{place_len}
 use Rattle.definition_log.specs.meaning.Contents.{Span, Diag}
 use Rattle.making.specs.meaning.State.{State, emit}
 use Rattle.making.specs.machine.Represents.{Context, with_place, Represents}
@@ -164,13 +166,13 @@ pub top_is : {parent : PathAt} {k : Context} {c : LowerCtx} {words bytes : List 
     → Represents (with_place (record { at = parent; path = p }) k) c words bytes s → c.short ≡ false
     → is_top parent ≡ is_empty p
 unfolding is_empty
-top_is {parent} {k} {p = p} r z = go parent.root parent.size p (place_length {k = k} {p = record { at = parent; path = p }} r z)
+top_is {parent} {k} {p = p} r z = go parent p (place_length {k = k} {p = record { at = parent; path = p }} r z)
   where
-    go : (t : Bool) (n : ℕ) (q : List ℕ) → cond t 1 n ≡ length q → cond t false (eqb n 0) ≡ is_empty q
-    go true n [] e = absurd (omega (arith, e))
-    go true n (a ∷ q) e = refl
-    go false n [] e = eq-eqb n 0 e
-    go false n (a ∷ q) e = ne_eqb n 0 (λ y. omega (arith, e))
+    go : (at : PathAt) (q : List ℕ) → place_len at ≡ length q → is_top at ≡ is_empty q
+    go P.Root [] e = absurd (omega (arith, e))
+    go P.Root (a ∷ q) e = refl
+    go (P.Bytes start n) [] e = eq-eqb n 0 e
+    go (P.Bytes start n) (a ∷ q) e = ne_eqb n 0 (λ y. omega (arith, e))
 
 -- a reference among the parts decides alone
 module _ {parent : PathAt} {c : LowerCtx} {words bytes w b input text : List ℕ} (parts : Trees) (span : Span) {v : PlacedNode} where

@@ -12,7 +12,7 @@ use Rattle.making.specs.declared.ctx.LowerCtx.{LowerCtx}
 use Rattle.making.specs.declared.place.PathAt.{PathAt}
 use Rattle.definition_log.specs.declared.parts.Span.{Span as SpanRead}
 use Rattle.making.specs.declared.recs.DefKind.{DefKind}
-use Rattle.definition_log.specs.declared.parts.TargetKind.{TargetKind}
+use Rattle.paths_numbers.specs.declared.phandle.MirPhandleTarget.{MirPhandleTarget}
 use Rattle.definition_log.specs.meaning.Contents.{Span, node, Def, Binding}
 use Rattle.making.specs.machine.PathPlaces.{path_in, placed_in}
 use Rattle.definition_log.specs.meaning.Record.{first_text, second_text}
@@ -164,7 +164,7 @@ module _ (c : LowerCtx) (words bytes : List ℕ) (target : Target) (l path : Lis
 -- or put aside
 pub place_missing : (c : LowerCtx) (words bytes : List ℕ) (v : Resolved) {parent : PathAt} {d : LowerCtx} {w b : List ℕ} {parts : Trees}
     {span : Span} {keeps : Bool} (input text : List ℕ) (reference : ℕ)
-    (kind : TargetKind) → Leads words bytes c.binds.first c.defs.first (label_at input text reference) (path_at input text reference)
+    (kind : MirPhandleTarget) → Leads words bytes c.binds.first c.defs.first (label_at input text reference) (path_at input text reference)
     v
     → resolution words bytes (label_at input text reference) (path_at input text reference) v ≡ resolve
     (target_made kind (label_at input text reference) (path_at input text reference)) (read_bindings words bytes c.binds.first)

@@ -13,6 +13,7 @@ use Rattle.paths_numbers.specs.meaning.Path.{joined}
 use Rattle.paths_numbers.proofs.Texts.{by_test, not_both}
 use Rattle.making.specs.declared.ctx.LowerCtx.{LowerCtx}
 use Rattle.making.specs.declared.place.PathAt.{PathAt}
+use Rattle.making.specs.declared.place.PathAt.TheVariants as P
 use Rattle.definition_log.specs.declared.parts.Span.{Span as SpanRead}
 use Rattle.making.specs.declared.recs.DefKind.TheVariants as D
 use Rattle.definition_log.specs.meaning.Contents.{Span, Value, property, Def, Diag}
@@ -60,11 +61,11 @@ empty_length (a ∷ p) n e = sym (ne_eqb n 0 (λ z. omega arith))
 
 pub top_empty : {k : Context} {c : LowerCtx} {words bytes : List ℕ} {s : State} {at : PathAt} {p : List ℕ}
     → Represents (with_place (record { at = at; path = p }) k) c words bytes s → c.short ≡ false → is_empty p ≡ is_top at
-top_empty {at = at} {p = p} r z = empty_length p (place_len at) (place_length r z) ∙ go at.root
+top_empty {at = at} {p = p} r z = empty_length p (place_len at) (place_length r z) ∙ go at
   where
-    go : (t : Bool) → eqb (cond t 1 at.size) 0 ≡ cond t false (eqb at.size 0)
-    go true = refl
-    go false = refl
+    go : (q : PathAt) → eqb (place_len q) 0 ≡ is_top q
+    go P.Root = refl
+    go (P.Bytes start size) = refl
 
 -- the definition as the log makes it
 pub property_at_lem : (words text : List ℕ) (r : ℕ) (f : FullName) {span name_span : SpanRead} {n u : List ℕ} → meant span ≡ span_at words r

@@ -436,11 +436,6 @@ count_same v w e = rw e refl
 pub passes_left : (w b : List ℕ) (stops : Bool) (label : List ℕ) (r left : ℕ) → passes_at w b stops label r left ≡ true → 0 < left
 passes_left w b stops label r left t = goes_left w r left (passes_on w b stops label r left t).0
 
--- the path read at the place of "/"
-pub root_read : (used : ℕ) (bytes : List ℕ) (p : PathAt) → p.root ≡ true → path_in used bytes p ≡ root
-unfolding path_of settled
-root_read used bytes p t = by_test (stands used bytes p) (λ a. rw (a, t) refl) (λ a. rw (a, t) refl)
-
 -- whether a binding goes, by how its texts and the base are read
 pub goes_by : {t : Bool} {l q x : List ℕ} (used : ℕ) (words bytes name unit : List ℕ) (defs : ℕ) (base : Base) (r : ℕ)
     → t ≡ any (has_label_at l q) (live x (read_defs words bytes defs))

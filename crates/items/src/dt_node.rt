@@ -21,7 +21,7 @@ ghost use Rattle.items.specs.machine.AtRecord.{node_name_at, named_at};
 use crate::dt_property::is_top;
 use crate::open_node::{Opened, define_below, define_leading, define_there, open_node};
 use crate::report::{NO_SPAN, emit_name, emit_report};
-use definition_log::parts::TargetKind;
+use paths_numbers::phandle::MirPhandleTarget;
 use input::kinds::{REFERENCE, SLASH};
 use input::linked::Input;
 use input::name::{FullName, is_named};
@@ -39,7 +39,7 @@ use resolving::resolve::{Resolved, report_unresolved, resolve_phandle};
 #[derive(Clone, Copy)]
 pub enum NodePlace {
     At(PathAt),
-    Aside(u32, TargetKind, bool),
+    Aside(u32, MirPhandleTarget, bool),
     Discarded,
     Nowhere,
 }
@@ -107,7 +107,7 @@ fn place_resolved(
     input: Input<'_>,
     r: u32,
     reference: u32,
-    kind: TargetKind,
+    kind: MirPhandleTarget,
     out: &mut [u32],
     bytes: &mut [u8],
     ctx: LowerCtx,
@@ -274,7 +274,7 @@ pub fn settle_aside(
     text: &[u8],
     r: u32,
     reference: u32,
-    kind: TargetKind,
+    kind: MirPhandleTarget,
     keeps: bool,
     out: &mut [u32],
     bytes: &mut [u8],

@@ -20,7 +20,7 @@ ghost use Rattle.items.specs.machine.PropertyMade.{is_top, property_at};
 ghost use Rattle.items.specs.machine.AtRecord.{named_at};
 
 use crate::report::{emit_code, emit_name, emit_report};
-use definition_log::parts::TargetKind;
+use paths_numbers::phandle::MirPhandleTarget;
 use input::linked::Input;
 use input::name::{FullName, is_named, name_text, unit_text};
 use input::phandle::{phandle_label_at, phandle_path_at};
@@ -76,7 +76,7 @@ pub fn lower_dt_property(
 pub(crate) fn is_top(path: PathAt) -> bool
     ensures { result ≡ is_top path }
 {
-    !path.root && path.size == 0
+    matches!(path, PathAt::Bytes { size: 0, .. })
 }
 
 // The definition of a property that is kept, before its values.
@@ -320,7 +320,7 @@ fn push_reference(
     words: &[u32],
     text: &[u8],
     r: u32,
-    kind: TargetKind,
+    kind: MirPhandleTarget,
     keep: bool,
     out: &mut [u32],
     bytes: &mut [u8],

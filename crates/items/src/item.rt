@@ -19,7 +19,8 @@ ghost use Rattle.items.specs.machine.Deleting.{DeletesAt, DeletesThere, DeletesB
 use crate::directive::{DELETE_NODE, DELETE_PROPERTY, INCLUDE, PLUGIN, VERSION};
 use crate::report::{NO_SPAN, emit_name, emit_report};
 use crate::unbind::{Base, bound_base, goes_with, unbind_all, unbind_others, unlink_first};
-use definition_log::parts::{Span, TargetKind};
+use definition_log::parts::Span;
+use paths_numbers::phandle::MirPhandleTarget;
 use input::kinds::{NAME, REFERENCE};
 use input::linked::Input;
 use input::name::{is_named, name_text, unit_text};
@@ -156,7 +157,7 @@ fn delete_target(
     words: &[u32],
     text: &[u8],
     r: u32,
-    kind: TargetKind,
+    kind: MirPhandleTarget,
     span: Span,
     out: &mut [u32],
     bytes: &mut [u8],

@@ -171,21 +171,8 @@ fn unbinds_named(
         (live (joined (path_in ctx.bytes bytes.now place) name.now unit.now)
         (read_defs out.now bytes.now ctx.defs.first)) }
 {
-    let defs = ctx.defs.first;
-    if place.root {
-        let root = [b'/'];
-        return unbinds_path(out, bytes, defs, &root, name, unit, label, path);
-    }
-    unbinds_path(
-        out,
-        bytes,
-        defs,
-        place_text(bytes, ctx.bytes, place),
-        name,
-        unit,
-        label,
-        path,
-    )
+    let parent = place.text(ctx.bytes, bytes);
+    unbinds_path(out, bytes, ctx.defs.first, parent, name, unit, label, path)
 }
 
 // The same where the base is the path of a place.
@@ -201,34 +188,8 @@ fn unbinds_there(
         (live (path_in ctx.bytes bytes.now place)
         (read_defs out.now bytes.now ctx.defs.first)) }
 {
-    let defs = ctx.defs.first;
-    if place.root {
-        let root = [b'/'];
-        return unbinds(out, bytes, defs, &root, label, path);
-    }
-    unbinds(
-        out,
-        bytes,
-        defs,
-        place_text(bytes, ctx.bytes, place),
-        label,
-        path,
-    )
-}
-
-// The text at a place that is not "/", empty where that does not lie among the bytes in use.
-fn place_text(bytes: &[u8], used: u32, place: PathAt) -> &[u8]
-    ensures { place.root ≡ false → result.now ≡ path_in used bytes.now place }
-{
-    let from = place.start as usize;
-    let end = from + (place.size as usize);
-    if (used as usize) < end {
-        return &bytes[0..0];
-    }
-    if bytes.len() < end {
-        return &bytes[0..0];
-    }
-    &bytes[from..end]
+    let base = place.text(ctx.bytes, bytes);
+    unbinds(out, bytes, ctx.defs.first, base, label, path)
 }
 
 // Takes out all bindings that go with what is deleted.

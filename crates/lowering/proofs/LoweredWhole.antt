@@ -7,6 +7,7 @@ use mathlib.Core.List.{List, []}
 use lib.ListN.{length, replicate}
 use Rattle.making.specs.declared.ctx.LowerCtx.{LowerCtx}
 use Rattle.making.specs.declared.place.PathAt.{PathAt}
+use Rattle.making.specs.declared.place.PathAt.TheVariants as P
 use Rattle.levels.specs.meaning.Rules.{is_level}
 use Rattle.files.specs.meaning.Files.{good_files}
 use Rattle.file_words.specs.machine.Put.{FilesPut}
@@ -29,7 +30,7 @@ use Rattle.lowering.proofs.Fits.{fits, fits_not}
 
 -- the top items, whose parent path is empty
 abbrev top : PathAt
-top = record { root = false; start = 0; size = 0 }
+top = P.Bytes 0 0
 
 pub top_lowered : (level : ℕ) (words text : List ℕ) {c d : LowerCtx} {out bytes w b : List ℕ} → Represents at_start c out bytes start
     → LowersAt top c d out bytes w b (λ p s. lower_items level (chain_at words text (child_at words 0)) p s)

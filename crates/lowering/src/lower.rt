@@ -122,10 +122,5 @@ fn lower_top(words: &[u32], text: &[u8], level: u32, out: &mut [u32], bytes: &mu
 {
     let ctx = start(out, bytes);
     let first = child_at(words, 0);
-    let top = PathAt {
-        root: false,
-        start: 0,
-        size: 0,
-    };
     lower_items(words, text, first, top, MOST_LINKS, out, bytes, ctx, level)
 }

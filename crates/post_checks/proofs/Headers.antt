@@ -9,7 +9,7 @@ use lib.Dec.{eqb}
 use Rattle.paths_numbers.proofs.Texts.{by_test}
 use Rattle.making.specs.declared.ctx.LowerCtx.{LowerCtx}
 use Rattle.definition_log.specs.meaning.Contents.{Span, Value, Def}
-use Rattle.making.specs.declared.place.PathAt.{PathAt}
+use Rattle.making.specs.declared.place.PathAt.TheVariants as P
 use Rattle.definition_log.specs.declared.parts.Span as declared
 use Rattle.definition_log.specs.meaning.Record.{kind_of, name_start, name_end, log_count}
 use Rattle.definition_log.specs.meaning.ReadBack.{chain_from, chain_of, name_span_at, def_value_at, def_at, read_defs}
@@ -81,15 +81,13 @@ code_none c words bytes rs code n span e z =
     let q : n ≡ 0 = sym e ∙ z in
     rw q (reports_none c words bytes rs)
 
-pub no_text : (used : ℕ) (bytes : List ℕ) → path_in used bytes (record { root = false; start = 0; size = 0 }) ≡ []
+pub no_text : (used : ℕ) (bytes : List ℕ) → path_in used bytes (P.Bytes 0 0) ≡ []
 unfolding path_of settled
-no_text used bytes =
-    let p : PathAt = record { root = false; start = 0; size = 0 } in
-    by_test (stands used bytes p) (λ t. rw t refl) (λ t. rw t refl)
+no_text used bytes = by_test (stands used bytes 0 0) (λ t. rw t refl) (λ t. rw t refl)
 
 pub code_one : {c d : LowerCtx} {words bytes w b : List ℕ} (rs : List ℕ) (code n : ℕ) (sp : declared.Span) (span : Span) → code ≡ n
     → (code ≡ 0 → ⊥) → meant sp ≡ span
-    → Steps c d words bytes w b (emit (diag_made code (path_in c.bytes bytes (record { root = false; start = 0; size = 0 })) sp
+    → Steps c d words bytes w b (emit (diag_made code (path_in c.bytes bytes (P.Bytes 0 0)) sp
     (record { from = 0; to = 0 }) ∷ []))
     → Keeps c d words bytes w b → Reports c d words bytes w b rs (code_report n span)
 unfolding code_report

@@ -202,12 +202,7 @@ fn check_directive(
     }
     let span = name_span_of(out, r);
     let none = Span { from: 0, to: 0 };
-    let empty = PathAt {
-        root: false,
-        start: 0,
-        size: 0,
-    };
-    ctx.emit_copied(out, bytes, code, span, none, empty)
+    ctx.emit_copied(out, bytes, code, span, none, PathAt::EMPTY)
 }
 
 // The code that a definition of a kind reports, 0 for none.

@@ -1,7 +1,8 @@
 -- A property made before its values.
-use Rattle.std.specs.Prelude.{ℕ, Bool, false, cond, List, [], eqb}
+use Rattle.std.specs.Prelude.{ℕ, Bool, false, List, [], eqb}
 use Rattle.paths_numbers.specs.meaning.Path.{joined}
 use Rattle.making.specs.declared.place.PathAt.{PathAt}
+use Rattle.making.specs.declared.place.PathAt.TheVariants as P
 use Rattle.definition_log.specs.meaning.Contents.{property, Def}
 use Rattle.input.specs.meaning.Name.{property_name_span}
 use Rattle.input.specs.meaning.Input.{child_at, span_at, chain_at}
@@ -10,7 +11,8 @@ use Rattle.input.specs.declared.name.FullName.{FullName}
 
 -- whether a place is that of the empty path
 abbrev pub is_top : PathAt → Bool
-is_top p = cond p.root false (eqb p.size 0)
+is_top P.Root = false
+is_top (P.Bytes start size) = eqb size 0
 
 -- the property of record r with a name under a path, without values
 unfoldable pub property_at : List ℕ → List ℕ → ℕ → FullName → List ℕ → Def

@@ -2,6 +2,7 @@
 use Rattle.std.specs.Prelude.{ℕ, ◌≡◌, Bool, true, false, not, cond, List, [], ◌∷◌, eqb, leb}
 use Rattle.making.specs.declared.ctx.LowerCtx.{LowerCtx}
 use Rattle.making.specs.declared.place.PathAt.{PathAt}
+use Rattle.making.specs.declared.place.PathAt.TheVariants as P
 use Rattle.paths_numbers.specs.meaning.Code.{version_late, plugin_misplaced, before_version}
 use Rattle.paths_numbers.specs.meaning.Text.{same}
 use Rattle.definition_log.specs.meaning.Contents.{Span, Binding, Diag}
@@ -66,7 +67,7 @@ label_reports b before later = cond (any (again b false) before) [] (duplicates_
 
 -- the place of a text in the bytes
 abbrev pub text_place : ℕ → ℕ → PathAt
-text_place start size = record { root = false; start = start; size = size }
+text_place start size = P.Bytes start size
 
 -- references: the definitions and bindings by which they lead, as words and bytes say them
 unfoldable pub said : LowerCtx → List ℕ → List ℕ → State
