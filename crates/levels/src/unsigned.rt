@@ -65,6 +65,7 @@ fn infix_unsigned(op: u32, a: u64, b: u64) -> Result<u64, EvalError>
 }
 
 // The infix operators whose result is a truth.
+// kept: one table for u64 and i64 would be handed the order, the test of 0 and the definition of each type: more than these lines.
 #[tactic(auto, unfolding(crate::specs::meaning::Unsigned::unsigned_relation))]
 fn relation_unsigned(op: u32, a: u64, b: u64) -> Result<u64, EvalError>
     ensures { told eval_code result ≡ unsigned_relation op a b }
