@@ -62,8 +62,7 @@ impl Chain {
 // short. Bindings and diagnostics are in one chain each for all logs. `part` is the last label or
 // value of the newest definition and `cell` the last cell of that value, 0 where there is none.
 // kept: `short` is a flag and no Result, since an operation that could not fail still cannot
-// kept: `words` and `bytes` stand beside it, since a struct with both `&mut` would need a clause on
-// its references in every function
+// kept: `words` and `bytes` stand beside it: a struct that holds both `&mut` needs a clause on them in every function
 #[derive(Clone, Copy)]
 pub struct LowerCtx {
     pub records: u32,
