@@ -4,7 +4,8 @@ ghost use Rattle.paths_numbers.specs.meaning.Text.{written};
 ghost use Rattle.definition_log.specs.meaning.Record.{log_count, most_bytes};
 ghost use Rattle.making.specs.machine.Removed.{without};
 ghost use Rattle.making.specs.machine.Texts.{text_said};
-ghost use Rattle.making.specs.machine.Made.{start_at, sixteen, set_link, has_room, makes, ran_short, one_more, end_link, grown, Told, ToldBytes};
+ghost use Rattle.making.specs.machine.Made.{start_at, sixteen, set_link, has_room, makes, ran_short, one_more, end_link, grown};
+ghost use Rattle.making.specs.machine.Made.{Told, ToldBytes};
 
 use crate::text::Text;
 use definition_log::layout::{NEXT_AT, RECORD_WORDS};
