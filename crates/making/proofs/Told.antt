@@ -91,11 +91,11 @@ makes_cut c words bytes n size link e =
     rw (x, y) refl)
 
 -- a test that the code turns round
-pub not_true : (t : Bool) → not t ≡ true → t ≡ false
+not_true : (t : Bool) → not t ≡ true → t ≡ false
 not_true true e = sym e
 not_true false e = refl
 
-pub not_false : (t : Bool) → not t ≡ false → t ≡ true
+not_false : (t : Bool) → not t ≡ false → t ≡ true
 not_false true e = refl
 not_false false e = sym e
 

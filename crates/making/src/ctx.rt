@@ -4,7 +4,8 @@ ghost use Rattle.paths_numbers.specs.meaning.Text.{written};
 ghost use Rattle.definition_log.specs.meaning.Record.{log_count, most_bytes};
 ghost use Rattle.making.specs.machine.Removed.{without};
 ghost use Rattle.making.specs.machine.Texts.{text_said};
-ghost use Rattle.making.specs.machine.Made.{start_at, sixteen, set_link, has_room, makes, ran_short, one_more, end_link, grown, Told, ToldBytes};
+ghost use Rattle.making.specs.machine.Made.{start_at, sixteen, set_link, has_room, makes, ran_short, one_more, end_link, grown};
+ghost use Rattle.making.specs.machine.Made.{Told, ToldBytes};
 
 use crate::text::Text;
 use definition_log::layout::{NEXT_AT, RECORD_WORDS};
@@ -62,8 +63,7 @@ impl Chain {
 // short. Bindings and diagnostics are in one chain each for all logs. `part` is the last label or
 // value of the newest definition and `cell` the last cell of that value, 0 where there is none.
 // kept: `short` is a flag and no Result, since an operation that could not fail still cannot
-// kept: `words` and `bytes` stand beside it, since a struct with both `&mut` would need a clause on
-// its references in every function
+// kept: `words` and `bytes` stand beside it: a struct that holds both `&mut` needs a clause on them in every function
 #[derive(Clone, Copy)]
 pub struct LowerCtx {
     pub records: u32,
