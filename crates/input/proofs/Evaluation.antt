@@ -39,7 +39,8 @@ pub failure_passes : (words text : List ℕ) (e : Result ℤ Report) (d : Report
 failure_passes words text e d f h = rw h refl
 
 -- and its value the operation's
-pub value_passes : (words text : List ℕ) (e : Result ℤ Report) (z : ℤ) (o : Outcome ℤ) → e ≡ Ok z → outcome_of words text e ≡ o → value z ≡ o
+pub value_passes : (words text : List ℕ) (e : Result ℤ Report) (z : ℤ) (o : Outcome ℤ) → e ≡ Ok z → outcome_of words text e ≡ o
+    → value z ≡ o
 value_passes words text e z o h q = ap (outcome_of words text) (sym h) ∙ q
 
 -- a result that there is not has a code, where the operator is not missing
