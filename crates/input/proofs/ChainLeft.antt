@@ -41,7 +41,8 @@ module _ (words : List ℕ) (l : Linked words) where
       sym (numbers_same (suc (record_count words)) (record_count words) words (suc r) l (λ z. a) (λ z. omega arith) (λ z. omega arith))
 
   -- the trees of a chain's records are the chain
-  trees_to : (f : ℕ) (text : List ℕ) (r : ℕ) → At words r → Enough f words r → trees_of words text (numbers_at f words r) ≡ chain_at words text r
+  trees_to : (f : ℕ) (text : List ℕ) (r : ℕ) → At words r → Enough f words r
+      → trees_of words text (numbers_at f words r) ≡ chain_at words text r
   unfolding numbers_at
   trees_to zero text zero a e = sym (chain_none words text)
   trees_to zero text (suc r) a e = absurd (omega (arith, a (λ z. omega arith), e (λ z. omega arith)))

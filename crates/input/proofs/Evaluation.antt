@@ -35,7 +35,8 @@ pub failure_passes : (words text : List ℕ) (e : Result ℤ Report) (d : Report
 failure_passes words text e d f h = rw h refl
 
 -- and its value the operation's
-pub value_passes : (words text : List ℕ) (e : Result ℤ Report) (z : ℤ) (o : Outcome ℤ) → e ≡ Ok z → outcome_of words text e ≡ o → value z ≡ o
+pub value_passes : (words text : List ℕ) (e : Result ℤ Report) (z : ℤ) (o : Outcome ℤ) → e ≡ Ok z → outcome_of words text e ≡ o
+    → value z ≡ o
 value_passes words text e z o h q = ap (outcome_of words text) (sym h) ∙ q
 
 -- what is reported of a failure is what its code says

@@ -151,7 +151,8 @@ module _ (words text : List ℕ) where
   unfolding full_read
   named_addressed f u e h = rw e (go f.name u h)
     where
-      go : (n u : Result ℕ Report) → is_ok n ≡ true → is_ok u ≡ is_there (with_unit_read words text (name_read words text n) (Some u)).result
+      go : (n u : Result ℕ Report) → is_ok n ≡ true
+          → is_ok u ≡ is_there (with_unit_read words text (name_read words text n) (Some u)).result
       go (Ok n) (Ok u) k = refl
       go (Ok n) (Err d) k = refl
       go (Err d) u k = absurd (not_both {t = false} k refl)

@@ -35,9 +35,13 @@ any_contains k (x ∷ l) =
 lowest_found : (test : ℕ → Bool) (n a : ℕ) → found_in (find test (range_with_len a n)) ≡ lowest test n a
 unfolding lowest
 lowest_found test zero a = refl
-lowest_found test (suc n) a = by_test (test a) (λ q. rw q refl) (λ q. rw q (ap (λ k. found_in (find test (range_with_len k n))) (add-one a) ∙ lowest_found test n (suc a)))
+lowest_found test (suc n) a =
+    by_test (test a)
+    (λ q. rw q refl)
+    (λ q. rw q (ap (λ k. found_in (find test (range_with_len k n))) (add-one a) ∙ lowest_found test n (suc a)))
 
-pub lowest_search : (test : ℕ → Bool) (n : ℕ) (o : Maybe ℕ) → option_map (λ x. x) o ≡ find test (range_with_len 0 n) → found_in o ≡ lowest test n 0
+pub lowest_search : (test : ℕ → Bool) (n : ℕ) (o : Maybe ℕ) → option_map (λ x. x) o ≡ find test (range_with_len 0 n)
+    → found_in o ≡ lowest test n 0
 lowest_search test n o e = ap found_in (sym (mapped o) ∙ e) ∙ lowest_found test n 0
   where
     mapped : (o : Maybe ℕ) → option_map (λ (x : ℕ). x) o ≡ o

@@ -134,7 +134,8 @@ impl Input<'_> {
         level: u32,
     ) -> Result<i64, Report>
         requires record_in { RecordIn self.words.now self.text.now y nesting }
-        ensures { outcome_of self.entry.words.now self.entry.text.now result ≡ applied (rules_at level) op (span_at self.entry.words.now r) a
+        ensures { outcome_of self.entry.words.now self.entry.text.now result
+            ≡ applied (rules_at level) op (span_at self.entry.words.now r) a
             (eval (rules_at level) (record_at self.entry.words.now self.entry.text.now y)) }
     {
         if first_decides(op, a) {
@@ -163,11 +164,7 @@ fn first_decides(op: u32, a: i64) -> bool
 fn is_logical(op: u32) -> bool
     ensures { result ≡ is_logical op }
 {
-    match op {
-        AND => true,
-        OR => true,
-        _ => false,
-    }
+    op == AND || op == OR
 }
 
 // A value that was made at record r, or what is reported where there is none: nothing of a failure without a code.

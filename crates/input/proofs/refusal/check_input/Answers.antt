@@ -14,7 +14,8 @@ returns-then-wrong_size c =
 pub first_bad_links-requires : goal.first_bad_links-requires
 first_bad_links-requires c =
     let a = c.args in
-    let z = sizes a.words.now a.text.now (sym c.wrong_size.ensures ∙ c.if-wrong_size.false) in record { words_bound = z.most; marks = marks_start a.words.now _ 2048 refl z.most }
+    let z = sizes a.words.now a.text.now (sym c.wrong_size.ensures ∙ c.if-wrong_size.false) in
+    record { words_bound = z.most; marks = marks_start a.words.now _ 2048 refl z.most }
 
 pub check_linked-requires : goal.check_linked-requires
 check_linked-requires c = record {

@@ -97,8 +97,8 @@ eval_first-returns t c =
 
 pub eval_binary-returns-then-y-eq0 : goal.eval_binary-returns-then-y-eq0
 eval_binary-returns-then-y-eq0 t c =
-    infix_short c.args.level c.args.self.words.now c.args.self.text.now c.args.self.linked c.args.op (span_at c.args.self.words.now c.args.r)
-    c.args.x _ c.after-y.ensures c.requires.chain_in.at c.if-y-eq0.true
+    infix_short c.args.level c.args.self.words.now c.args.self.text.now c.args.self.linked c.args.op
+    (span_at c.args.self.words.now c.args.r) c.args.x _ c.after-y.ensures c.requires.chain_in.at c.if-y-eq0.true
 
 pub eval_binary-eval-requires : goal.eval_binary-eval-requires
 eval_binary-eval-requires t c = (

@@ -10,4 +10,5 @@ use Rattle.input.proofs.linked.Input.first_of.Given as goal
 abbrev pub invariant-loop-r : goal.invariant-loop-r
 invariant-loop-r l =
     AreRecords l.self.words.now (chain_left l.r-iterator)
-    × ((text : List ℕ) → first_of l.kind (chain_at l.self.words.now text l.first) ≡ first_of l.kind (trees_of l.self.words.now text (chain_left l.r-iterator)))
+    × ((text : List ℕ) → first_of l.kind (chain_at l.self.words.now text l.first)
+    ≡ first_of l.kind (trees_of l.self.words.now text (chain_left l.r-iterator)))
