@@ -14,6 +14,7 @@ use definition_log::answer::{Answer, REFUSED_FILES, REFUSED_LEVEL, REFUSED_ROOM,
 use file_words::file_words::put_files;
 use files::files::good_files;
 use input::limits::MOST_LINKS;
+use input::linked::Input;
 use input::record::child_at;
 use input::refusal::{Checked, check_input};
 use levels::level::is_level;
@@ -50,22 +51,21 @@ pub fn lower(
             number: cause,
             returned: r,
         },
-        Checked::Accepted => lower_accepted(words, text, level, starts, out, bytes),
+        Checked::Accepted => lower_accepted(Input { words, text }, level, starts, out, bytes),
     }
 }
 
 // Lowers an accepted input, if the files' starts are good.
 fn lower_accepted(
-    words: &[u32],
-    text: &[u8],
+    input: Input<'_>,
     level: u32,
     starts: &[u32],
     out: &mut [u32],
     bytes: &mut [u8],
 ) -> Answer
     requires level_value { is_level level ≡ true }
-    requires text_value { verdict words.now text.now ≡ accepted }
-    ensures { Lowered level starts.now words.now text.now out.old
+    requires text_value { verdict input.words.now input.text.now ≡ accepted }
+    ensures { Lowered level starts.now input.entry.words.now input.entry.text.now out.old
         bytes.old (told result)
         out.new
         bytes.new }
@@ -76,27 +76,26 @@ fn lower_accepted(
             returned: 0,
         };
     }
-    lower_files(words, text, level, starts, out, bytes)
+    lower_files(input, level, starts, out, bytes)
 }
 
 // Lowers an accepted input of these files. A log that does not fit is cleared away, by row 7.
 fn lower_files(
-    words: &[u32],
-    text: &[u8],
+    input: Input<'_>,
     level: u32,
     starts: &[u32],
     out: &mut [u32],
     bytes: &mut [u8],
 ) -> Answer
     requires level_value { is_level level ≡ true }
-    requires text_value { verdict words.now text.now ≡ accepted }
+    requires text_value { verdict input.words.now input.text.now ≡ accepted }
     requires starts_value { good_files starts.now ≡ true }
-    ensures { Lowered level starts.now words.now text.now out.old
+    ensures { Lowered level starts.now input.entry.words.now input.entry.text.now out.old
         bytes.old (told result)
         out.new
         bytes.new }
 {
-    let lowered = lower_top(words, text, level, out, bytes);
+    let lowered = lower_top(input, level, out, bytes);
     let reported = lowered.diags.first;
     let checked = check_mir_post(out, bytes, lowered.start_checks());
     if checked.short {
@@ -115,17 +114,17 @@ fn lower_files(
 }
 
 // Lowers the top items of an accepted input, whose parent path is empty, from an empty log on.
-fn lower_top(words: &[u32], text: &[u8], level: u32, out: &mut [u32], bytes: &mut [u8]) -> LowerCtx
-    requires { verdict words.now text.now ≡ accepted }
-    ensures { Represents at_start result out.new bytes.new (meaning level words.now
-        text.now) }
+fn lower_top(input: Input<'_>, level: u32, out: &mut [u32], bytes: &mut [u8]) -> LowerCtx
+    requires { verdict input.words.now input.text.now ≡ accepted }
+    ensures { Represents at_start result out.new bytes.new (meaning level input.entry.words.now
+        input.entry.text.now) }
 {
     let ctx = start(out, bytes);
-    let first = child_at(words, 0);
+    let first = child_at(input.words, 0);
     let top = PathAt {
         root: false,
         start: 0,
         size: 0,
     };
-    lower_items(words, text, first, top, MOST_LINKS, out, bytes, ctx, level)
+    lower_items(input, first, top, MOST_LINKS, out, bytes, ctx, level)
 }
