@@ -169,7 +169,8 @@ pub fn place_by_name(
     requires r_value { good_names_in (parts_at input.words.now input.text.now r) ≡ true }
     ensures { PlacesAt parent ctx out.old bytes.old out.new bytes.new input.entry.words.now
         input.entry.text.now r (λ p. by_name p (parts_at input.entry.words.now input.entry.text.now r)
-        (node_name_at input.entry.words.now input.entry.text.now r) (full_name (parts_at input.entry.words.now input.entry.text.now r)).reports
+        (node_name_at input.entry.words.now input.entry.text.now r)
+        (full_name (parts_at input.entry.words.now input.entry.text.now r)).reports
         (full_name (parts_at input.entry.words.now input.entry.text.now r)).result) result }
 {
     let parts = child_at(input.words, r);

@@ -14,7 +14,8 @@ use making::ctx::LowerCtx;
 use making::place::PathAt;
 use paths_numbers::text::equals;
 use queries::definition::goes_on;
-use queries::mir::{unbinds, unbinds_path};
+use queries::mir::unbinds;
+use queries::path::Joined;
 use resolving::resolve::first_with;
 
 // The path of a deletion: of a name below a place, that of a place, the name itself, a binding's path, or of
@@ -143,16 +144,11 @@ pub fn goes_with(
         Base::There(place) => unbinds_there(ctx, out, bytes, place, label, path),
         Base::Given => unbinds(out, bytes, defs, name, label, path),
         Base::Bound(b) => unbinds(out, bytes, defs, second_text(out, bytes, b), label, path),
-        Base::BoundPath(b) => unbinds_path(
-            out,
-            bytes,
-            defs,
-            second_text(out, bytes, b),
-            name,
-            unit,
-            label,
-            path,
-        ),
+        Base::BoundPath(b) => {
+            let parent = second_text(out, bytes, b);
+            let below = Joined { parent, name, unit };
+            unbinds(out, bytes, defs, below, label, path)
+        }
     }
 }
 
@@ -172,7 +168,14 @@ fn unbinds_named(
         (read_defs out.now bytes.now ctx.defs.first)) }
 {
     let parent = place.text(ctx.bytes, bytes);
-    unbinds_path(out, bytes, ctx.defs.first, parent, name, unit, label, path)
+    unbinds(
+        out,
+        bytes,
+        ctx.defs.first,
+        Joined { parent, name, unit },
+        label,
+        path,
+    )
 }
 
 // The same where the base is the path of a place.

@@ -10,12 +10,13 @@ ghost use Rattle.input.specs.meaning.Rows.{accepted, verdict};
 ghost use Rattle.lowering.specs.meaning.Lowered.{meaning, Lowered};
 
 use crate::lower_item::lower_items;
-use definition_log::answer::{Answer, REFUSED_FILES, REFUSED_LEVEL, REFUSED_ROOM, SUCCESS};
+use definition_log::answer::Refusal;
 use file_words::file_words::put_files;
 use files::files::good_files;
 use input::limits::MOST_LINKS;
+use input::linked::Input;
 use input::record::child_at;
-use input::refusal::{Checked, check_input};
+use input::refusal::check_input;
 use levels::level::is_level;
 use making::ctx::LowerCtx;
 use making::place::PathAt;
@@ -32,7 +33,7 @@ pub fn lower(
     starts: &[u32],
     out: &mut [u32],
     bytes: &mut [u8],
-) -> Answer
+) -> Result<u32, Refusal>
     ensures lowered { Lowered level starts.now words.now text.now out.old
         bytes.old (told result)
         out.new
@@ -40,87 +41,68 @@ pub fn lower(
     ensures words32 { Words32 out.new }
 {
     if !is_level(level) {
-        return Answer {
-            number: REFUSED_LEVEL,
-            returned: 0,
-        };
+        return Err(Refusal::Level);
     }
-    match check_input(words, text) {
-        Checked::Refused(cause, r) => Answer {
-            number: cause,
-            returned: r,
-        },
-        Checked::Accepted => lower_accepted(words, text, level, starts, out, bytes),
-    }
+    check_input(words, text)?;
+    lower_accepted(Input { words, text }, level, starts, out, bytes)
 }
 
 // Lowers an accepted input, if the files' starts are good.
 fn lower_accepted(
-    words: &[u32],
-    text: &[u8],
+    input: Input<'_>,
     level: u32,
     starts: &[u32],
     out: &mut [u32],
     bytes: &mut [u8],
-) -> Answer
+) -> Result<u32, Refusal>
     requires level_value { is_level level ≡ true }
-    requires text_value { verdict words.now text.now ≡ accepted }
-    ensures { Lowered level starts.now words.now text.now out.old
+    requires text_value { verdict input.words.now input.text.now ≡ accepted }
+    ensures { Lowered level starts.now input.entry.words.now input.entry.text.now out.old
         bytes.old (told result)
         out.new
         bytes.new }
 {
     if !good_files(starts) {
-        return Answer {
-            number: REFUSED_FILES,
-            returned: 0,
-        };
+        return Err(Refusal::Files);
     }
-    lower_files(words, text, level, starts, out, bytes)
+    lower_files(input, level, starts, out, bytes)
 }
 
 // Lowers an accepted input of these files. A log that does not fit is cleared away, by row 7.
 fn lower_files(
-    words: &[u32],
-    text: &[u8],
+    input: Input<'_>,
     level: u32,
     starts: &[u32],
     out: &mut [u32],
     bytes: &mut [u8],
-) -> Answer
+) -> Result<u32, Refusal>
     requires level_value { is_level level ≡ true }
-    requires text_value { verdict words.now text.now ≡ accepted }
+    requires text_value { verdict input.words.now input.text.now ≡ accepted }
     requires starts_value { good_files starts.now ≡ true }
-    ensures { Lowered level starts.now words.now text.now out.old
+    ensures { Lowered level starts.now input.entry.words.now input.entry.text.now out.old
         bytes.old (told result)
         out.new
         bytes.new }
 {
-    let lowered = lower_top(words, text, level, out, bytes);
+    let lowered = lower_top(input, level, out, bytes);
     let reported = lowered.diags.first;
     let checked = check_mir_post(out, bytes, lowered.start_checks());
     if checked.short {
         clear(out, bytes);
-        return Answer {
-            number: REFUSED_ROOM,
-            returned: 0,
-        };
+        return Err(Refusal::Room);
     }
     checked.finish(out, reported);
     put_files(out, checked.records, starts);
-    Answer {
-        number: SUCCESS,
-        returned: 0,
-    }
+    Ok(0)
 }
 
 // Lowers the top items of an accepted input, whose parent path is empty, from an empty log on.
-fn lower_top(words: &[u32], text: &[u8], level: u32, out: &mut [u32], bytes: &mut [u8]) -> LowerCtx
-    requires { verdict words.now text.now ≡ accepted }
-    ensures { Represents at_start result out.new bytes.new (meaning level words.now
-        text.now) }
+fn lower_top(input: Input<'_>, level: u32, out: &mut [u32], bytes: &mut [u8]) -> LowerCtx
+    requires { verdict input.words.now input.text.now ≡ accepted }
+    ensures { Represents at_start result out.new bytes.new (meaning level input.entry.words.now
+        input.entry.text.now) }
 {
     let ctx = start(out, bytes);
-    let first = child_at(words, 0);
-    lower_items(words, text, first, top, MOST_LINKS, out, bytes, ctx, level)
+    let first = child_at(input.words, 0);
+    lower_items(input, first, PathAt::EMPTY, MOST_LINKS, out, bytes, ctx, level)
 }

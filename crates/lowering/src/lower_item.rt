@@ -6,11 +6,12 @@ ghost use Rattle.items.specs.meaning.Lower.{lower_node, lower_item, lower_items}
 ghost use Rattle.input.specs.meaning.Input.{second_at, span_at, chain_at, parts_at};
 ghost use Rattle.input.specs.machine.At.{record_at, contents_at};
 ghost use Rattle.input.specs.meaning.GoodName.{good_names, good_names_in};
-ghost use Rattle.input.specs.machine.Linked.{Linked, RecordIn, ChainIn};
+ghost use Rattle.input.specs.machine.Linked.{RecordIn, ChainIn};
 ghost use Rattle.resolving.specs.machine.Lowers.{LowersAt};
 ghost use Rattle.items.specs.machine.NodeLowered.{LowersApart};
 
 use input::kinds::{DIRECTIVE, NODE, PREPROCESSOR, PROPERTY};
+use input::linked::Input;
 use input::record::{kind_at, next_at, second_at};
 use items::dt_node::{NodePlace, place_node, settle_aside};
 use items::dt_property::lower_dt_property;
@@ -64,19 +65,13 @@ fn lower_item(
         (λ p s. lower_item level (record_at input.entry.words.now input.entry.text.now r) p s) }
 {
     let kind = kind_at(input.words, r);
-    if kind == NODE {
-        return lower_dt_node(input, r, parent, nesting, out, bytes, ctx, level);
+    match kind {
+        NODE => lower_dt_node(input, r, parent, nesting, out, bytes, ctx, level),
+        PROPERTY => lower_dt_property(input, r, parent, nesting, out, bytes, ctx, level),
+        DIRECTIVE => handle_dts_directive(input, r, parent, out, bytes, ctx),
+        PREPROCESSOR => emit_code(input.words, codes::PREPROCESSOR, r, out, bytes, ctx),
+        _ => ctx,
     }
-    if kind == PROPERTY {
-        return lower_dt_property(input, r, parent, nesting, out, bytes, ctx, level);
-    }
-    if kind == DIRECTIVE {
-        return handle_dts_directive(input, r, parent, out, bytes, ctx);
-    }
-    if kind == PREPROCESSOR {
-        return emit_code(input.words, codes::PREPROCESSOR, r, out, bytes, ctx);
-    }
-    ctx
 }
 
 // Lowers a node: where it goes, and then its body. A state that ran short stays as it is.
@@ -101,24 +96,26 @@ fn lower_dt_node(
         return ctx;
     }
     let placed = place_node(input, r, parent, out, bytes, ctx);
-    let node = placed.node;
     let made = placed.ctx;
-    match node {
+    match placed.node {
         NodePlace::At(place) => {
             let first = second_at(input.words, r);
-            lower_items(
-                input, first,
-                place,
-                nesting - 1,
-                out,
-                bytes,
-                made,
-                level,
-            )
+            lower_items(input, first, place, nesting - 1, out, bytes, made, level)
         }
         NodePlace::Aside(phandle, kind, keeps) => {
             let body = lower_apart(input, r, keeps, nesting - 1, out, bytes, made, level);
-            settle_aside(input.words, input.text, r, phandle, kind, keeps, out, bytes, body, made)
+            settle_aside(
+                input.words,
+                input.text,
+                r,
+                phandle,
+                kind,
+                keeps,
+                out,
+                bytes,
+                body,
+                made,
+            )
         }
         NodePlace::Discarded => {
             let body = lower_apart(input, r, false, nesting - 1, out, bytes, made, level);
@@ -147,10 +144,5 @@ fn lower_apart(
 {
     let inner = ctx.enter(keeps);
     let first = second_at(input.words, r);
-    let root = PathAt {
-        root: true,
-        start: 0,
-        size: 0,
-    };
-    lower_items(input, first, root, nesting, out, bytes, inner, level)
+    lower_items(input, first, PathAt::Root, nesting, out, bytes, inner, level)
 }

@@ -2,12 +2,18 @@
 -- lent slice.
 use mathlib.Core.Path.{refl, sym, ap, ◌∙◌}
 use Rattle.input.specs.meaning.RowsAnswer.{told}
+use Rattle.input.proofs.Rows.{accepted_linked}
 use Rattle.lowering.specs.meaning.Lowered.{no_level, turned_down}
 use borrow.Author.Tests.{not-true, not-false}
 use Rattle.lowering.proofs.lower.lower.Goals as goal
 
 pub returns-then-not-is_level : goal.returns-then-not-is_level
 returns-then-not-is_level c = record { lowered = no_level (sym c.is_level.ensures ∙ not-true _ c.if-not-is_level.true-raw) refl refl refl; words32 = record { below = λ i. (c.slice_known-1.given i).fits } }
+
+pub invariant_of-lower_accepted : goal.invariant_of-lower_accepted
+invariant_of-lower_accepted c =
+    let a = c.args in
+    record { linked = accepted_linked a.words.now a.text.now (sym c.check_input.ensures ∙ ap told c.in-Accepted.is) }
 
 pub lower_accepted-requires : goal.lower_accepted-requires
 lower_accepted-requires c = record {

@@ -9,7 +9,7 @@ returns-then-checked c =
     let s = c in
     let made = c.lower_top-lowered in
     let checks = c.check_mir_post-checked in
-    lowered_short s.args.level s.args.starts.now s.args.words.now s.args.text.now made.ensures
+    lowered_short s.args.level s.args.starts.now s.args.input.words.now s.args.input.text.now made.ensures
     c.start_checks.ensures
     checks.ensures s.requires.level_value s.requires.text_value s.requires.starts_value
     (checks.auto.out ∙ made.auto.out)
@@ -21,7 +21,7 @@ put_files-requires c =
     let s = c in
     let made = c.lower_top-lowered in
     let checks = c.check_mir_post-checked in record {
-      record_words_in_bounds = made_within s.args.level s.args.starts.now s.args.words.now s.args.text.now made.ensures
+      record_words_in_bounds = made_within s.args.level s.args.starts.now s.args.input.words.now s.args.input.text.now made.ensures
           c.start_checks.ensures checks.ensures c.if-checked.false c.finish.ensures;
       starts_len_bound = good_few s.args.starts.now s.requires.starts_value;
     }
@@ -31,7 +31,7 @@ returns c =
     let s = c in
     let made = c.lower_top-lowered in
     let checks = c.check_mir_post-checked in
-    lowered_done s.args.level s.args.starts.now s.args.words.now s.args.text.now made.ensures
+    lowered_done s.args.level s.args.starts.now s.args.input.words.now s.args.input.text.now made.ensures
     c.start_checks.ensures checks.ensures
     s.requires.level_value s.requires.text_value s.requires.starts_value
     (checks.auto.out ∙ made.auto.out)

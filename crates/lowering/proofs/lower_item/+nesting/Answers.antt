@@ -15,7 +15,7 @@ use Prim.Native.Nat.{ℕ, ◌<◌}
 use Rattle.lowering.proofs.lower_item.+nesting.Goals as goal
 
 pub lower_apart-lower_items-requires : goal.lower_apart-lower_items-requires
-lower_apart-lower_items-requires t c = let s = c in let e = c.second_at-first.ensures in (omega arith, (s.args.input.linked, (rw e s.requires.chain_in, rw e s.requires.r_value)))
+lower_apart-lower_items-requires t c = let s = c in let e = c.second_at-first.ensures in (omega arith, (rw e s.requires.chain_in, rw e s.requires.r_value))
 
 pub lower_apart-returns : goal.lower_apart-returns
 lower_apart-returns t c = enters_apart _ refl c.enter-inner.ensures
@@ -36,7 +36,7 @@ pub lower_dt_node-lower_items-requires : goal.lower_dt_node-lower_items-requires
 lower_dt_node-lower_items-requires t c = let s = c in let e = c.second_at-first.ensures in (
   omega
       (arith, some_nesting _ _ s.args.input.linked _ _ s.requires.record_in),
-  (s.args.input.linked, (rw e (second_in _ _ s.args.input.linked _ _ s.requires.record_in), rw e (body_good _ _ _ s.requires.r_value))),
+  (rw e (second_in _ _ s.args.input.linked _ _ s.requires.record_in), rw e (body_good _ _ _ s.requires.r_value)),
 )
 
 pub lower_dt_node-overflow_sub-nesting-in-Aside : goal.lower_dt_node-overflow_sub-nesting-in-Aside
@@ -45,7 +45,7 @@ lower_dt_node-overflow_sub-nesting-in-Aside t c = let s = c in omega (arith, som
 pub lower_dt_node-lower_apart-body-requires : goal.lower_dt_node-lower_apart-body-requires
 lower_dt_node-lower_apart-body-requires t c = let s = c in (
   omega (arith, some_nesting _ _ s.args.input.linked _ _ s.requires.record_in),
-  (s.args.input.linked, (second_in _ _ s.args.input.linked _ _ s.requires.record_in, body_good _ _ _ s.requires.r_value)),
+  (second_in _ _ s.args.input.linked _ _ s.requires.record_in, body_good _ _ _ s.requires.r_value),
 )
 
 pub lower_dt_node-overflow_sub-nesting-in-Discarded : goal.lower_dt_node-overflow_sub-nesting-in-Discarded
@@ -54,7 +54,7 @@ lower_dt_node-overflow_sub-nesting-in-Discarded t c = let s = c in omega (arith,
 pub lower_dt_node-lower_apart-body-requires-in-Discarded : goal.lower_dt_node-lower_apart-body-requires-in-Discarded
 lower_dt_node-lower_apart-body-requires-in-Discarded t c = let s = c in (
   omega (arith, some_nesting _ _ s.args.input.linked _ _ s.requires.record_in),
-  (s.args.input.linked, (second_in _ _ s.args.input.linked _ _ s.requires.record_in, body_good _ _ _ s.requires.r_value)),
+  (second_in _ _ s.args.input.linked _ _ s.requires.record_in, body_good _ _ _ s.requires.r_value),
 )
 
 pub lower_dt_node-returns-in-At : goal.lower_dt_node-returns-in-At
@@ -92,45 +92,42 @@ lower_dt_node-returns-in-Nowhere t c = let s = c in node_nowhere (λ q u. lower_
     c.place_node-placed.ensures c.in-Nowhere.is
 
 pub lower_item-lower_dt_node-requires : goal.lower_item-lower_dt_node-requires
-lower_item-lower_dt_node-requires t c = let s = c in (omega arith, (s.args.input.linked, (s.requires.record_in, s.requires.r_value)))
+lower_item-lower_dt_node-requires t c = let s = c in (omega arith, (s.requires.record_in, s.requires.r_value))
 
-pub lower_item-returns-then-kind-eq-NODE : goal.lower_item-returns-then-kind-eq-NODE
-lower_item-returns-then-kind-eq-NODE t c = let a = c.args in is_node_lem
-    a.level a.input.words.now a.input.text.now a.r
-    (sym c.kind_at-kind.ensures
-    ∙ c.if-kind-eq-NODE.true) c.lower_dt_node.ensures
+pub lower_item-returns-in-1 : goal.lower_item-returns-in-1
+lower_item-returns-in-1 t c = let a = c.args in
+    is_node_lem a.level a.input.words.now a.input.text.now a.r (sym c.kind_at-kind.ensures ∙ c.in-1.is) c.lower_dt_node.ensures
 
 pub lower_item-lower_dt_property-requires : goal.lower_item-lower_dt_property-requires
-lower_item-lower_dt_property-requires t c = let s = c in record { record_in = s.requires.record_in; r_value = parts_good _ _ _ s.requires.r_value }
+lower_item-lower_dt_property-requires t c = let s = c in record {
+  record_in = s.requires.record_in;
+  r_value = parts_good _ _ _ s.requires.r_value;
+}
 
-pub lower_item-returns-then-kind-eq-PROPERTY : goal.lower_item-returns-then-kind-eq-PROPERTY
-lower_item-returns-then-kind-eq-PROPERTY t c = let a = c.args in let k = c.kind_at-kind.ensures in is_property_lem
-    a.level a.input.words.now a.input.text.now a.r
-    (λ e. c.if-kind-eq-NODE.false (k ∙ e))
-    (sym k ∙ c.if-kind-eq-PROPERTY.true)
-    c.lower_dt_property.ensures
+pub lower_item-returns-in-2 : goal.lower_item-returns-in-2
+lower_item-returns-in-2 t c = let a = c.args in
+    is_property_lem a.level a.input.words.now a.input.text.now a.r (λ e. omega arith)
+    (sym c.kind_at-kind.ensures ∙ c.in-2.is) c.lower_dt_property.ensures
 
 pub lower_item-handle_dts_directive-requires : goal.lower_item-handle_dts_directive-requires
-lower_item-handle_dts_directive-requires t c = let s = c in record { r_bound = s.requires.record_in.there; r_value = parts_good _ _ _ s.requires.r_value }
+lower_item-handle_dts_directive-requires t c = let s = c in record {
+  r_bound = s.requires.record_in.there;
+  r_value = parts_good _ _ _ s.requires.r_value;
+}
 
-pub lower_item-returns-then-kind-eq-DIRECTIVE : goal.lower_item-returns-then-kind-eq-DIRECTIVE
-lower_item-returns-then-kind-eq-DIRECTIVE t c = let a = c.args in let k = c.kind_at-kind.ensures in is_directive_lem
-    a.level a.input.words.now a.input.text.now a.r
-    (λ e. c.if-kind-eq-NODE.false
-    (k ∙ e)) (λ e. c.if-kind-eq-PROPERTY.false (k ∙ e))
-    (sym k ∙ c.if-kind-eq-DIRECTIVE.true)
-    c.handle_dts_directive.ensures
+pub lower_item-returns-in-3 : goal.lower_item-returns-in-3
+lower_item-returns-in-3 t c = let a = c.args in
+    is_directive_lem a.level a.input.words.now a.input.text.now a.r (λ e. omega arith) (λ e. omega arith)
+    (sym c.kind_at-kind.ensures ∙ c.in-3.is) c.handle_dts_directive.ensures
 
-pub lower_item-returns-then-kind-eq-PREPROCESSOR : goal.lower_item-returns-then-kind-eq-PREPROCESSOR
-lower_item-returns-then-kind-eq-PREPROCESSOR t c = let a = c.args in let k = c.kind_at-kind.ensures in is_preprocessor a.level a.input.words.now a.input.text.now a.r
-    (λ e. c.if-kind-eq-NODE.false (k ∙ e))
-    (λ e. c.if-kind-eq-PROPERTY.false (k ∙ e))
-    (λ e. c.if-kind-eq-DIRECTIVE.false (k ∙ e))
-    (sym k ∙ c.if-kind-eq-PREPROCESSOR.true) c.emit_code.ensures
+pub lower_item-returns-in-4 : goal.lower_item-returns-in-4
+lower_item-returns-in-4 t c = let a = c.args in
+    is_preprocessor a.level a.input.words.now a.input.text.now a.r (λ e. omega arith) (λ e. omega arith) (λ e. omega arith)
+    (sym c.kind_at-kind.ensures ∙ c.in-4.is) c.emit_code.ensures
 
-pub lower_item-returns : goal.lower_item-returns
-lower_item-returns t c = let a = c.args in let k = c.kind_at-kind.ensures in is_other a.level a.input.words.now a.input.text.now a.r (λ e. c.if-kind-eq-NODE.false (k ∙ e))
-    (λ e. c.if-kind-eq-PROPERTY.false (k ∙ e)) (λ e. c.if-kind-eq-DIRECTIVE.false (k ∙ e)) (λ e. c.if-kind-eq-PREPROCESSOR.false (k ∙ e))
+pub lower_item-returns-in_default : goal.lower_item-returns-in_default
+lower_item-returns-in_default t c = let a = c.args in
+    is_other a.level a.input.words.now a.input.text.now a.r (λ e. omega arith) (λ e. omega arith) (λ e. omega arith) (λ e. omega arith)
 
 pub lower_items-loop-r-init : goal.lower_items-loop-r-init
 lower_items-loop-r-init t c = let s = c in (
@@ -143,10 +140,7 @@ lower_items-loop-r-init t c = let s = c in (
 pub lower_items-lower_item-state-requires : goal.lower_items-lower_item-state-requires
 lower_items-lower_item-state-requires t c = let s = c in let l = c.loop-r in let n = c.loop-r-test.true in (
   omega arith,
-  (
-    s.args.input.linked,
-    (chain_first _ _ s.args.input.linked _ _ l.invariant.2.chain n, item_good s.args.input.linked l.invariant.2 n),
-  ),
+  (chain_first _ _ s.args.input.linked _ _ l.invariant.2.chain n, item_good s.args.input.linked l.invariant.2 n),
 )
 
 pub lower_items-loop-r-smaller : goal.lower_items-loop-r-smaller
