@@ -176,8 +176,12 @@ fn check_phandle(out: &mut [u32], bytes: &mut [u8], ctx: LowerCtx, span: Span, r
 fn target_place(out: &[u32], r: u32) -> PathAt
     ensures { result ≡ target_place out.now r }
 {
-    match out_field(out, r, layout::N) {
-        1 | 2 => first_place(out, r),
-        _ => PathAt::EMPTY,
+    let n = out_field(out, r, layout::N);
+    if n == 1 {
+        return first_place(out, r);
     }
+    if n == 2 {
+        return first_place(out, r);
+    }
+    PathAt::EMPTY
 }
