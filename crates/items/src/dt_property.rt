@@ -298,7 +298,7 @@ fn lower_cell(
             bytes,
             ctx,
         ),
-        Err(report) => emit_report(input.words, input.text, report, out, bytes, ctx),
+        Err(failed) => emit_report(input.words, input.text, failed, out, bytes, ctx),
     }
 }
 
