@@ -7,18 +7,16 @@ ghost use Rattle.paths_numbers.specs.meaning.Bytestring.{count_of, written_told,
 ghost use Rattle.paths_numbers.specs.meaning.Cell.{size_of, size_told};
 ghost use Rattle.paths_numbers.specs.meaning.Expression.{eval_prefix, eval_infix, eval_conditional, eval_told};
 ghost use Rattle.paths_numbers.specs.meaning.Number.{signed_number};
-ghost use Rattle.paths_numbers.specs.meaning.Path.{at_or_under, stripped, good_path, joined, joined_len, built_told, built_answer, built_out};
+ghost use Rattle.paths_numbers.specs.meaning.Path.{at_or_under, stripped, good_path, joined, joined_len, built_answer, built_out};
 ghost use Rattle.paths_numbers.specs.meaning.Reading.{told};
 ghost use Rattle.paths_numbers.specs.meaning.Reference.{target};
 ghost use Rattle.paths_numbers.specs.meaning.Text.{same};
 ghost use Rattle.paths_numbers_c.specs.meaning.Told.{truth, number_told, integer_told, result_told, length_told, bytes_told, path_told};
 ghost use Rattle.paths_numbers_c.specs.meaning.Told.{width_told, int_at, expr_at, char_at, target_told, place_told};
-ghost use Rattle.slashes.specs.meaning.Slash.{next_slash, found_told};
+ghost use Rattle.slashes.specs.meaning.Slash.{next_slash};
 
 use paths_numbers::codes::Code;
-use paths_numbers::dt_node::{
-    Built, build_path, is_path, lies_under_path, path_len, path_lies_under,
-};
+use paths_numbers::dt_node::{build_path, is_path, lies_under_path, path_len, path_lies_under};
 use paths_numbers::dt_property::{
     BitsSize, BytesError, MissingDigit, SizeError, bytestring_len, char_cell, expr_cell,
     lower_bytestring,
@@ -27,7 +25,7 @@ use paths_numbers::expr_eval::{parse_int_tok, parse_int_tok_i64};
 use paths_numbers::mir::{good_path, lies_under, strip_base};
 use paths_numbers::operators::{EvalError, eval_conditional, eval_infix, eval_prefix};
 use paths_numbers::phandle::{lower_phandle, phandle_label, phandle_path, target_number};
-use slashes::slash::{Found, next_slash};
+use slashes::slash::next_slash;
 
 // What stands for "no room", and for an operator that is missing: neither has a code.
 const NO_ROOM: u32 = 1;
@@ -278,21 +276,21 @@ fn told_truth(t: bool) -> u32
     0
 }
 
-fn told_found(f: Found) -> PnPlace
-    ensures { result ≡ place_told (found_told f) }
+fn told_found(f: Option<usize>) -> PnPlace
+    ensures { result ≡ place_told f }
 {
     match f {
-        Found::At(place) => PnPlace { found: 1, place },
-        Found::Nothing => PnPlace { found: 0, place: 0 },
+        Some(place) => PnPlace { found: 1, place },
+        None => PnPlace { found: 0, place: 0 },
     }
 }
 
-fn told_built(b: Built) -> PnWritten
-    ensures { result ≡ path_told (built_told b) }
+fn told_built(b: Option<usize>) -> PnWritten
+    ensures { result ≡ path_told b }
 {
     match b {
-        Built::Bytes(len) => PnWritten { number: 0, len },
-        Built::NoRoom => PnWritten {
+        Some(len) => PnWritten { number: 0, len },
+        None => PnWritten {
             number: NO_ROOM,
             len: 0,
         },
