@@ -80,7 +80,7 @@ pub struct PnReference {
 pub extern "C" fn pn_lies_under(this: &[u8], base: &[u8]) -> u32
     ensures { result ≡ truth (at_or_under this.now base.now) }
 {
-    told_truth(lies_under(this, base))
+    u32::from(lies_under(this, base))
 }
 
 // The length of the part that stripping `base` finds, which is the end of `this`; 0 where it finds
@@ -98,7 +98,7 @@ pub extern "C" fn pn_strip_base(this: &[u8], base: &[u8]) -> usize
 pub extern "C" fn pn_good_path(path: &[u8]) -> u32
     ensures { result ≡ truth (good_path path.now) }
 {
-    told_truth(good_path(path))
+    u32::from(good_path(path))
 }
 
 // The first "/" of a path at or behind a place.
@@ -139,7 +139,7 @@ pub extern "C" fn pn_build_path(
 pub extern "C" fn pn_is_path(this: &[u8], parent: &[u8], name: &[u8], unit: &[u8]) -> u32
     ensures { result ≡ truth (same this.now (joined parent.now name.now unit.now)) }
 {
-    told_truth(is_path(this, parent, name, unit))
+    u32::from(is_path(this, parent, name, unit))
 }
 
 // Whether a path lies at or under that of a parent and a name.
@@ -147,7 +147,7 @@ pub extern "C" fn pn_is_path(this: &[u8], parent: &[u8], name: &[u8], unit: &[u8
 pub extern "C" fn pn_lies_under_path(this: &[u8], parent: &[u8], name: &[u8], unit: &[u8]) -> u32
     ensures { result ≡ truth (at_or_under this.now (joined parent.now name.now unit.now)) }
 {
-    told_truth(lies_under_path(this, parent, name, unit))
+    u32::from(lies_under_path(this, parent, name, unit))
 }
 
 // Whether the path of a parent and a name lies at or under another.
@@ -155,7 +155,7 @@ pub extern "C" fn pn_lies_under_path(this: &[u8], parent: &[u8], name: &[u8], un
 pub extern "C" fn pn_path_lies_under(parent: &[u8], name: &[u8], unit: &[u8], base: &[u8]) -> u32
     ensures { result ≡ truth (at_or_under (joined parent.now name.now unit.now) base.now) }
 {
-    told_truth(path_lies_under(parent, name, unit, base))
+    u32::from(path_lies_under(parent, name, unit, base))
 }
 
 // An unsigned number's text, read at a width of 8, 16, 32 or 64 bits.
@@ -267,15 +267,6 @@ pub extern "C" fn pn_reference(raw: &[u8]) -> PnReference
 }
 
 // What C is told of each answer.
-fn told_truth(t: bool) -> u32
-    ensures { result ≡ truth t }
-{
-    if t {
-        return 1;
-    }
-    0
-}
-
 fn told_found(f: Option<usize>) -> PnPlace
     ensures { result ≡ place_told f }
 {
