@@ -4,17 +4,17 @@ ghost use Rattle.std.specs.Prelude.{◌≤◌};
 // The longest field that is read.
 pub const FIELD: usize = 256;
 
-// Writes a field's bytes into `out`, as far as it reaches, and returns how many.
-pub fn unescape(field: &[u8], out: &mut [u8]) -> usize {
+// Writes a field's bytes into `out`, as far as it reaches, and returns them.
+pub fn unescape<'a>(field: &[u8], out: &'a mut [u8]) -> &'a [u8] {
     let mut rest = field;
     for (n, to) in out.iter_mut().enumerate() {
         let Some((b, behind)) = first_byte(rest) else {
-            return n;
+            return first(out, n);
         };
         *to = b;
         rest = behind;
     }
-    out.len()
+    out
 }
 
 // The byte at the start of a field, \xHH for any, and the rest of the field.

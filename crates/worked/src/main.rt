@@ -5,7 +5,7 @@
 mod answer;
 mod field;
 
-use field::{FIELD, first, unescape};
+use field::{FIELD, unescape};
 use full_reads::read_full;
 use std::io;
 use std::io::Write;
@@ -40,9 +40,9 @@ fn print_case<W: Write>(out: &mut W, line: &[u8]) -> io::Result<()> {
     let mut a = [0u8; FIELD];
     let mut b = [0u8; FIELD];
     let mut c = [0u8; FIELD];
-    let k = unescape(fields.next().unwrap_or_default(), &mut a);
-    let m = unescape(fields.next().unwrap_or_default(), &mut b);
-    let n = unescape(fields.next().unwrap_or_default(), &mut c);
-    answer::answer(out, kind, first(&a, k), first(&b, m), first(&c, n))?;
+    let a = unescape(fields.next().unwrap_or_default(), &mut a);
+    let b = unescape(fields.next().unwrap_or_default(), &mut b);
+    let c = unescape(fields.next().unwrap_or_default(), &mut c);
+    answer::answer(out, kind, a, b, c)?;
     out.write_all(b"\n")
 }
