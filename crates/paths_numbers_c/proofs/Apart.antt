@@ -4,12 +4,11 @@ use mathlib.Core.Path.{◌≡◌, refl, sym, ap, ◌∙◌}
 use mathlib.Core.Bool.{cond}
 use mathlib.Core.Option.{Option, some, none}
 use lib.Dec.{eqb}
-use lib.IntN.{ℤ}
 use Rattle.std.specs.Prelude.{Result, Ok, Err}
+use Rattle.std.specs.Prelude as Std
 use Rattle.paths_numbers.specs.meaning.Code.{number_empty, not_a_digit, number_too_large, width_unsupported, character_too_large}
 use Rattle.paths_numbers.specs.meaning.Code.{outside64_bits, zero_divisor, shift_amount}
 use Rattle.paths_numbers.specs.meaning.Reading.{Reading, value, fails, told}
-use Rattle.paths_numbers.specs.meaning.Path.{built_told}
 use Rattle.paths_numbers.specs.meaning.Number.{int_code, int_told, i64_told}
 use Rattle.paths_numbers.specs.meaning.Expression.{eval_code, eval_told}
 use Rattle.paths_numbers.specs.meaning.Cell.{size_code, size_told, cell_code, cell_told}
@@ -23,14 +22,10 @@ use Rattle.paths_numbers.specs.declared.dt_property.SizeError.{SizeError}
 use Rattle.paths_numbers.specs.declared.dt_property.SizeError.TheVariants as Size
 use Rattle.paths_numbers.specs.declared.dt_property.CellError.{CellError}
 use Rattle.paths_numbers.specs.declared.dt_property.CellError.TheVariants as Cell
-use Rattle.paths_numbers.specs.declared.dt_property.MissingDigit.{MissingDigit}
 use Rattle.paths_numbers.specs.declared.dt_property.BytesError.{BytesError}
 use Rattle.paths_numbers.specs.declared.dt_property.BytesError.TheVariants as Bytes
-use Rattle.paths_numbers.specs.declared.dt_node.Built.{Built}
 use Rattle.paths_numbers.specs.declared.phandle.MirPhandleTarget.{MirPhandleTarget}
 use Rattle.paths_numbers.specs.declared.phandle.MirPhandleTarget.TheVariants as Target
-use Rattle.slashes.specs.meaning.Slash.{found_told}
-use Rattle.slashes.specs.declared.slash.Found.{Found}
 
 -- two answers that tell the same are the same, where there is a way back
 abbrev pub Apart : {A B : Type 0} → (A → B) → Type 0
@@ -122,36 +117,24 @@ written_apart = apart written_told back same
     same (Err Bytes.MissingDigit) = refl
     same (Err Bytes.NoRoom) = refl
 
-pub found_apart : Apart found_told
-found_apart = apart found_told back same
-  where
-    back : Option ℕ → Found
-    back (some k) = Found.At k
-    back none = Found.Nothing
+-- an Option of the code is the one of the specs: it tells itself
+pub found_apart : Apart (λ (f : Std.Option ℕ). f)
+found_apart = apart (λ f. f) (λ f. f) (λ f. refl)
 
-    same : (f : Found) → back (found_told f) ≡ f
-    same (Found.At k) = refl
-    same Found.Nothing = refl
-
-pub built_apart : Apart built_told
-built_apart = apart built_told back same
-  where
-    back : Option ℕ → Built
-    back (some n) = Built.Bytes n
-    back none = Built.NoRoom
-
-    same : (b : Built) → back (built_told b) ≡ b
-    same (Built.Bytes n) = refl
-    same Built.NoRoom = refl
+pub built_apart : Apart (λ (b : Std.Option ℕ). b)
+built_apart = apart (λ b. b) (λ b. b) (λ b. refl)
 
 pub target_apart : Apart target_number
 target_apart = apart target_number back same
   where
-    back : ℕ → MirPhandleTarget
-    back n = cond (eqb n 1) Target.Label (cond (eqb n 2) Target.LabelPath (cond (eqb n 3) Target.Path Target.Unreadable))
+    kind : ℕ → MirPhandleTarget
+    kind n = cond (eqb n 1) Target.Label (cond (eqb n 2) Target.LabelPath Target.Path)
 
-    same : (t : MirPhandleTarget) → back (target_number t) ≡ t
-    same Target.Label = refl
-    same Target.LabelPath = refl
-    same Target.Path = refl
-    same Target.Unreadable = refl
+    back : ℕ → Std.Option MirPhandleTarget
+    back n = cond (eqb n 0) Std.None (Std.Some (kind n))
+
+    same : (t : Std.Option MirPhandleTarget) → back (target_number t) ≡ t
+    same (Std.Some Target.Label) = refl
+    same (Std.Some Target.LabelPath) = refl
+    same (Std.Some Target.Path) = refl
+    same Std.None = refl

@@ -7,18 +7,16 @@ ghost use Rattle.paths_numbers.specs.meaning.Bytestring.{count_of, written_told,
 ghost use Rattle.paths_numbers.specs.meaning.Cell.{size_of, size_told};
 ghost use Rattle.paths_numbers.specs.meaning.Expression.{eval_prefix, eval_infix, eval_conditional, eval_told};
 ghost use Rattle.paths_numbers.specs.meaning.Number.{signed_number};
-ghost use Rattle.paths_numbers.specs.meaning.Path.{at_or_under, stripped, good_path, joined, joined_len, built_told, built_answer, built_out};
+ghost use Rattle.paths_numbers.specs.meaning.Path.{at_or_under, stripped, good_path, joined, joined_len, built_answer, built_out};
 ghost use Rattle.paths_numbers.specs.meaning.Reading.{told};
 ghost use Rattle.paths_numbers.specs.meaning.Reference.{target};
 ghost use Rattle.paths_numbers.specs.meaning.Text.{same};
 ghost use Rattle.paths_numbers_c.specs.meaning.Told.{truth, number_told, integer_told, result_told, length_told, bytes_told, path_told};
 ghost use Rattle.paths_numbers_c.specs.meaning.Told.{width_told, int_at, expr_at, char_at, target_told, place_told};
-ghost use Rattle.slashes.specs.meaning.Slash.{next_slash, found_told};
+ghost use Rattle.slashes.specs.meaning.Slash.{next_slash};
 
 use paths_numbers::codes::Code;
-use paths_numbers::dt_node::{
-    Built, build_path, is_path, lies_under_path, path_len, path_lies_under,
-};
+use paths_numbers::dt_node::{build_path, is_path, lies_under_path, path_len, path_lies_under};
 use paths_numbers::dt_property::{
     BitsSize, BytesError, MissingDigit, SizeError, bytestring_len, char_cell, expr_cell,
     lower_bytestring,
@@ -27,7 +25,7 @@ use paths_numbers::expr_eval::{parse_int_tok, parse_int_tok_i64};
 use paths_numbers::mir::{good_path, lies_under, strip_base};
 use paths_numbers::operators::{EvalError, eval_conditional, eval_infix, eval_prefix};
 use paths_numbers::phandle::{lower_phandle, phandle_label, phandle_path, target_number};
-use slashes::slash::{Found, next_slash};
+use slashes::slash::next_slash;
 
 // What stands for "no room", and for an operator that is missing: neither has a code.
 const NO_ROOM: u32 = 1;
@@ -82,7 +80,7 @@ pub struct PnReference {
 pub extern "C" fn pn_lies_under(this: &[u8], base: &[u8]) -> u32
     ensures { result ≡ truth (at_or_under this.now base.now) }
 {
-    told_truth(lies_under(this, base))
+    u32::from(lies_under(this, base))
 }
 
 // The length of the part that stripping `base` finds, which is the end of `this`; 0 where it finds
@@ -100,7 +98,7 @@ pub extern "C" fn pn_strip_base(this: &[u8], base: &[u8]) -> usize
 pub extern "C" fn pn_good_path(path: &[u8]) -> u32
     ensures { result ≡ truth (good_path path.now) }
 {
-    told_truth(good_path(path))
+    u32::from(good_path(path))
 }
 
 // The first "/" of a path at or behind a place.
@@ -141,7 +139,7 @@ pub extern "C" fn pn_build_path(
 pub extern "C" fn pn_is_path(this: &[u8], parent: &[u8], name: &[u8], unit: &[u8]) -> u32
     ensures { result ≡ truth (same this.now (joined parent.now name.now unit.now)) }
 {
-    told_truth(is_path(this, parent, name, unit))
+    u32::from(is_path(this, parent, name, unit))
 }
 
 // Whether a path lies at or under that of a parent and a name.
@@ -149,7 +147,7 @@ pub extern "C" fn pn_is_path(this: &[u8], parent: &[u8], name: &[u8], unit: &[u8
 pub extern "C" fn pn_lies_under_path(this: &[u8], parent: &[u8], name: &[u8], unit: &[u8]) -> u32
     ensures { result ≡ truth (at_or_under this.now (joined parent.now name.now unit.now)) }
 {
-    told_truth(lies_under_path(this, parent, name, unit))
+    u32::from(lies_under_path(this, parent, name, unit))
 }
 
 // Whether the path of a parent and a name lies at or under another.
@@ -157,7 +155,7 @@ pub extern "C" fn pn_lies_under_path(this: &[u8], parent: &[u8], name: &[u8], un
 pub extern "C" fn pn_path_lies_under(parent: &[u8], name: &[u8], unit: &[u8], base: &[u8]) -> u32
     ensures { result ≡ truth (at_or_under (joined parent.now name.now unit.now) base.now) }
 {
-    told_truth(path_lies_under(parent, name, unit, base))
+    u32::from(path_lies_under(parent, name, unit, base))
 }
 
 // An unsigned number's text, read at a width of 8, 16, 32 or 64 bits.
@@ -269,30 +267,21 @@ pub extern "C" fn pn_reference(raw: &[u8]) -> PnReference
 }
 
 // What C is told of each answer.
-fn told_truth(t: bool) -> u32
-    ensures { result ≡ truth t }
-{
-    if t {
-        return 1;
-    }
-    0
-}
-
-fn told_found(f: Found) -> PnPlace
-    ensures { result ≡ place_told (found_told f) }
+fn told_found(f: Option<usize>) -> PnPlace
+    ensures { result ≡ place_told f }
 {
     match f {
-        Found::At(place) => PnPlace { found: 1, place },
-        Found::Nothing => PnPlace { found: 0, place: 0 },
+        Some(place) => PnPlace { found: 1, place },
+        None => PnPlace { found: 0, place: 0 },
     }
 }
 
-fn told_built(b: Built) -> PnWritten
-    ensures { result ≡ path_told (built_told b) }
+fn told_built(b: Option<usize>) -> PnWritten
+    ensures { result ≡ path_told b }
 {
     match b {
-        Built::Bytes(len) => PnWritten { number: 0, len },
-        Built::NoRoom => PnWritten {
+        Some(len) => PnWritten { number: 0, len },
+        None => PnWritten {
             number: NO_ROOM,
             len: 0,
         },

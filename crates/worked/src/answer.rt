@@ -1,177 +1,114 @@
 // What the crates paths_numbers, slashes and boxes answer to a case.
-ghost use Rattle.std.specs.Prelude.{◌≤◌, length};
-
 use crate::field::{FIELD, first};
 use boxes::box_number::{read_box, write_box};
-use definition_log::answer::SUCCESS;
 use paths_numbers::codes::Code;
 use paths_numbers::dt_property::{BitsSize, BytesError, MissingDigit};
 use paths_numbers::operators::EvalError;
-use paths_numbers::text::equals;
+use paths_numbers::phandle::MirPhandleTarget;
 use paths_numbers::{dt_node, dt_property, expr_eval, mir, operators, phandle};
-use slashes::slash::{Found, next_slash};
+use slashes::slash::next_slash;
 use std::fmt::Display;
 use std::io;
 use std::io::Write;
 
 // Prints the answer to a case of this kind.
 pub fn answer<W: Write>(out: &mut W, kind: &[u8], a: &[u8], b: &[u8], c: &[u8]) -> io::Result<()> {
-    if equals(kind, b"strip") {
-        return strip(out, a, b);
+    match kind {
+        b"strip" => strip(out, a, b),
+        b"join" => join(out, a, b),
+        b"path" => number(out, u32::from(mir::good_path(a))),
+        b"slash" => slash(out, a, small_of(b)),
+        b"bytes" => bytes(out, a),
+        b"ref" => reference(out, a),
+        b"box" => box_number(out, a),
+        b"packed" => packed(out, small_of(a) as usize, unsigned_of(b, BitsSize::Bits64)),
+        b"i64" => number_or_code(out, expr_eval::parse_int_tok_i64(a)),
+        b"width" => number_or_code(out, BitsSize::from_token(a).map(|size| size.bits() as u64)),
+        b"cell" => number_or_code(out, dt_property::expr_cell(value_of(b), size_of(a))),
+        b"char" => number_or_code(out, dt_property::char_cell(small_of(b), size_of(a))),
+        b"prefix" => evaluated(out, operators::eval_prefix(small_of(a), value_of(b))),
+        b"infix" => evaluated(out, operators::eval_infix(small_of(a), value_of(b), value_of(c))),
+        [_, width @ ..] => number_or_code(out, expr_eval::parse_int_tok(a, size_of(width))),
+        [] => Ok(()),
     }
-    if equals(kind, b"join") {
-        return join(out, a, b);
-    }
-    if equals(kind, b"path") {
-        return number(out, mir::good_path(a) as u64);
-    }
-    if equals(kind, b"slash") {
-        return slash(out, a, small_of(b));
-    }
-    if equals(kind, b"bytes") {
-        return bytes(out, a);
-    }
-    if equals(kind, b"ref") {
-        return reference(out, a);
-    }
-    if equals(kind, b"box") {
-        return box_number(out, a);
-    }
-    if equals(kind, b"packed") {
-        return packed(out, small_of(a) as usize, unsigned_of(b, BitsSize::Bits64));
-    }
-    answer_number(out, kind, a, b, c)
-}
-
-// The kinds of cases about numbers.
-fn answer_number<W: Write>(
-    out: &mut W,
-    kind: &[u8],
-    a: &[u8],
-    b: &[u8],
-    c: &[u8],
-) -> io::Result<()> {
-    if equals(kind, b"i64") {
-        return number_or_code(out, expr_eval::parse_int_tok_i64(a));
-    }
-    if equals(kind, b"width") {
-        return number_or_code(out, BitsSize::from_token(a).map(|size| size.bits() as u64));
-    }
-    if equals(kind, b"cell") {
-        return number_or_code(out, dt_property::expr_cell(value_of(b), size_of(a)));
-    }
-    if equals(kind, b"char") {
-        return number_or_code(out, dt_property::char_cell(small_of(b), size_of(a)));
-    }
-    if equals(kind, b"prefix") {
-        return evaluated(out, operators::eval_prefix(small_of(a), value_of(b)));
-    }
-    if equals(kind, b"infix") {
-        return evaluated(
-            out,
-            operators::eval_infix(small_of(a), value_of(b), value_of(c)),
-        );
-    }
-    if 1 <= kind.len() {
-        return number_or_code(out, expr_eval::parse_int_tok(a, size_of(&kind[1..])));
-    }
-    Ok(())
 }
 
 // What stripping a base finds, or -.
 fn strip<W: Write>(out: &mut W, path: &[u8], base: &[u8]) -> io::Result<()> {
     if mir::lies_under(path, base) {
-        equal_sign(out)?;
+        out.write_all(b"=")?;
         return print_text(out, mir::strip_base(path, base));
     }
-    print(out, b"-")
+    out.write_all(b"-")
 }
 
 // The first "/" from a place on, or -.
 fn slash<W: Write>(out: &mut W, path: &[u8], from: u32) -> io::Result<()> {
-    let found = next_slash(path, from as usize);
-    match found {
-        Found::At(k) => number(out, k as u64),
-        Found::Nothing => print(out, b"-"),
+    match next_slash(path, from as usize) {
+        Some(place) => number(out, place),
+        None => out.write_all(b"-"),
     }
 }
 
 // The path of a parent and a name.
 fn join<W: Write>(out: &mut W, parent: &[u8], name: &[u8]) -> io::Result<()> {
     let mut room = [0u8; 2 * FIELD + 1];
-    let none = &name[name.len()..];
-    let built = dt_node::build_path(parent, name, none, &mut room, 0);
-    if let dt_node::Built::Bytes(n) = built {
-        equal_sign(out)?;
-        return print_text(out, first(&room, n));
-    }
-    Ok(())
+    let Some(n) = dt_node::build_path(parent, name, b"", &mut room, 0) else {
+        return Ok(());
+    };
+    out.write_all(b"=")?;
+    print_text(out, first(&room, n))
 }
 
 // The bytes of a bytestring in hex digits.
 fn bytes<W: Write>(out: &mut W, text: &[u8]) -> io::Result<()> {
     let mut room = [0u8; FIELD];
     match dt_property::lower_bytestring(text, &mut room, 0) {
-        Ok(n) => {
-            equal_sign(out)?;
-            print_hex(out, first(&room, n))
-        }
+        Ok(n) => print_hex(out, first(&room, n)),
         Err(BytesError::MissingDigit) => code(out, MissingDigit.code()),
-        Err(BytesError::NoRoom) => print(out, b"?"),
+        Err(BytesError::NoRoom) => out.write_all(b"?"),
     }
 }
 
 // What a raw reference names.
 fn reference<W: Write>(out: &mut W, raw: &[u8]) -> io::Result<()> {
-    let target = phandle::lower_phandle(raw);
-    match target {
-        phandle::MirPhandleTarget::Label => {
-            print(out, b"label=")?;
+    match phandle::lower_phandle(raw) {
+        Some(MirPhandleTarget::Label) => {
+            out.write_all(b"label=")?;
             print_text(out, phandle::phandle_label(raw))
         }
-        phandle::MirPhandleTarget::LabelPath => {
-            print(out, b"labelpath=")?;
+        Some(MirPhandleTarget::LabelPath) => {
+            out.write_all(b"labelpath=")?;
             print_text(out, phandle::phandle_label(raw))?;
-            print(out, b"|")?;
+            out.write_all(b"|")?;
             print_text(out, phandle::phandle_path(raw))
         }
-        phandle::MirPhandleTarget::Path => {
-            print(out, b"path=")?;
+        Some(MirPhandleTarget::Path) => {
+            out.write_all(b"path=")?;
             print_text(out, phandle::phandle_path(raw))
         }
-        phandle::MirPhandleTarget::Unreadable => print(out, b"!"),
+        None => out.write_all(b"!"),
     }
 }
 
 // The box number that bytes hold.
 fn box_number<W: Write>(out: &mut W, bytes: &[u8]) -> io::Result<()> {
-    let read = read_box(bytes);
-    if read.number == SUCCESS {
-        return number(out, read.value);
+    match read_box(bytes) {
+        Ok(n) => number(out, n),
+        Err(refusal) => code(out, refusal.number()),
     }
-    code(out, read.number)
 }
 
 // A box number in so many bytes, in hex digits.
 fn packed<W: Write>(out: &mut W, n: usize, value: u64) -> io::Result<()> {
     let mut room = [0u8; FIELD];
-    if n <= FIELD {
-        return write_packed(out, n, value, &mut room);
+    let Some(bytes) = room.get_mut(..n) else {
+        return out.write_all(b"?");
+    };
+    match write_box(value, bytes) {
+        Ok(()) => print_hex(out, bytes),
+        Err(refusal) => code(out, refusal.number()),
     }
-    print(out, b"?")
-}
-
-// Writes a box number into the first bytes of a buffer and prints them.
-fn write_packed<W: Write>(out: &mut W, n: usize, value: u64, room: &mut [u8]) -> io::Result<()>
-    requires { n ≤ length room.old }
-{
-    let bytes = &mut room[..n];
-    let done = write_box(value, bytes);
-    if done.number == SUCCESS {
-        equal_sign(out)?;
-        return print_hex(out, bytes);
-    }
-    code(out, done.number)
 }
 
 // A number, or the code of why there is none.
@@ -188,23 +125,19 @@ fn number_or_code<W: Write, T: Display + Drop, E: Code>(
 // An operator's result, or the code of why there is none; a missing operator has no code.
 fn evaluated<W: Write>(out: &mut W, r: Result<i64, EvalError>) -> io::Result<()> {
     match r {
-        Err(EvalError::Missing) => print(out, b"!"),
+        Err(EvalError::Missing) => out.write_all(b"!"),
         _ => number_or_code(out, r),
     }
 }
 
 // The width that a field names, 64 bits where it names none.
 fn size_of(text: &[u8]) -> BitsSize {
-    if equals(text, b"8") {
-        return BitsSize::Bits8;
+    match text {
+        b"8" => BitsSize::Bits8,
+        b"16" => BitsSize::Bits16,
+        b"32" => BitsSize::Bits32,
+        _ => BitsSize::Bits64,
     }
-    if equals(text, b"16") {
-        return BitsSize::Bits16;
-    }
-    if equals(text, b"32") {
-        return BitsSize::Bits32;
-    }
-    BitsSize::Bits64
 }
 
 // The value of a field, 0 where it is none.
@@ -222,22 +155,12 @@ fn unsigned_of(text: &[u8], size: BitsSize) -> u64 {
     expr_eval::parse_int_tok(text, size).unwrap_or(0)
 }
 
-fn equal_sign<W: Write>(out: &mut W) -> io::Result<()> {
-    print(out, b"=")
-}
-
 fn code<W: Write>(out: &mut W, n: u32) -> io::Result<()> {
-    print(out, b"!")?;
-    write!(out, "{n}")
+    write!(out, "!{n}")
 }
 
 fn number<W: Write, T: Display + Drop>(out: &mut W, n: T) -> io::Result<()> {
-    equal_sign(out)?;
-    write!(out, "{n}")
-}
-
-fn print<W: Write>(out: &mut W, s: &[u8]) -> io::Result<()> {
-    out.write_all(s)
+    write!(out, "={n}")
 }
 
 // A text, other bytes than the printable ones as \xHH.
@@ -250,13 +173,16 @@ fn print_text<W: Write>(out: &mut W, s: &[u8]) -> io::Result<()> {
 
 // A byte, as \xHH where it is not printable or a backslash.
 fn print_byte<W: Write>(out: &mut W, b: u8) -> io::Result<()> {
-    if b < 32 || 126 < b || b == b'\\' {
-        return write!(out, "\\x{b:02x}");
+    match b {
+        b'\\' => write!(out, "\\x{b:02x}"),
+        b' '..=b'~' => out.write_all(&[b]),
+        _ => write!(out, "\\x{b:02x}"),
     }
-    print(out, &[b])
 }
 
+// Bytes in hex digits.
 fn print_hex<W: Write>(out: &mut W, s: &[u8]) -> io::Result<()> {
+    out.write_all(b"=")?;
     for b in s {
         write!(out, "{b:02x}")?;
     }

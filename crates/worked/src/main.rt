@@ -5,7 +5,7 @@
 mod answer;
 mod field;
 
-use field::{FIELD, first};
+use field::{FIELD, unescape};
 use full_reads::read_full;
 use std::io;
 use std::io::Write;
@@ -21,11 +21,12 @@ fn main(rt: HostRuntime) -> io::Result<()> {
 
 // Prints each line with its answer.
 fn print_lines<W: Write>(out: &mut W, text: &[u8]) -> io::Result<()> {
-    let mut at = 0;
-    while at < text.len() {
-        let end = field::end_of(text, at, b'\n');
-        print_case(out, &text[at..end])?;
-        at = end + 1;
+    if text.is_empty() {
+        return Ok(());
+    }
+    let lines = text.strip_suffix(b"\n").unwrap_or(text);
+    for line in lines.split(|b| *b == b'\n') {
+        print_case(out, line)?;
     }
     Ok(())
 }
@@ -34,13 +35,14 @@ fn print_lines<W: Write>(out: &mut W, text: &[u8]) -> io::Result<()> {
 fn print_case<W: Write>(out: &mut W, line: &[u8]) -> io::Result<()> {
     out.write_all(line)?;
     out.write_all(b"\t")?;
+    let mut fields = line.split(|b| *b == b'\t');
+    let kind = fields.next().unwrap_or_default();
     let mut a = [0u8; FIELD];
     let mut b = [0u8; FIELD];
     let mut c = [0u8; FIELD];
-    let k = field::unescape(field::field(line, 1), &mut a);
-    let m = field::unescape(field::field(line, 2), &mut b);
-    let n = field::unescape(field::field(line, 3), &mut c);
-    let kind = field::field(line, 0);
-    answer::answer(out, kind, first(&a, k), first(&b, m), first(&c, n))?;
+    let a = unescape(fields.next().unwrap_or_default(), &mut a);
+    let b = unescape(fields.next().unwrap_or_default(), &mut b);
+    let c = unescape(fields.next().unwrap_or_default(), &mut c);
+    answer::answer(out, kind, a, b, c)?;
     out.write_all(b"\n")
 }

@@ -1,6 +1,6 @@
 -- What C is told: the answers of paths_numbers in numbers. The codes are 01's, from paths_numbers's definitions.
-use Rattle.std.specs.Prelude.{ℕ, Bool, true, false, cond, List, eqb, ℤ, pos, length}
-use Rattle.std.proofs.Math.Option.{Option, some, none}
+use Rattle.std.specs.Prelude.{ℕ, Bool, true, false, cond, List, eqb, ℤ, pos, length, Option, Some, None}
+use Rattle.std.proofs.Math.Option as Math
 use Rattle.paths_numbers.specs.meaning.Reading.{Reading, value, fails, no_code}
 use Rattle.paths_numbers.specs.meaning.Number.{unsigned_number}
 use Rattle.paths_numbers.specs.meaning.Cell.{bits_of, largest, sized, expr_cell, char_cell}
@@ -41,13 +41,13 @@ length_told (fails c) = record { number = c; len = 0 }
 abbrev pub no_room : PnWritten
 no_room = record { number = 1; len = 0 }
 
-abbrev pub bytes_told : Option (Reading ℕ) → PnWritten
-bytes_told (some r) = length_told r
-bytes_told none = no_room
+abbrev pub bytes_told : Math.Option (Reading ℕ) → PnWritten
+bytes_told (Math.some r) = length_told r
+bytes_told Math.none = no_room
 
 abbrev pub path_told : Option ℕ → PnWritten
-path_told (some n) = length_told (value n)
-path_told none = no_room
+path_told (Some n) = length_told (value n)
+path_told None = no_room
 
 -- what f tells at a width, or the code of a width that is none
 unfoldable pub at_width : (BitsSize → PnNumber) → Reading BitsSize → PnNumber
@@ -78,5 +78,5 @@ target_told t = record { kind = number_of t; label_len = length (label_of t); pa
 
 -- a place: 1 and where it is, or 0 and 0
 abbrev pub place_told : Option ℕ → PnPlace
-place_told (some k) = record { found = 1; place = k }
-place_told none = record { found = 0; place = 0 }
+place_told (Some k) = record { found = 1; place = k }
+place_told None = record { found = 0; place = 0 }
