@@ -8,6 +8,3 @@ returns-then-place c = c.unbinds_path.ensures ∙ rw (root_read
     c.args.ctx.bytes
     c.args.bytes.now
     c.args.place c.if-place.true) refl
-
-pub returns : goal.returns
-returns c = c.unbinds_path-2.ensures ∙ rw (c.place_text.ensures c.if-place.false) refl

@@ -7,6 +7,3 @@ pub returns-then-place : goal.returns-then-place
 returns-then-place c = c.unbinds.ensures ∙ rw (root_read c.args.ctx.bytes
     c.args.bytes.now
     c.args.place c.if-place.true) refl
-
-pub returns : goal.returns
-returns c = c.unbinds-2.ensures ∙ rw (c.place_text.ensures c.if-place.false) refl
