@@ -93,7 +93,7 @@ lower_item-lower_dt_property-requires-clause-r_value t c = parts_good _ _ _ c.re
 
 pub lower_item-returns-in-2 : goal.lower_item-returns-in-2
 lower_item-returns-in-2 t c = let a = c.args in
-    is_property_lem a.level a.input.words.now a.input.text.now a.r (λ e. omega arith)
+    is_property_lem a.level a.input.words.now a.input.text.now a.r
     (sym c.kind_at-kind.ensures ∙ c.in-2.is) c.lower_dt_property.ensures
 
 pub lower_item-handle_dts_directive-requires-clause-r_value : goal.lower_item-handle_dts_directive-requires-clause-r_value
@@ -101,12 +101,12 @@ lower_item-handle_dts_directive-requires-clause-r_value t c = parts_good _ _ _ c
 
 pub lower_item-returns-in-3 : goal.lower_item-returns-in-3
 lower_item-returns-in-3 t c = let a = c.args in
-    is_directive_lem a.level a.input.words.now a.input.text.now a.r (λ e. omega arith) (λ e. omega arith)
+    is_directive_lem a.level a.input.words.now a.input.text.now a.r
     (sym c.kind_at-kind.ensures ∙ c.in-3.is) c.handle_dts_directive.ensures
 
 pub lower_item-returns-in-4 : goal.lower_item-returns-in-4
 lower_item-returns-in-4 t c = let a = c.args in
-    is_preprocessor a.level a.input.words.now a.input.text.now a.r (λ e. omega arith) (λ e. omega arith) (λ e. omega arith)
+    is_preprocessor a.level a.input.words.now a.input.text.now a.r
     (sym c.kind_at-kind.ensures ∙ c.in-4.is) c.emit_code.ensures
 
 pub lower_item-returns-in_default : goal.lower_item-returns-in_default
