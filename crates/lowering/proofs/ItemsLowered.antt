@@ -81,50 +81,27 @@ module _ {parent : PathAt} {c d : LowerCtx} {words bytes w b : List ℕ} (level 
       (λ (q : List ℕ) (u : State). lower_items level (chain_at input text (second_at input r)) q u) s)
       → LowersAt parent c d words bytes w b (λ p s. lower_item level (record_at input text r) p s)
   unfolding lower_item record_at
-  is_node_lem e h = record { lowers = λ k p s m. simp (eq-eqb (kind_at input r) node_kind e) (h.lowers k p s m) }
+  is_node_lem e h = record { lowers = λ k p s m. rw e (h.lowers k p s m) }
 
-  module _ (n : kind_at input r ≡ node_kind → ⊥) where
-    pub is_property_lem : kind_at input r ≡ property_kind
-        → LowersAt parent c d words bytes w b (λ p s. lower_property level p (chain_at input text (child_at input r))
-        (chain_at input text (second_at input r)) (span_at input r) s)
-        → LowersAt parent c d words bytes w b (λ p s. lower_item level (record_at input text r) p s)
-    unfolding lower_item record_at
-    is_property_lem e h = record {
-      lowers = λ k p s m. simp (ne_eqb (kind_at input r) node_kind n, eq-eqb (kind_at input r) property_kind e)
-          (h.lowers k p s m);
-    }
+  pub is_property_lem : kind_at input r ≡ property_kind
+      → LowersAt parent c d words bytes w b (λ p s. lower_property level p (chain_at input text (child_at input r))
+      (chain_at input text (second_at input r)) (span_at input r) s)
+      → LowersAt parent c d words bytes w b (λ p s. lower_item level (record_at input text r) p s)
+  unfolding lower_item record_at
+  is_property_lem e h = record { lowers = λ k p s m. rw e (h.lowers k p s m) }
 
-    module _ (o : kind_at input r ≡ property_kind → ⊥) where
-      pub is_directive_lem : kind_at input r ≡ directive_kind
-          → LowersAt parent c d words bytes w b (λ p s. lower_directive (number_at input r) p (chain_at input text (child_at input r))
-          (span_at input r) s)
-          → LowersAt parent c d words bytes w b (λ p s. lower_item level (record_at input text r) p s)
-      unfolding lower_item record_at
-      is_directive_lem e h =
-          record {
-            lowers = λ k p s m. simp (
-              ne_eqb (kind_at input r) node_kind n,
-              ne_eqb (kind_at input r) property_kind o,
-              eq-eqb
-                  (kind_at input r) directive_kind e,
-            ) (h.lowers k p s m);
-          }
+  pub is_directive_lem : kind_at input r ≡ directive_kind
+      → LowersAt parent c d words bytes w b (λ p s. lower_directive (number_at input r) p (chain_at input text (child_at input r))
+      (span_at input r) s)
+      → LowersAt parent c d words bytes w b (λ p s. lower_item level (record_at input text r) p s)
+  unfolding lower_item record_at
+  is_directive_lem e h = record { lowers = λ k p s m. rw e (h.lowers k p s m) }
 
-      module _ (q : kind_at input r ≡ directive_kind → ⊥) where
-        pub is_preprocessor : kind_at input r ≡ preprocessor_kind → Lowers c d words bytes w b (emit (report 1 [] (span_at input r) ∷ []))
-            → LowersAt parent c d words bytes w b (λ p s. lower_item level (record_at input text r) p s)
-        unfolding lower_item record_at
-        is_preprocessor e h =
-            record {
-              lowers = λ k p s m.
-                  simp (
-                    ne_eqb (kind_at input r) node_kind n,
-                    ne_eqb (kind_at input r) property_kind o,
-                    ne_eqb (kind_at input r) directive_kind q,
-                    eq-eqb (kind_at input r) preprocessor_kind e,
-                  )
-                  (h.lowers (with_place (record { at = parent; path = p }) k) s m);
-            }
+  pub is_preprocessor : kind_at input r ≡ preprocessor_kind → Lowers c d words bytes w b (emit (report 1 [] (span_at input r) ∷ []))
+      → LowersAt parent c d words bytes w b (λ p s. lower_item level (record_at input text r) p s)
+  unfolding lower_item record_at
+  is_preprocessor e h =
+      record { lowers = λ k p s m. rw e (h.lowers (with_place (record { at = parent; path = p }) k) s m) }
 
 pub is_other : {parent : PathAt} {c : LowerCtx} {words bytes : List ℕ} (level : ℕ) (input text : List ℕ) (r : ℕ)
     → (kind_at input r ≡ node_kind → ⊥)

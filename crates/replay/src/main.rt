@@ -35,7 +35,7 @@ fn main(rt: HostRuntime) -> io::Result<()> {
 }
 
 // Replays a sample: its first number says how many cases it has.
-fn replay<R: Print>(rt: &R, sample: &[u8]) -> io::Result<()> {
+fn replay<'a, R: Print>(rt: &'a R, sample: &'a [u8]) -> io::Result<()> {
     let mut input = [0; WORDS];
     let mut out = [0; WORDS];
     let mut bytes = [0; BYTES];

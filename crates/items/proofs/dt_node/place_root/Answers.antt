@@ -1,7 +1,7 @@
 -- Inside a node, or on top (NodePlaced).
 use mathlib.Core.Path.{sym, ◌∙◌}
 use mathlib.Core.Bool.{true, false}
-use borrow.Author.Tests.{not-true, not-false}
+use Rattle.std.proofs.Common.{rules}
 use mathlib.Core.List.{[], ◌∷◌}
 use Rattle.paths_numbers.specs.meaning.Path.{root}
 use Rattle.input.specs.meaning.Report.{report}
@@ -18,8 +18,7 @@ returns-then-not-is_top c =
     let text = s.args.input.text.now in
     let name_span = node_name_span (chain_at words text (child_at words s.args.r)) (span_at words s.args.r) in
     rw c.placed_nowhere.ensures (places_nowhere (λ p. placed_as p root name_span []) (report 6 [] name_span ∷ []) false
-    (sym c.is_top.ensures
-    ∙ not-true _ c.if-not-is_top.true-raw)
+    (search rules)
     (λ p q. root_inside_lem name_span p q) (c.refuse_node.ensures text))
 
 pub returns : goal.returns
@@ -28,7 +27,5 @@ returns c =
     let words = s.args.input.words.now in
     let text = s.args.input.text.now in
     let name_span = node_name_span (chain_at words text (child_at words s.args.r)) (span_at words s.args.r) in
-    rw c.placed_at.ensures (places_at (λ p. placed_as p root name_span []) true (sym
-    c.is_top.ensures
-    ∙ not-false _ c.if-not-is_top.false-raw)
+    rw c.placed_at.ensures (places_at (λ p. placed_as p root name_span []) true (search rules)
     (λ p q. root_on_top name_span p q) (c.define_there.ensures s.args.parent))

@@ -1,11 +1,8 @@
 use Rattle.input.proofs.ValueRead.{cells_end, cells_more}
 use Rattle.items.proofs.Filled.{adding_cells, fills_none, fills_then, same_fills}
 use Rattle.input.proofs.Read.{rank_less, chain_first, chain_next}
-use mathlib.Core.Path.{refl, ◌∙◌}
+use mathlib.Core.Path.{◌∙◌}
 use Rattle.items.proofs.dt_property.lower_cells.Goals as goal
-
-pub loop-r-init : goal.loop-r-init
-loop-r-init c = (c.requires.chain_in, refl, refl, λ d w b h. h)
 
 pub lower_cell-next-requires : goal.lower_cell-next-requires
 lower_cell-next-requires c = let s = c in let l = c.loop-r in record {

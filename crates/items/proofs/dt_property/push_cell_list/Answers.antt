@@ -1,5 +1,5 @@
 -- A value more, where it is kept (Filled).
-use borrow.Author.Tests.{not-true, not-false}
+use Rattle.std.proofs.Common.{rules}
 use Rattle.items.proofs.Filled.{adding_values, value_one, fills_dropped, fills_one, same_fills}
 use Rattle.resolving.proofs.Lowers.{part_grows}
 use Rattle.input.specs.meaning.Report.{one}
@@ -12,11 +12,11 @@ use Rattle.items.proofs.dt_property.push_cell_list.Goals as goal
 
 pub returns-then-not-keep : goal.returns-then-not-keep
 returns-then-not-keep c = let a = c.args in fills_dropped adding_values a.keep (one (cell_list (bits_of a.size) []))
-    (not-true _ c.if-not-keep.true-raw) refl
+    (search rules) refl
 
 pub returns : goal.returns
 returns c = let a = c.args in
     same_fills (ap (λ (n : ℕ). one (cell_list n [])) c.bits.ensures)
-    (fills_one adding_values a.keep _ _ (not-false _ c.if-not-keep.false-raw)
+    (fills_one adding_values a.keep _ _ (search rules)
     (part_grows _ _) (value_one (cell_list c.bits.result []) refl)
     c.add_cell_list.ensures)

@@ -1,5 +1,5 @@
 -- A cell more, where it is kept (Filled); a number is its two words (ValueRead).
-use borrow.Author.Tests.{not-true, not-false}
+use Rattle.std.proofs.Common.{rules}
 use Rattle.input.proofs.ValueRead.{number_whole}
 use Rattle.items.proofs.Filled.{adding_cells, cell_added, fills_dropped, fills_one, same_fills}
 use Rattle.resolving.proofs.Lowers.{part_grows}
@@ -11,10 +11,10 @@ use Rattle.items.proofs.dt_property.push_number.Goals as goal
 
 pub returns-then-not-keep : goal.returns-then-not-keep
 returns-then-not-keep c = let a = c.args in fills_dropped adding_cells a.keep (one (number a.n))
-    (not-true _ c.if-not-keep.true-raw) refl
+    (search rules) refl
 
 pub returns : goal.returns
 returns c = let a = c.args in
     same_fills (ap (λ (n : ℕ). one (number n)) (number_whole a.n))
-    (fills_one adding_cells a.keep _ _ (not-false _ c.if-not-keep.false-raw)
+    (fills_one adding_cells a.keep _ _ (search rules)
     (part_grows _ _) (cell_added _) c.add_number.ensures)

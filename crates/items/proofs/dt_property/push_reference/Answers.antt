@@ -1,7 +1,7 @@
 -- A cell more, where it is kept (Filled).
 use Rattle.paths_numbers.specs.meaning.Reference.{Target}
 use Rattle.input.proofs.ValueRead.{same_target}
-use borrow.Author.Tests.{not-true, not-false}
+use Rattle.std.proofs.Common.{rules}
 use Rattle.items.proofs.Filled.{adding_cells, cell_added, fills_dropped, fills_one, same_fills}
 use Rattle.resolving.proofs.Lowers.{part_grows}
 use Rattle.input.specs.meaning.Report.{one}
@@ -10,7 +10,7 @@ use mathlib.Core.Path.{refl, ap}
 use Rattle.items.proofs.dt_property.push_reference.Goals as goal
 
 pub returns-then-not-keep : goal.returns-then-not-keep
-returns-then-not-keep c = let a = c.args in fills_dropped adding_cells a.keep _ (not-true _ c.if-not-keep.true-raw)
+returns-then-not-keep c = let a = c.args in fills_dropped adding_cells a.keep _ (search rules)
     refl
 
 pub returns : goal.returns
@@ -18,6 +18,5 @@ returns c = let a = c.args in
     same_fills (ap (λ (t : Target). one (reference t)) (same_target a.kind
     c.phandle_label_at.ensures
     c.phandle_path_at.ensures))
-    (fills_one adding_cells a.keep _ _ (not-false _
-    c.if-not-keep.false-raw) (part_grows _ _) (cell_added _)
+    (fills_one adding_cells a.keep _ _ (search rules) (part_grows _ _) (cell_added _)
     c.add_reference.ensures)

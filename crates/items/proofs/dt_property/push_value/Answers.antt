@@ -1,6 +1,6 @@
 -- A value more, where it is kept (Filled).
 use Rattle.paths_numbers.specs.meaning.Reference.{Target}
-use borrow.Author.Tests.{not-true, not-false}
+use Rattle.std.proofs.Common.{rules}
 use Rattle.input.proofs.ValueRead.{same_target, plain_reports}
 use Rattle.items.proofs.Filled.{adding_values, value_one, fills_dropped, fills_one, same_fills, bytes_fill}
 use Rattle.resolving.proofs.Lowers.{part_grows}
@@ -14,7 +14,7 @@ use Rattle.items.proofs.dt_property.push_value.Goals as goal
 
 pub returns-then-not-keep : goal.returns-then-not-keep
 returns-then-not-keep c = let a = c.args in
-    fills_dropped adding_values a.keep (plain_made a.words.now a.text.now a.r a.value) (not-true _ c.if-not-keep.true-raw)
+    fills_dropped adding_values a.keep (plain_made a.words.now a.text.now a.r a.value) (search rules)
     (plain_reports a.words.now a.text.now a.r a.value)
 
 pub returns-in-String : goal.returns-in-String
@@ -23,15 +23,14 @@ returns-in-String c = let a = c.args in
     (ap (λ (t : List ℕ). one (string t)) c.text_at.ensures
     ∙ sym (ap (plain_made a.words.now a.text.now a.r)
     c.in-String.is))
-    (fills_one adding_values a.keep _ _ (not-false _
-    c.if-not-keep.false-raw) (part_grows _ _)
+    (fills_one adding_values a.keep _ _ (search rules) (part_grows _ _)
     (value_one (string _) refl) c.add_string.ensures)
 
 pub returns-in-Bytestring : goal.returns-in-Bytestring
 returns-in-Bytestring c = let a = c.args in
     same_fills (sym (ap (plain_made a.words.now a.text.now a.r)
     c.in-Bytestring.is))
-    (bytes_fill a.keep _ (not-false _ c.if-not-keep.false-raw)
+    (bytes_fill a.keep _ (search rules)
     (rw c.text_at-in-Bytestring.ensures at c.add_bytestring.ensures))
 
 pub returns-in-Phandle : goal.returns-in-Phandle
@@ -43,6 +42,5 @@ returns-in-Phandle c = let a = c.args in
     c.phandle_path_at.ensures)
     ∙ sym (ap (plain_made a.words.now a.text.now a.r)
     c.in-Phandle.is))
-    (fills_one adding_values a.keep _ _ (not-false _
-    c.if-not-keep.false-raw) (part_grows _ _)
+    (fills_one adding_values a.keep _ _ (search rules) (part_grows _ _)
     (value_one (phandle _) refl) c.add_phandle.ensures)

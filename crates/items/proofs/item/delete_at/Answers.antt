@@ -1,5 +1,4 @@
 -- The bindings out, then the deletion at the definition's path (Deleting).
-use mathlib.Core.Path.{◌∙◌}
 use Rattle.items.proofs.Deleting.{deletes_at}
 use Rattle.items.proofs.item.delete_at.Goals as goal
 

@@ -7,13 +7,3 @@ use Rattle.items.proofs.report.emit_report.Goals as goal
 pub returns-in-Nothing : goal.returns-in-Nothing
 returns-in-Nothing c = let a = c.args in same_reports
     (sym (ap (reports_of a.words.now a.text.now) c.in-Nothing.is)) reports_none
-
-pub returns-in-Macro : goal.returns-in-Macro
-returns-in-Macro c = let a = c.args in same_reports (sym (ap (reports_of a.words.now a.text.now)
-    c.in-Macro.is))
-    c.undefined_macro.ensures
-
-pub returns-in-Code : goal.returns-in-Code
-returns-in-Code c = let a = c.args in same_reports (sym (ap (reports_of a.words.now a.text.now)
-    c.in-Code.is))
-    c.emit_code.ensures

@@ -1,11 +1,8 @@
 use borrow.Author.Rules.{rules}
-use mathlib.Core.Path.{refl, sym, ◌∙◌}
+use mathlib.Core.Path.{sym, ◌∙◌}
 use native.Mathlib.Omega.{arith}
 use Rattle.items.proofs.Unbinding.{walk_on, count_same, passes_left}
 use Rattle.items.proofs.unbind.unbind.Goals as goal
-
-pub loop-base-init : goal.loop-base-init
-loop-base-init c = (refl, refl, λ k s front p o. o)
 
 pub overflow_sub-left : goal.overflow_sub-left
 overflow_sub-left c = passes_left _ _ _ _ _ _ (sym
@@ -31,8 +28,3 @@ loop-base-preserved c =
           c.unbind_one-one.ensures (count_same _ _ (search rules)) _
           c.next_of-next.ensures,
     )
-
-pub returns : goal.returns
-returns c =
-    let l = c.loop-base in
-    record { walks = λ k s front p o. l.invariant.2 k s front p o; ends = sym c.passes.ensures ∙ c.loop-base-test.false }

@@ -16,15 +16,14 @@ returns-then-checked c =
     (checks.auto.bytes ∙ made.auto.bytes)
     _ c.if-checked.true refl c.clear.ensures.words_after c.clear.ensures.bytes_after
 
-pub put_files-requires : goal.put_files-requires
-put_files-requires c =
-    let s = c in
-    let made = c.lower_top-lowered in
-    let checks = c.check_mir_post-checked in record {
-      record_words_in_bounds = made_within s.args.level s.args.starts.now s.args.input.words.now s.args.input.text.now made.ensures
-          c.start_checks.ensures checks.ensures c.if-checked.false c.finish.ensures;
-      starts_len_bound = good_few s.args.starts.now s.requires.starts_value;
-    }
+pub put_files-requires-clause-record_words_in_bounds : goal.put_files-requires-clause-record_words_in_bounds
+put_files-requires-clause-record_words_in_bounds c =
+    let a = c.args in
+    made_within a.level a.starts.now a.input.words.now a.input.text.now c.lower_top-lowered.ensures
+    c.start_checks.ensures c.check_mir_post-checked.ensures c.if-checked.false c.finish.ensures
+
+pub put_files-requires-clause-starts_len_bound : goal.put_files-requires-clause-starts_len_bound
+put_files-requires-clause-starts_len_bound c = good_few c.args.starts.now c.requires.starts_value
 
 pub returns : goal.returns
 returns c =

@@ -4,16 +4,17 @@ use Rattle.input.proofs.Rows.{accepted_names, accepted_chain}
 use Rattle.lowering.proofs.LoweredWhole.{top_lowered}
 use Rattle.lowering.proofs.lower.lower_top.Goals as goal
 
-pub lower_items-requires : goal.lower_items-requires
+pub lower_items-requires-clause-chain_in : goal.lower_items-requires-clause-chain_in
 unfolding description
-lower_items-requires c =
-    let s = c in
-    let w = s.args.input.words.now in
-    let t = s.args.input.text.now in
-    let e = c.child_at-first.ensures in record {
-      chain_in = rw e (accepted_chain w t s.requires);
-      first_value = rw e (accepted_names w t s.requires);
-    }
+lower_items-requires-clause-chain_in c =
+    let a = c.args in
+    rw c.child_at-first.ensures (accepted_chain a.input.words.now a.input.text.now c.requires)
+
+pub lower_items-requires-clause-first_value : goal.lower_items-requires-clause-first_value
+unfolding description
+lower_items-requires-clause-first_value c =
+    let a = c.args in
+    rw c.child_at-first.ensures (accepted_names a.input.words.now a.input.text.now c.requires)
 
 pub returns : goal.returns
 returns c =

@@ -1,21 +1,14 @@
-use Prim.Native.Nat.{◌+◌, ◌*◌}
-use mathlib.Core.Path.{◌≡◌, refl, sym, ◌∙◌}
+use mathlib.Core.Path.{refl, sym, ◌∙◌}
 use native.Mathlib.Omega.{arith}
-use borrow.Author.Rules.{rules}
-use lib.ListN.{length}
 use Rattle.input.specs.meaning.Input.{second_at, chain_at}
 use Rattle.items.specs.meaning.Lower.{lower_items}
-use Rattle.input.proofs.Read.{rank, rank_less, chain_first, some_nesting, second_in}
+use Rattle.input.proofs.Read.{rank_less, chain_first, some_nesting, second_in}
 use Rattle.lowering.proofs.CountsGrow.{node_grows}
 use Rattle.items.proofs.Short.{short_lowers}
 use Rattle.items.proofs.NodeLowered.{enters_apart, node_at_lem, node_aside, node_discarded, node_nowhere}
-use Rattle.lowering.proofs.ItemsLowered.{ItemsTo, items_start, items_whole, item_good, items_more, is_node_lem, is_property_lem}
+use Rattle.lowering.proofs.ItemsLowered.{items_start, items_whole, item_good, items_more, is_node_lem, is_property_lem}
 use Rattle.lowering.proofs.ItemsLowered.{is_directive_lem, is_preprocessor, is_other, parts_good, body_good}
-use Prim.Native.Nat.{ℕ, ◌<◌}
 use Rattle.lowering.proofs.lower_item.+nesting.Goals as goal
-
-pub lower_apart-lower_items-requires : goal.lower_apart-lower_items-requires
-lower_apart-lower_items-requires t c = let s = c in let e = c.second_at-first.ensures in (omega arith, (rw e s.requires.chain_in, rw e s.requires.r_value))
 
 pub lower_apart-returns : goal.lower_apart-returns
 lower_apart-returns t c = enters_apart _ refl c.enter-inner.ensures
@@ -26,8 +19,8 @@ pub lower_dt_node-returns-then-ctx : goal.lower_dt_node-returns-then-ctx
 lower_dt_node-returns-then-ctx t c = let a = c.args in short_lowers (λ p. node_grows _ _ _ _ p)
     c.if-ctx.true
 
-pub lower_dt_node-place_node-placed-requires : goal.lower_dt_node-place_node-placed-requires
-lower_dt_node-place_node-placed-requires t c = let s = c in record { r_bound = s.requires.record_in.there; r_value = parts_good _ _ _ s.requires.r_value }
+pub lower_dt_node-place_node-placed-requires-clause-r_value : goal.lower_dt_node-place_node-placed-requires-clause-r_value
+lower_dt_node-place_node-placed-requires-clause-r_value t c = parts_good _ _ _ c.requires.r_value
 
 pub lower_dt_node-overflow_sub-nesting : goal.lower_dt_node-overflow_sub-nesting
 lower_dt_node-overflow_sub-nesting t c = let s = c in omega (arith, some_nesting _ _ s.args.input.linked _ _ s.requires.record_in)
@@ -91,38 +84,29 @@ lower_dt_node-returns-in-Nowhere t c = let s = c in node_nowhere (λ q u. lower_
     c.if-ctx.false
     c.place_node-placed.ensures c.in-Nowhere.is
 
-pub lower_item-lower_dt_node-requires : goal.lower_item-lower_dt_node-requires
-lower_item-lower_dt_node-requires t c = let s = c in (omega arith, (s.requires.record_in, s.requires.r_value))
-
 pub lower_item-returns-in-1 : goal.lower_item-returns-in-1
 lower_item-returns-in-1 t c = let a = c.args in
     is_node_lem a.level a.input.words.now a.input.text.now a.r (sym c.kind_at-kind.ensures ∙ c.in-1.is) c.lower_dt_node.ensures
 
-pub lower_item-lower_dt_property-requires : goal.lower_item-lower_dt_property-requires
-lower_item-lower_dt_property-requires t c = let s = c in record {
-  record_in = s.requires.record_in;
-  r_value = parts_good _ _ _ s.requires.r_value;
-}
+pub lower_item-lower_dt_property-requires-clause-r_value : goal.lower_item-lower_dt_property-requires-clause-r_value
+lower_item-lower_dt_property-requires-clause-r_value t c = parts_good _ _ _ c.requires.r_value
 
 pub lower_item-returns-in-2 : goal.lower_item-returns-in-2
 lower_item-returns-in-2 t c = let a = c.args in
-    is_property_lem a.level a.input.words.now a.input.text.now a.r (λ e. omega arith)
+    is_property_lem a.level a.input.words.now a.input.text.now a.r
     (sym c.kind_at-kind.ensures ∙ c.in-2.is) c.lower_dt_property.ensures
 
-pub lower_item-handle_dts_directive-requires : goal.lower_item-handle_dts_directive-requires
-lower_item-handle_dts_directive-requires t c = let s = c in record {
-  r_bound = s.requires.record_in.there;
-  r_value = parts_good _ _ _ s.requires.r_value;
-}
+pub lower_item-handle_dts_directive-requires-clause-r_value : goal.lower_item-handle_dts_directive-requires-clause-r_value
+lower_item-handle_dts_directive-requires-clause-r_value t c = parts_good _ _ _ c.requires.r_value
 
 pub lower_item-returns-in-3 : goal.lower_item-returns-in-3
 lower_item-returns-in-3 t c = let a = c.args in
-    is_directive_lem a.level a.input.words.now a.input.text.now a.r (λ e. omega arith) (λ e. omega arith)
+    is_directive_lem a.level a.input.words.now a.input.text.now a.r
     (sym c.kind_at-kind.ensures ∙ c.in-3.is) c.handle_dts_directive.ensures
 
 pub lower_item-returns-in-4 : goal.lower_item-returns-in-4
 lower_item-returns-in-4 t c = let a = c.args in
-    is_preprocessor a.level a.input.words.now a.input.text.now a.r (λ e. omega arith) (λ e. omega arith) (λ e. omega arith)
+    is_preprocessor a.level a.input.words.now a.input.text.now a.r
     (sym c.kind_at-kind.ensures ∙ c.in-4.is) c.emit_code.ensures
 
 pub lower_item-returns-in_default : goal.lower_item-returns-in_default

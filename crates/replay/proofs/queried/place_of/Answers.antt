@@ -1,0 +1,9 @@
+-- A chain has no more records than a log.
+use Rattle.std.proofs.Common.{arith, ap, inl}
+use lib.ListN.{length}
+use Rattle.queries.proofs.Chain.{chain_most, count_most}
+use Rattle.replay.proofs.queried.place_of.Goals as goal
+
+pub position-requires-clause-fits : goal.position-requires-clause-fits
+position-requires-clause-fits c =
+    inl (omega (arith, ap length c.chain.ensures, chain_most c.args.out.now c.out_field-first.result, count_most c.args.out.now))
