@@ -76,9 +76,9 @@ pub fn unbind(
     }
     Unbound {
         ctx: d,
-        previous: previous,
+        previous,
         next: r,
-        left: left,
+        left,
     }
 }
 
@@ -113,13 +113,10 @@ fn unbind_one(
     if goes_with(ctx, out, bytes, base, name, unit, r) {
         return Unlinked {
             ctx: ctx.unlink_binding(out, bytes, previous, r),
-            previous: previous,
+            previous,
         };
     }
-    Unlinked {
-        ctx: ctx,
-        previous: r,
-    }
+    Unlinked { ctx, previous: r }
 }
 
 // Whether a binding goes with what is deleted.
