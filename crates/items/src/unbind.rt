@@ -77,9 +77,9 @@ pub fn unbind(
     }
     Unbound {
         ctx: d,
-        previous: previous,
+        previous,
         next: r,
-        left: left,
+        left,
     }
 }
 
@@ -114,13 +114,10 @@ fn unbind_one(
     if goes_with(ctx, out, bytes, base, name, unit, r) {
         return Unlinked {
             ctx: ctx.unlink_binding(out, bytes, previous, r),
-            previous: previous,
+            previous,
         };
     }
-    Unlinked {
-        ctx: ctx,
-        previous: r,
-    }
+    Unlinked { ctx, previous: r }
 }
 
 // Whether a binding goes with what is deleted.

@@ -24,7 +24,8 @@ returns c =
     let a = s.args in
     λ parent.
     place_missing a.ctx a.out.now a.bytes.now
-    c.resolve_phandle-leads.result a.input.words.now a.input.text.now a.reference a.kind c.resolve_phandle-leads.ensures.1 (c.resolve_phandle-leads.ensures.0 _ refl)
+    c.resolve_phandle-leads.result a.input.words.now a.input.text.now a.reference a.kind c.resolve_phandle-leads.ensures.1
+    (c.resolve_phandle-leads.ensures.0 _ refl)
     (sym c.leads_on.ensures
     ∙ c.if-leads_on.false)
     (c.sets_overlay_in-keeps.ensures a.bytes.now)

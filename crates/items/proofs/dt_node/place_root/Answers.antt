@@ -1,5 +1,4 @@
 -- Inside a node, or on top (NodePlaced).
-use mathlib.Core.Path.{sym, ◌∙◌}
 use mathlib.Core.Bool.{true, false}
 use Rattle.std.proofs.Common.{rules}
 use mathlib.Core.List.{[], ◌∷◌}

@@ -12,7 +12,8 @@ lower_cell-next-requires c = let s = c in let l = c.loop-r in record {
 
 pub loop-r-smaller : goal.loop-r-smaller
 loop-r-smaller c = let s = c in let l = c.loop-r in let n = c.loop-r-test.true in
-    rw c.next_at-r.ensures (rank_less s.args.input.words.now l.r _ n (l.invariant.0.at n) (s.args.input.linked.all l.r (l.invariant.0.at n)).next)
+    rw c.next_at-r.ensures
+    (rank_less s.args.input.words.now l.r _ n (l.invariant.0.at n) (s.args.input.linked.all l.r (l.invariant.0.at n)).next)
 
 pub loop-r-preserved : goal.loop-r-preserved
 loop-r-preserved c = let s = c in let l = c.loop-r in let n = c.loop-r-test.true in

@@ -16,7 +16,8 @@ invariant-loop-r l = ChainIn l.input.words.now l.input.text.now l.r l.nesting
     × (length l.out ≡ length l.initial.out)
     × (length l.bytes ≡ length l.initial.bytes) × ((d : LowerCtx) (w b : List ℕ)
     → FillsCells l.keep l.next d l.out l.bytes w b (lower_cells l.level l.size (chain_at l.input.words.now l.input.text.now l.r))
-    → FillsCells l.keep l.initial.next d l.initial.out l.initial.bytes w b (lower_cells l.level l.size (chain_at l.input.words.now l.input.text.now l.initial.r)))
+    → FillsCells l.keep l.initial.next d l.initial.out l.initial.bytes w b
+    (lower_cells l.level l.size (chain_at l.input.words.now l.input.text.now l.initial.r)))
 
 abbrev pub decreases-loop-r : goal.decreases-loop-r
 decreases-loop-r l = rank l.input.words.now l.r

@@ -16,7 +16,8 @@ invariant-loop-r l = ChainIn l.input.words.now l.input.text.now l.r l.nesting
     × (length l.out ≡ length l.initial.out)
     × (length l.bytes ≡ length l.initial.bytes) × ((d : LowerCtx) (w b : List ℕ)
     → FillsProperty l.keep l.next d l.out l.bytes w b (lower_values l.level (chain_at l.input.words.now l.input.text.now l.r))
-    → FillsProperty l.keep l.initial.next d l.initial.out l.initial.bytes w b (lower_values l.level (chain_at l.input.words.now l.input.text.now l.initial.r)))
+    → FillsProperty l.keep l.initial.next d l.initial.out l.initial.bytes w b
+    (lower_values l.level (chain_at l.input.words.now l.input.text.now l.initial.r)))
 
 abbrev pub decreases-loop-r : goal.decreases-loop-r
 decreases-loop-r l = rank l.input.words.now l.r

@@ -14,7 +14,8 @@ loop-r-smaller c =
     let s = c in
     let l = c.loop-r in
     let n = c.loop-r-test.true in
-    rw c.next_at-r.ensures (rank_less s.args.input.words.now l.r _ n (l.invariant.2.at n) (s.args.input.linked.all l.r (l.invariant.2.at n)).next)
+    rw c.next_at-r.ensures
+    (rank_less s.args.input.words.now l.r _ n (l.invariant.2.at n) (s.args.input.linked.all l.r (l.invariant.2.at n)).next)
 
 pub loop-r-preserved : goal.loop-r-preserved
 loop-r-preserved c =

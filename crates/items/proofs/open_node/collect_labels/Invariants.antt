@@ -7,7 +7,8 @@ use Rattle.items.proofs.open_node.collect_labels.Given as goal
 
 abbrev pub invariant-loop-r : goal.invariant-loop-r
 invariant-loop-r l =
-    (length l.out ≡ length l.initial.out) × (length l.bytes ≡ length l.initial.bytes) × LabelsTo l.place l.initial.state l.state l.initial.out l.initial.bytes l.out l.bytes l.input.words.now l.input.text.now l.parts l.r
+    (length l.out ≡ length l.initial.out) × (length l.bytes ≡ length l.initial.bytes) × LabelsTo l.place l.initial.state l.state
+    l.initial.out l.initial.bytes l.out l.bytes l.input.words.now l.input.text.now l.parts l.r
 
 abbrev pub decreases-loop-r : goal.decreases-loop-r
 decreases-loop-r l = rank l.input.words.now l.r

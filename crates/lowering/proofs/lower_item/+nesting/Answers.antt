@@ -42,7 +42,8 @@ lower_dt_node-lower_apart-body-requires t c = let s = c in (
 )
 
 pub lower_dt_node-overflow_sub-nesting-in-Discarded : goal.lower_dt_node-overflow_sub-nesting-in-Discarded
-lower_dt_node-overflow_sub-nesting-in-Discarded t c = let s = c in omega (arith, some_nesting _ _ s.args.input.linked _ _ s.requires.record_in)
+lower_dt_node-overflow_sub-nesting-in-Discarded t c = let s = c in
+    omega (arith, some_nesting _ _ s.args.input.linked _ _ s.requires.record_in)
 
 pub lower_dt_node-lower_apart-body-requires-in-Discarded : goal.lower_dt_node-lower_apart-body-requires-in-Discarded
 lower_dt_node-lower_apart-body-requires-in-Discarded t c = let s = c in (
@@ -79,8 +80,9 @@ lower_dt_node-returns-in-Discarded t c = let s = c in node_discarded
     c.leave_dropped.ensures
 
 pub lower_dt_node-returns-in-Nowhere : goal.lower_dt_node-returns-in-Nowhere
-lower_dt_node-returns-in-Nowhere t c = let s = c in node_nowhere (λ q u. lower_items s.args.level (chain_at s.args.input.words.now s.args.input.text.now
-    (second_at s.args.input.words.now s.args.r)) q u)
+lower_dt_node-returns-in-Nowhere t c = let s = c in node_nowhere
+    (λ q u. lower_items s.args.level (chain_at s.args.input.words.now s.args.input.text.now (second_at s.args.input.words.now s.args.r))
+    q u)
     c.if-ctx.false
     c.place_node-placed.ensures c.in-Nowhere.is
 
