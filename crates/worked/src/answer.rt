@@ -27,7 +27,10 @@ pub fn answer<W: Write>(out: &mut W, kind: &[u8], a: &[u8], b: &[u8], c: &[u8]) 
         b"cell" => number_or_code(out, dt_property::expr_cell(value_of(b), size_of(a))),
         b"char" => number_or_code(out, dt_property::char_cell(small_of(b), size_of(a))),
         b"prefix" => evaluated(out, operators::eval_prefix(small_of(a), value_of(b))),
-        b"infix" => evaluated(out, operators::eval_infix(small_of(a), value_of(b), value_of(c))),
+        b"infix" => evaluated(
+            out,
+            operators::eval_infix(small_of(a), value_of(b), value_of(c)),
+        ),
         [_, width @ ..] => number_or_code(out, expr_eval::parse_int_tok(a, size_of(width))),
         [] => Ok(()),
     }
