@@ -39,22 +39,24 @@ fn read_crate(name: &str, names: &[String], from: &Path, to: &Path) {
     }
 }
 
-/// A source without ghost lines, contracts and attributes, its own crate and the others as modules of one, and the
-/// prover's sums that wrap as Rust's.
+/// A source without ghost lines, contracts and attributes but derives, its own crate and the others as modules of one,
+/// and the prover's sums that wrap as Rust's.
 fn as_rust(name: &str, names: &[String], source: &str) -> String {
     let mut out = String::new();
     let mut open = 0;
     for line in source.lines() {
         let start = line.trim_start();
         let contract = ["requires", "ensures"].contains(&start.split(' ').next().unwrap_or_default());
-        let attribute = start.starts_with("#[") || start.starts_with("#![");
+        let kept = start.starts_with("#[derive(") && start != "#[derive(Drop)]";
+        let attribute = !kept && (start.starts_with("#[") || start.starts_with("#!["));
         if open > 0 || contract || attribute {
             open += line.matches(['{', '[']).count();
             open -= line.matches(['}', ']']).count();
-        } else if !start.starts_with("ghost ") {
-            if ["pub enum ", "pub struct ", "enum ", "struct "].iter().any(|word| start.starts_with(word)) {
-                out += "#[derive(Clone, Copy)]\n";
+            // A trait's function ends with its contract.
+            if open == 0 && !attribute && line.ends_with(';') {
+                out += ";\n";
             }
+        } else if !start.starts_with("ghost ") && !start.starts_with("pub ghost ") {
             let line = line.replace("pub extern \"C\" fn", "pub fn");
             let line = ["add", "sub"].iter().fold(line, |line, op| {
                 line.replace(&format!("std::num::wrapping_{op}_u64"), &format!("u64::wrapping_{op}"))

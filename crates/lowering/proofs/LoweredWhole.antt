@@ -38,7 +38,7 @@ pub top_lowered : (level : ℕ) (words text : List ℕ) {c d : LowerCtx} {out by
 unfolding description lowered
 top_lowered level words text h l =
     let p : Place = record { at = top; path = [] } in
-    forget_place (l.lowers at_start [] start (top_place p refl refl refl refl h))
+    forget_place (l.lowers at_start [] start (top_place p refl refl h))
 
 -- the post checks read no diagnostic
 checks_alike : (s : State) → post_checks (checking s) ≡ post_checks s

@@ -12,8 +12,8 @@ use crate::ctx::{LowerCtx, Rec};
 use crate::recs::{label_of, path_of};
 use crate::text::{Piece, Text};
 use definition_log::kinds::{BYTESTRING, CELL_LIST, LABEL, NUMBER, REFERENCE, STRING};
-use paths_numbers::phandle::MirPhandleTarget;
 use paths_numbers::dt_property::bytestring_len;
+use paths_numbers::phandle::MirPhandleTarget;
 
 impl LowerCtx {
     // A label of a node.

@@ -15,9 +15,7 @@ use definition_log::kinds::{CELL_LIST, PROPERTY, REFERENCE};
 use definition_log::layout;
 use definition_log::limits::{FEW_RECORDS, LEAST_RECORDS, MOST_RECORDS};
 use definition_log::parts::{Span, name_span_of};
-use definition_log::record::{
-    child_of, kind_of, log_count, out_field,
-};
+use definition_log::record::{child_of, kind_of, log_count, out_field};
 use input::record::no_text;
 use making::ctx::LowerCtx;
 use making::place::{PathAt, first_place, second_place};
@@ -176,8 +174,12 @@ fn check_phandle(out: &mut [u32], bytes: &mut [u8], ctx: LowerCtx, span: Span, r
 fn target_place(out: &[u32], r: u32) -> PathAt
     ensures { result ≡ target_place out.now r }
 {
-    match out_field(out, r, layout::N) {
-        1 | 2 => first_place(out, r),
-        _ => PathAt::EMPTY,
+    let n = out_field(out, r, layout::N);
+    if n == 1 {
+        return first_place(out, r);
     }
+    if n == 2 {
+        return first_place(out, r);
+    }
+    PathAt::EMPTY
 }

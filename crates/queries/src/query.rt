@@ -33,12 +33,7 @@ pub fn iter_live_defs_under(
 }
 
 // The history of a path, earliest first, by record numbers.
-pub fn history(
-    words: &[u32],
-    bytes: &[u8],
-    path: &[u8],
-    list: &mut [u32],
-) -> Result<u32, Refusal>
+pub fn history(words: &[u32], bytes: &[u8], path: &[u8], list: &mut [u32]) -> Result<u32, Refusal>
     ensures result_value { told result ≡ query_answer words.now bytes.now path.now (length list.old)
         (history_answers words.now bytes.now path.now) }
     ensures list_after { list.new ≡ query_out words.now bytes.now path.now list.old

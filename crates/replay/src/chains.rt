@@ -2,10 +2,9 @@
 // behind its end differs or not.
 use crate::records::{ChainOf, record_itself};
 use crate::tally::Tally;
-use definition_log::chain;
 use definition_log::kinds::{CELL_LIST, NODE, PROPERTY};
-use definition_log::layout;
 use definition_log::record::{child_of, kind_of, next_of, out_field};
+use definition_log::{chain, layout};
 use std::io;
 
 // A chain: how many records it has, and each of them with the chains that it has.

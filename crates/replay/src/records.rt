@@ -109,7 +109,10 @@ fn reference<R: Print>(out: &[u32], bytes: &[u8], r: u32, t: &mut Tally<R>) -> i
 // The span and the name span of a record.
 fn spans<R: Print>(out: &[u32], r: u32, t: &mut Tally<R>) -> io::Result<()> {
     span(out, r, t)?;
-    t.number(out_field(out, r, layout::NAME_START), "start of a name span")?;
+    t.number(
+        out_field(out, r, layout::NAME_START),
+        "start of a name span",
+    )?;
     t.number(out_field(out, r, layout::NAME_END), "end of a name span")
 }
 

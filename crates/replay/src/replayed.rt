@@ -111,10 +111,7 @@ fn replay_log<R: Print>(
 ) -> io::Result<()> {
     let answer = lower_case(words, text, out, bytes);
     t.noted(answer.is_ok(), "number of an input")?;
-    t.noted(
-        Numbers::from(answer).returned == 0,
-        "returned of an input",
-    )?;
+    t.noted(Numbers::from(answer).returned == 0, "returned of an input")?;
     whole_log(out, bytes, t)
 }
 

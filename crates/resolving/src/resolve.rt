@@ -6,7 +6,6 @@ ghost use Rattle.resolving.specs.machine.Leading.{FirstWith, ReportsMissing};
 
 use definition_log::layout;
 use definition_log::parts::Span;
-use paths_numbers::phandle::MirPhandleTarget;
 use definition_log::record::{first_text, log_count, next_of, out_field, second_text};
 use input::phandle::{phandle_label_at, phandle_path_at};
 use input::record::no_text;
@@ -14,6 +13,7 @@ use input::report::Report;
 use making::ctx::LowerCtx;
 use making::place::second_place;
 use paths_numbers::codes::{LABEL_NOT_FOUND, NODE_AMBIGUOUS, NODE_NOT_FOUND};
+use paths_numbers::phandle::MirPhandleTarget;
 use paths_numbers::text::equals;
 use queries::definition::goes_on;
 use queries::lookup::{Lookup, lookup_in, lookup_path};

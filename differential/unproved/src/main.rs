@@ -15,14 +15,14 @@ use judge::{
     panics, parts,
 };
 use paths_numbers::{
-    dt_node::{self, Built},
-    dt_property::{self, BitsSize, ByteCount, BytesWritten, Cell, SizeRead},
-    expr_eval::{self, IntErrorKind, ParsedI64, ParsedInt},
+    dt_node,
+    dt_property::{self, BitsSize, CellError, MissingDigit, SizeError},
+    expr_eval::{self, IntErrorKind},
     mir,
-    operators::{self, Evaluated},
+    operators::{self, EvalError},
     phandle::{self, MirPhandleTarget},
 };
-use slashes::slash::{self, Found};
+use slashes::slash;
 
 fn main() -> ExitCode {
     panics::install_hook();
@@ -57,10 +57,7 @@ fn ours() -> Leaves {
         }),
         join: Some(|parent, name, unit| {
             let length = dt_node::path_len(parent, name, unit);
-            in_room(length, &|out| match dt_node::build_path(parent, name, unit, out, 2) {
-                Built::Bytes(length) => Some(length),
-                Built::NoRoom => None,
-            })
+            in_room(length, &|out| dt_node::build_path(parent, name, unit, out, 2))
         }),
         against_joined: Some(|path, parent, name, unit| {
             [
@@ -70,26 +67,18 @@ fn ours() -> Leaves {
             ]
         }),
         is_path: Some(mir::good_path),
-        next_slash: Some(|path, from| match slash::next_slash(path, from) {
-            Found::At(place) => Some(place),
-            Found::Nothing => None,
-        }),
+        next_slash: Some(slash::next_slash),
         int: Some(int),
         width: Some(|text| match BitsSize::from_token(text) {
-            SizeRead::Size(size) => Ok(size.bits()),
-            SizeRead::Unsupported => Err(12),
-            SizeRead::Failed(error) => Err(code(error)),
+            Ok(size) => Ok(size.bits()),
+            Err(SizeError::Unsupported) => Err(12),
+            Err(SizeError::Int(error)) => Err(code(error)),
         }),
         cell: Some(|bits, value| cell(dt_property::expr_cell(value, size(bits)))),
         character: Some(|bits, point| cell(dt_property::char_cell(point, size(bits)))),
         bytes: Some(|text| match dt_property::bytestring_len(text) {
-            ByteCount::MissingDigit => Err(11),
-            ByteCount::Bytes(length) => {
-                Ok(in_room(length, &|out| match dt_property::lower_bytestring(text, out, 2) {
-                    BytesWritten::Bytes(length) => Some(length),
-                    _ => None,
-                }))
-            }
+            Err(MissingDigit) => Err(11),
+            Ok(length) => Ok(in_room(length, &|out| dt_property::lower_bytestring(text, out, 2).ok())),
         }),
         prefix: Some(|op, operand| evaluated(operators::eval_prefix(op, operand))),
         infix: Some(|op, left, right| evaluated(operators::eval_infix(op, left, right))),
@@ -98,13 +87,12 @@ fn ours() -> Leaves {
             let target = |form, label: &[u8], path: &[u8]| {
                 Some(Target { form, label: label.to_vec(), path: path.to_vec() })
             };
-            match phandle::lower_phandle(raw) {
+            match phandle::lower_phandle(raw)? {
                 MirPhandleTarget::Label => target(1, phandle::phandle_label(raw), b""),
                 MirPhandleTarget::LabelPath => {
                     target(2, phandle::phandle_label(raw), phandle::phandle_path(raw))
                 }
                 MirPhandleTarget::Path => target(3, b"", phandle::phandle_path(raw)),
-                MirPhandleTarget::Unreadable => None,
             }
         }),
     }
@@ -129,36 +117,28 @@ fn code(error: IntErrorKind) -> u32 {
 }
 
 fn int(kind: Int, text: &[u8]) -> Result<i128, u32> {
-    let unsigned = |size| match expr_eval::parse_int_tok(text, size) {
-        ParsedInt::Value(value) => Ok(value.into()),
-        ParsedInt::Failed(error) => Err(code(error)),
-    };
+    let unsigned = |size| expr_eval::parse_int_tok(text, size).map(i128::from).map_err(code);
     match kind {
         Int::U8 => unsigned(BitsSize::Bits8),
         Int::U16 => unsigned(BitsSize::Bits16),
         Int::U32 => unsigned(BitsSize::Bits32),
         Int::U64 => unsigned(BitsSize::Bits64),
-        Int::I64 => match expr_eval::parse_int_tok_i64(text) {
-            ParsedI64::Value(value) => Ok(value.into()),
-            ParsedI64::Failed(error) => Err(code(error)),
-        },
+        Int::I64 => expr_eval::parse_int_tok_i64(text).map(i128::from).map_err(code),
     }
 }
 
-fn cell(cell: Cell) -> Result<u64, u32> {
-    match cell {
-        Cell::Number(number) => Ok(number),
-        Cell::CharTooLarge => Err(13),
-        Cell::ExprOutside => Err(15),
-    }
+fn cell(cell: Result<u64, CellError>) -> Result<u64, u32> {
+    cell.map_err(|error| match error {
+        CellError::CharTooLarge => 13,
+        CellError::ExprOutside => 15,
+    })
 }
 
-fn evaluated(evaluated: Evaluated) -> Result<i64, u32> {
-    match evaluated {
-        Evaluated::Value(value) => Ok(value),
-        Evaluated::Outside => Err(24),
-        Evaluated::ZeroDivisor => Err(25),
-        Evaluated::ShiftAmount => Err(26),
-        Evaluated::Missing => Err(0),
-    }
+fn evaluated(evaluated: Result<i64, EvalError>) -> Result<i64, u32> {
+    evaluated.map_err(|error| match error {
+        EvalError::Outside => 24,
+        EvalError::ZeroDivisor => 25,
+        EvalError::ShiftAmount => 26,
+        EvalError::Missing => 0,
+    })
 }

@@ -11,21 +11,6 @@ use Rattle.items.proofs.Reported.{same_reports}
 use Rattle.items.proofs.NodePlaced.{name_decides, slash_decides, nothing_decides, there_some, not_there}
 use Rattle.items.proofs.dt_node.place_by_name.Goals as goal
 
-pub full_name-full-requires : goal.full_name-full-requires
-full_name-full-requires c = let s = c in record {
-  at = child_there _ s.args.input.linked s.args.r
-      s.requires.r_bound _ c.child_at-parts.ensures;
-}
-
-pub place_below-requires : goal.place_below-requires
-place_below-requires c = let s = c in record {
-  r_bound = s.requires.r_bound;
-  full_name_read = rw
-      c.child_at-parts.ensures at
-      c.full_name-full.ensures;
-  r_value = s.requires.r_value;
-}
-
 pub returns-then-is_named : goal.returns-then-is_named
 returns-then-is_named c =
     let s = c in
@@ -42,15 +27,6 @@ returns-then-is_named c =
     (same_reports (ap (λ (x : Got (List ℕ)). x.reports) read)
     c.emit_name-reported.ensures)
     there.0 there.1 (c.place_below.ensures there.0 there.1)
-
-pub has_kind-requires : goal.has_kind-requires
-has_kind-requires c = let s = c in record {
-  at = child_there _ s.args.input.linked s.args.r s.requires.r_bound _
-      c.child_at-parts.ensures;
-}
-
-pub place_root-requires : goal.place_root-requires
-place_root-requires c = let s = c in record { r_bound = s.requires.r_bound }
 
 pub returns-then-has_kind : goal.returns-then-has_kind
 returns-then-has_kind c =

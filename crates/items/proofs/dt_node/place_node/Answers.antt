@@ -3,12 +3,6 @@ use Rattle.input.proofs.Read.{child_there, first_missing, first_there}
 use Rattle.items.proofs.NodePlaced.{without_reference, by_reference}
 use Rattle.items.proofs.dt_node.place_node.Goals as goal
 
-pub first_of-reference-requires : goal.first_of-reference-requires
-first_of-reference-requires c = let s = c in record {
-  at = child_there _ s.args.input.linked s.args.r
-      s.requires.r_bound _ c.child_at.ensures;
-}
-
 pub returns-then-reference-eq0 : goal.returns-then-reference-eq0
 returns-then-reference-eq0 c =
     let s = c in
@@ -17,9 +11,6 @@ returns-then-reference-eq0 c =
     (first_missing _ _ _ _ c.first_of-reference.ensures text
     c.if-reference-eq0.true))
     c.place_by_name.ensures
-
-pub place_by_reference-requires : goal.place_by_reference-requires
-place_by_reference-requires c = let s = c in record { r_bound = s.requires.r_bound; reference_bound = c.first_of-reference.ensures.at c.if-reference-eq0.false }
 
 pub returns : goal.returns
 returns c =

@@ -5,12 +5,6 @@ use Rattle.items.proofs.NodeReferenced.{place_found, place_missing}
 use Rattle.input.specs.machine.At.{record_at}
 use Rattle.items.proofs.dt_node.place_resolved.Goals as goal
 
-pub open_node-requires : goal.open_node-requires
-open_node-requires c = let s = c in record {
-  at = child_there _ s.args.input.linked s.args.r s.requires.r_bound _
-      c.child_at.ensures;
-}
-
 pub returns-then-leads_on : goal.returns-then-leads_on
 returns-then-leads_on c =
     let s = c in

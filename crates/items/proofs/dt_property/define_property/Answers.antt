@@ -7,12 +7,6 @@ pub returns-then-not-keep : goal.returns-then-not-keep
 returns-then-not-keep c = let a = c.args in property_dropped_at a.input.words.now a.input.text.now a.r a.f
     a.keep (not-true _ c.if-not-keep.true-raw)
 
-pub property_name_span-name_span-requires : goal.property_name_span-name_span-requires
-property_name_span-name_span-requires c = let s = c in record {
-  at = rw
-      c.child_at.ensures s.requires.at;
-}
-
 pub returns : goal.returns
 returns c = let a = c.args in
     property_kept_at a.input.words.now a.input.text.now a.r a.f a.keep

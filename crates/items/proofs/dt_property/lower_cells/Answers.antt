@@ -29,12 +29,6 @@ loop-r-preserved c = let s = c in let l = c.loop-r in let n = c.loop-r-test.true
           (fills_then adding_cells s.args.keep _ _ c.lower_cell-next.ensures h)),
     )
 
-pub shape_of-out : goal.shape_of-out
-shape_of-out c = c.loop-r.invariant.1
-
-pub shape_of-bytes : goal.shape_of-bytes
-shape_of-bytes c = c.loop-r.invariant.2
-
 pub returns : goal.returns
 returns c = let s = c in let l = c.loop-r in
     l.invariant.3 _ _ _ (same_fills

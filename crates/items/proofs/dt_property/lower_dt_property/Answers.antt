@@ -20,15 +20,6 @@ returns-then-is_top c = let a = c.args in
     (sym c.is_top.ensures
     ∙ c.if-is_top.true) c.emit_code.ensures
 
-pub full_name-name-requires : goal.full_name-name-requires
-full_name-name-requires c = let s = c in record {
-  at = rw c.child_at.ensures
-      (s.args.input.linked.all s.args.r s.requires.record_in.there).child.within;
-}
-
-pub define_property-made-requires : goal.define_property-made-requires
-define_property-made-requires c = let s = c in record { at = (s.args.input.linked.all s.args.r s.requires.record_in.there).child.within }
-
 pub overflow_sub-nesting : goal.overflow_sub-nesting
 overflow_sub-nesting c = let s = c in omega (
   arith,
@@ -41,15 +32,6 @@ lower_prop_values-filled-requires c = let s = c in record {
   chain_in = rw c.second_at.ensures (second_in s.args.input.words.now s.args.input.text.now s.args.input.linked s.args.r
       s.args.nesting s.requires.record_in);
 }
-
-pub shape_of-out : goal.shape_of-out
-shape_of-out c = c.emit_name.auto.out
-    ∙ c.lower_prop_values-filled.auto.out
-    ∙ c.define_property-made.auto.out
-
-pub shape_of-bytes : goal.shape_of-bytes
-shape_of-bytes c = c.emit_name.auto.bytes
-    ∙ c.lower_prop_values-filled.auto.bytes ∙ c.define_property-made.auto.bytes
 
 pub returns : goal.returns
 returns c = let s = c

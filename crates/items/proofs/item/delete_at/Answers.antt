@@ -3,10 +3,6 @@ use mathlib.Core.Path.{◌∙◌}
 use Rattle.items.proofs.Deleting.{deletes_at}
 use Rattle.items.proofs.item.delete_at.Goals as goal
 
-pub shape_of-out : goal.shape_of-out
-shape_of-out c = c.define_at.auto.words
-    ∙ c.unbind_all-without.auto.out
-
 pub returns : goal.returns
 returns c = deletes_at
     c.args.span

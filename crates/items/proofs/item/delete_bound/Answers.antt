@@ -3,11 +3,6 @@ use mathlib.Core.Path.{sym, ◌∙◌}
 use Rattle.items.proofs.DeletingBound.{deletes_left, deletes_first}
 use Rattle.items.proofs.item.delete_bound.Goals as goal
 
-pub shape_of-out-then-goes : goal.shape_of-out-then-goes
-shape_of-out-then-goes c = c.unlink_first.auto.out
-    ∙ c.define_bound-made.auto.out
-    ∙ c.unbind_others-without.auto.out
-
 pub returns-then-goes : goal.returns-then-goes
 returns-then-goes c =
     let a = c.args in

@@ -29,14 +29,6 @@ returns-in-3 c =
     c.in-3.is
     c.no_text.ensures c.emit.ensures
 
-pub emit_delete_node-requires : goal.emit_delete_node-requires
-emit_delete_node-requires c =
-    let s = c in record {
-      at = rw c.child_at-parts.ensures (s.args.input.linked.all s.args.r s.requires.r_bound).child.within;
-      parts_value = rw
-          c.child_at-parts.ensures s.requires.r_value;
-    }
-
 pub returns-in-4 : goal.returns-in-4
 returns-in-4 c =
     let a = c.args in
@@ -46,10 +38,6 @@ returns-in-4 c =
     c.in-4.is
     c.child_at-parts.ensures
     c.emit_delete_node.ensures
-
-pub emit_delete_property-requires : goal.emit_delete_property-requires
-emit_delete_property-requires c =
-    let s = c in record { at = rw c.child_at-parts.ensures (s.args.input.linked.all s.args.r s.requires.r_bound).child.within }
 
 pub returns-in-5 : goal.returns-in-5
 returns-in-5 c =

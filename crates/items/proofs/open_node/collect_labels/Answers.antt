@@ -10,9 +10,6 @@ loop-r-init c =
     let s = c in
     (refl, refl, labels_start s.args.input.words.now s.args.input.text.now s.args.parts s.requires.at)
 
-pub lower_label-state-requires : goal.lower_label-state-requires
-lower_label-state-requires c = record { r_bound = c.loop-r.invariant.2.at c.loop-r-test.true }
-
 pub loop-r-smaller : goal.loop-r-smaller
 loop-r-smaller c =
     let s = c in
@@ -35,12 +32,6 @@ loop-r-preserved c =
           let m = labels_other s.args.input.linked l.invariant.2 n (λ e. w.if-kind_at-eq-LABEL.false (k ∙ e)) in
           rw (w.out-is, w.bytes-is, w.state-is) (l.invariant.0, l.invariant.1, m)
     ])
-
-pub shape_of-out : goal.shape_of-out
-shape_of-out c = c.loop-r.invariant.0
-
-pub shape_of-bytes : goal.shape_of-bytes
-shape_of-bytes c = c.loop-r.invariant.1
 
 pub returns : goal.returns
 returns c = labels_whole c.args.input.linked c.loop-r.invariant.2 c.loop-r-test.false

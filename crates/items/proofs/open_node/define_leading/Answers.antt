@@ -8,18 +8,6 @@ use Rattle.input.proofs.Read.{child_there}
 use Rattle.items.proofs.NodeReferenced.{defines_bound, defines_below, defines_path, defines_named, defines_none}
 use Rattle.items.proofs.open_node.define_leading.Goals as goal
 
-pub node_kind-kind-requires : goal.node_kind-kind-requires
-node_kind-kind-requires c = let s = c in record {
-  at = child_there _ s.args.input.linked s.args.r
-      s.requires.r_bound _ c.child_at-parts.ensures;
-}
-
-pub node_name_span-name_span-requires : goal.node_name_span-name_span-requires
-node_name_span-name_span-requires c = let s = c in record {
-  at = child_there _ s.args.input.linked
-      s.args.r s.requires.r_bound _ c.child_at-parts.ensures;
-}
-
 pub returns-in-Bound : goal.returns-in-Bound
 returns-in-Bound c =
     let a = c.args in

@@ -3,10 +3,6 @@ use Rattle.input.specs.machine.At.{record_at}
 use Rattle.items.proofs.Labels.{label_bound, label_reported, label_read}
 use Rattle.items.proofs.open_node.lower_label.Goals as goal
 
-pub name_or_macro-requires : goal.name_or_macro-requires
-name_or_macro-requires c =
-    let s = c in record { at = rw c.child_at.ensures (s.args.input.linked.all s.args.r s.requires.r_bound).child.within }
-
 pub returns-in-Ok : goal.returns-in-Ok
 unfolding record_at
 returns-in-Ok c =

@@ -40,7 +40,7 @@ pub returns-in-BoundPath : goal.returns-in-BoundPath
 returns-in-BoundPath c =
     let a = c.args in
     goes_by a.ctx.bytes a.out.now a.bytes.now a.name.now a.unit.now a.ctx.defs.first a.base a.r
-    c.unbinds_path.ensures c.first_text-label.ensures
+    c.unbinds-in-BoundPath.ensures c.first_text-label.ensures
     c.second_text-path.ensures
     (base_below a.ctx.bytes a.out.now a.bytes.now a.name.now a.unit.now a.base _ _
-    c.second_text-in-BoundPath.ensures c.in-BoundPath.is)
+    c.second_text-parent.ensures c.in-BoundPath.is)

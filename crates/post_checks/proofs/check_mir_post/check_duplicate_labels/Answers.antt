@@ -16,7 +16,7 @@ pub loop-r-init : goal.loop-r-init
 loop-r-init c = let a = c.args in (
   refl,
   refl,
-  ap (λ (w : Walk). w.left) c.new-walk.ensures,
+  omega (arith, ap (λ (w : Walk). w.left) c.new-walk.ensures),
   rw c.new-walk.ensures
       (walks_start a.ctx a.out.now a.bytes.now _ a.ctx.binds.first (log_count a.out.now) _
       (λ (passed later : List ℕ). duplicate_labels (labels_seen (map (binding_at a.out.now a.bytes.now) passed))
