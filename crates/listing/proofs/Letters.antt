@@ -5,6 +5,7 @@ use mathlib.Core.Path.{◌≡◌, refl, sym, ap, ◌∙◌}
 use mathlib.Core.Bool.{Bool, true, false, cond}
 use mathlib.Core.List.{List, [], ◌∷◌, flat_map}
 use native.Mathlib.Omega.{arith}
+use borrow.Author.Tests.{ne_eqb}
 use lib.Dec.{eqb}
 use lib.ListN.{length}
 use Rattle.paths_numbers.proofs.Texts.{no_byte}
@@ -14,6 +15,7 @@ use Rattle.definition_log.specs.meaning.ReadBack.{def_at, def_value_at, read_lab
 use Rattle.queries.specs.meaning.Labels.{labels_in}
 use Rattle.queries.proofs.Records.{by_kind, value_of, labels_kind}
 use Rattle.listing.specs.meaning.Listing.{letter, path_field, definition_line, label_line, definition_lines}
+use Rattle.listing.specs.declared.page.Page.{Page}
 use Rattle.listing.specs.machine.Page.{Puts}
 use Rattle.listing.proofs.Pages.{puts_same, then_puts, puts_none}
 
@@ -39,6 +41,19 @@ letter_kind words bytes r = letter_value _ _ _ (kind_of words r)
 pub letter_is : (words bytes : List ℕ) (r k l : ℕ) → k ≡ kind_of words r → letter_of k ≡ l → l ≡ letter (def_value_at words bytes r)
 letter_is words bytes r k l e f = sym (letter_kind words bytes r ∙ rw (← e) f)
 
+-- the letter of any other kind
+pub other_letter : (k : ℕ) → (k ≡ node_kind → ⊥) → (k ≡ property_kind → ⊥) → (k ≡ deleted_node_kind → ⊥) → (k ≡ deleted_property_kind → ⊥)
+    → (k ≡ plugin_kind → ⊥)
+    → letter_of k ≡ code "V"
+other_letter k a b c d e =
+    simp (
+      ne_eqb k node_kind a,
+      ne_eqb k property_kind b,
+      ne_eqb k deleted_node_kind c,
+      ne_eqb k deleted_property_kind d,
+      ne_eqb k plugin_kind e,
+    )
+
 -- an empty path, and another
 pub no_path : (p : List ℕ) → length p ≡ 0 → code "-" ∷ [] ≡ path_field p
 no_path p h = sym (ap path_field (no_byte p h))
@@ -48,14 +63,14 @@ a_path [] h = absurd (omega arith)
 a_path (b ∷ p) h = refl
 
 -- a node's lines, and those of another definition
-module _ (words bytes : List ℕ) (r : ℕ) {a b : List ℕ} {i j : ℕ} (own : Puts (definition_line (def_at words bytes r)) a i b j) where
-  pub node_lines : {c : List ℕ} {k : ℕ} → eqb (kind_of words r) node_kind ≡ true
-      → Puts (flat_map label_line (read_labels words bytes (child_of words r))) b j c k
-      → Puts (definition_lines (def_at words bytes r)) a i c k
+module _ (words bytes : List ℕ) (r : ℕ) {a b : Page} (own : Puts (definition_line (def_at words bytes r)) a b) where
+  pub node_lines : {c : Page} → eqb (kind_of words r) node_kind ≡ true
+      → Puts (flat_map label_line (read_labels words bytes (child_of words r))) b c
+      → Puts (definition_lines (def_at words bytes r)) a c
   unfolding definition_lines
   node_lines t p = then_puts own (puts_same (ap (flat_map label_line) (sym (labels_kind words bytes r ∙ rw t refl))) p)
 
-  pub plain_lines : eqb (kind_of words r) node_kind ≡ false → Puts (definition_lines (def_at words bytes r)) a i b j
+  pub plain_lines : eqb (kind_of words r) node_kind ≡ false → Puts (definition_lines (def_at words bytes r)) a b
   unfolding definition_lines flat_map
   plain_lines t =
       let e : labels_in (def_at words bytes r).value ≡ [] = labels_kind words bytes r ∙ rw t refl in

@@ -1,154 +1,132 @@
 // The lines of a listing, each put on a page from a record of the log.
 ghost use Rattle.std.specs.Prelude.{ℕ, ◌≡◌};
 ghost use mathlib.Core.List.{List, flat_map};
+ghost use Rattle.definition_log.specs.meaning.Answer.{refused};
 ghost use Rattle.definition_log.specs.meaning.ReadBack.{read_labels, def_value_at, def_at, binding_at, diag_at};
 ghost use Rattle.listing.specs.meaning.Listing.{letter, path_field, definition_line, label_line, definition_lines, binding_line};
 ghost use Rattle.listing.specs.meaning.Listing.{diagnostic_line, refusal_line};
 ghost use Rattle.listing.specs.machine.Page.{Puts};
 ghost use Rattle.listing.specs.machine.Chains.{record_lines};
 
-use crate::page::{put_byte, put_number, put_span, put_text};
+use crate::page::Page;
+use definition_log::answer::Refusal;
+use definition_log::chain::chain;
 use definition_log::kinds::{DELETED_NODE, DELETED_PROPERTY, NODE, PLUGIN, PROPERTY};
 use definition_log::layout;
-use definition_log::layout::{FIRST_BINDING, FIRST_DEFINITION};
 use definition_log::parts::{name_span_of, span_of};
-use definition_log::record::{
-    child_of, first_text, kind_of, log_count, next_of, out_field, second_text,
-};
-use queries::definition::goes_on;
+use definition_log::record::{child_of, first_text, kind_of, out_field, second_text};
 
-// A record of the chain whose first record stands at a place of record 0.
-pub fn put_record(
-    words: &[u32],
-    bytes: &[u8],
-    chain: u32,
-    r: u32,
-    page: &mut [u8],
-    at: usize,
-) -> usize
-    ensures { Puts (record_lines chain words.now bytes.now r) page.old at page.new result }
+// What the records of a chain are.
+#[derive(Clone, Copy, Debug, PartialEq, Eq)]
+pub enum Kind {
+    Definition,
+    Binding,
+    Diagnostic,
+}
+
+// A record of a chain of this kind.
+pub fn put_record(words: &[u32], bytes: &[u8], kind: Kind, r: u32, page: &mut Page)
+    ensures { Puts (record_lines kind words.now bytes.now r) page.old page.new }
 {
-    match chain {
-        FIRST_DEFINITION => put_definition(words, bytes, r, page, at),
-        FIRST_BINDING => put_binding(words, bytes, r, page, at),
-        _ => put_diagnostic(words, r, page, at),
+    match kind {
+        Kind::Definition => put_definition(words, bytes, r, page),
+        Kind::Binding => put_binding(words, bytes, r, page),
+        Kind::Diagnostic => put_diagnostic(words, r, page),
     }
 }
 
 // A definition with its labels.
-fn put_definition(words: &[u32], bytes: &[u8], r: u32, page: &mut [u8], at: usize) -> usize
-    ensures { Puts (definition_lines (def_at words.now bytes.now r)) page.old at page.new
-        result }
+fn put_definition(words: &[u32], bytes: &[u8], r: u32, page: &mut Page)
+    ensures { Puts (definition_lines (def_at words.now bytes.now r)) page.old page.new }
 {
-    let end = put_definition_line(words, bytes, r, page, at);
+    put_definition_line(words, bytes, r, page);
     if kind_of(words, r) == NODE {
-        return put_labels(words, bytes, child_of(words, r), page, end);
+        put_labels(words, bytes, child_of(words, r), page);
     }
-    end
 }
 
 // A definition's own line.
-fn put_definition_line(words: &[u32], bytes: &[u8], r: u32, page: &mut [u8], at: usize) -> usize
-    ensures { Puts (definition_line (def_at words.now bytes.now r)) page.old at page.new
-        result }
+fn put_definition_line(words: &[u32], bytes: &[u8], r: u32, page: &mut Page)
+    ensures { Puts (definition_line (def_at words.now bytes.now r)) page.old page.new }
 {
-    let head = [b'D', b' ', letter_of(words, r), b' '];
-    let path = put_text(page, at, &head);
-    let span = put_path(page, path, first_text(words, bytes, r));
-    let name = put_span(page, span, span_of(words, r));
-    let end = put_span(page, name, name_span_of(words, r));
-    put_byte(page, end, b'\n')
+    page.put_text(&[b'D', b' ', letter_of(words, r), b' ']);
+    put_path(page, first_text(words, bytes, r));
+    page.put_span(span_of(words, r));
+    page.put_span(name_span_of(words, r));
+    page.put_byte(b'\n');
 }
 
 // The letter of a definition's kind, whatever its texts are.
 fn letter_of(words: &[u32], r: u32) -> u8
     ensures { (bytes : List ℕ) → result ≡ letter (def_value_at words.now bytes r) }
 {
-    let kind = kind_of(words, r);
-    if kind == NODE {
-        return b'N';
+    match kind_of(words, r) {
+        NODE => b'N',
+        PROPERTY => b'P',
+        DELETED_NODE => b'X',
+        DELETED_PROPERTY => b'Y',
+        PLUGIN => b'G',
+        _ => b'V',
     }
-    if kind == PROPERTY {
-        return b'P';
-    }
-    if kind == DELETED_NODE {
-        return b'X';
-    }
-    if kind == DELETED_PROPERTY {
-        return b'Y';
-    }
-    if kind == PLUGIN {
-        return b'G';
-    }
-    b'V'
 }
 
 // A path, - where it is empty.
-fn put_path(page: &mut [u8], at: usize, path: &[u8]) -> usize
-    ensures { Puts (path_field path.now) page.old at page.new result }
+fn put_path(page: &mut Page, path: &[u8])
+    ensures { Puts (path_field path.now) page.old page.new }
 {
-    if path.len() == 0 {
-        return put_byte(page, at, b'-');
+    match path {
+        [] => page.put_byte(b'-'),
+        _ => page.put_text(path),
     }
-    put_text(page, at, path)
 }
 
 // A chain of labels.
-fn put_labels(words: &[u32], bytes: &[u8], first: u32, page: &mut [u8], at: usize) -> usize
-    ensures { Puts (flat_map label_line (read_labels words.now bytes.now first)) page.old at
-        page.new result }
+fn put_labels(words: &[u32], bytes: &[u8], first: u32, page: &mut Page)
+    ensures { Puts (flat_map label_line (read_labels words.now bytes.now first)) page.old page.new }
 {
-    let mut to = at;
-    let mut r = first;
-    let mut left = log_count(words);
-    while goes_on(words, r, left) {
-        to = put_label(page, to, first_text(words, bytes, r));
-        r = next_of(words, r);
-        left -= 1;
+    for r in chain(words, first) {
+        put_label(page, first_text(words, bytes, r));
     }
-    to
 }
 
 // A label.
-fn put_label(page: &mut [u8], at: usize, label: &[u8]) -> usize
-    ensures { Puts (label_line label.now) page.old at page.new result }
+fn put_label(page: &mut Page, label: &[u8])
+    ensures { Puts (label_line label.now) page.old page.new }
 {
-    let text = put_text(page, at, b"l ");
-    let end = put_text(page, text, label);
-    put_byte(page, end, b'\n')
+    page.put_text(b"l ");
+    page.put_text(label);
+    page.put_byte(b'\n');
 }
 
 // A binding.
-fn put_binding(words: &[u32], bytes: &[u8], r: u32, page: &mut [u8], at: usize) -> usize
-    ensures { Puts (binding_line (binding_at words.now bytes.now r)) page.old at page.new
-        result }
+fn put_binding(words: &[u32], bytes: &[u8], r: u32, page: &mut Page)
+    ensures { Puts (binding_line (binding_at words.now bytes.now r)) page.old page.new }
 {
-    let label = put_text(page, at, b"B ");
-    let between = put_text(page, label, first_text(words, bytes, r));
-    let path = put_byte(page, between, b' ');
-    let span = put_text(page, path, second_text(words, bytes, r));
-    let end = put_span(page, span, span_of(words, r));
-    put_byte(page, end, b'\n')
+    page.put_text(b"B ");
+    page.put_text(first_text(words, bytes, r));
+    page.put_byte(b' ');
+    page.put_text(second_text(words, bytes, r));
+    page.put_span(span_of(words, r));
+    page.put_byte(b'\n');
 }
 
 // A diagnostic, whatever its text is.
-fn put_diagnostic(words: &[u32], r: u32, page: &mut [u8], at: usize) -> usize
-    ensures { (bytes : List ℕ) → Puts (diagnostic_line (diag_at words.now bytes r)) page.old at
-        page.new result }
+fn put_diagnostic(words: &[u32], r: u32, page: &mut Page)
+    ensures { (bytes : List ℕ) → Puts (diagnostic_line (diag_at words.now bytes r)) page.old page.new }
 {
-    let code = put_text(page, at, b"M ");
-    let span = put_number(page, code, out_field(words, r, layout::N));
-    let end = put_span(page, span, span_of(words, r));
-    put_byte(page, end, b'\n')
+    page.put_text(b"M ");
+    page.put_number(out_field(words, r, layout::N));
+    page.put_span(span_of(words, r));
+    page.put_byte(b'\n');
 }
 
 // A refusal.
-pub fn put_refusal(page: &mut [u8], at: usize, number: u32, returned: u32) -> usize
-    ensures { Puts (refusal_line number returned) page.old at page.new result }
+pub fn put_refusal(refusal: Refusal, page: &mut Page)
+    ensures { Puts (refusal_line (refused refusal).number (refused refusal).returned) page.old page.new }
 {
-    let first = put_text(page, at, b"R ");
-    let between = put_number(page, first, number);
-    let second = put_byte(page, between, b' ');
-    let end = put_number(page, second, returned);
-    put_byte(page, end, b'\n')
+    page.put_text(b"R ");
+    page.put_number(refusal.number());
+    page.put_byte(b' ');
+    page.put_number(refusal.returned());
+    page.put_byte(b'\n');
 }

@@ -1,9 +1,9 @@
 // Reads a description from standard input, lowers it and prints the listing of its log.
 #![tactic(auto)]
 
-ghost use Rattle.std.specs.Prelude.{ℕ, ◌*◌, ◌≤◌, ◌≡◌, List, length, take, OnOk, IfSome};
+ghost use Rattle.std.specs.Prelude.{ℕ, ◌*◌, ◌≤◌, ◌≡◌, List, length, take, replicate, OnOk, IfSome};
 ghost use Rattle.std.specs.Io.KnownBytes.{Appends};
-ghost use Rattle.listing.specs.machine.Page.{page_at, filled, IsPrefixLen};
+ghost use Rattle.listing.specs.machine.Page.{page_at, Puts, IsPrefixLen};
 ghost use Rattle.listing.specs.meaning.Program.{word_bytes, most_words, words_of, out_length, bytes_length, listed, printed};
 ghost use Rattle.listing.specs.meaning.Program.{most_printed, most_read, ReadOf};
 
@@ -12,14 +12,16 @@ mod listing;
 mod page;
 mod reading;
 
-use definition_log::answer::REFUSED_SIZE;
+use definition_log::answer::Refusal;
 use definition_log::layout;
 use full_reads::read_full;
 use input::layout::RECORD_WORDS;
 use input::limits::{MOST_RECORDS, MOST_TEXT};
 use levels::level::SIGNED;
-use listing::{list_answer, list_refusal};
+use lines::put_refusal;
+use listing::list_answer;
 use lowering::lower::lower;
+use page::{OUT_BYTES, OUT_RECORDS, Page};
 use reading::{RECORD_BYTES, WORD_BYTES, read_words, word_at};
 use std::io;
 use std::io::{Read, Write};
@@ -27,14 +29,6 @@ use std::io::{Read, Write};
 // The longest input that is not refused by its size, and one byte more, by which a longer one is seen to be
 // longer.
 const MOST_INPUT: usize = WORD_BYTES + MOST_RECORDS * RECORD_BYTES + MOST_TEXT + 1;
-
-// "1,024 records and 65,536 bytes".
-const OUT_RECORDS: usize = 1024;
-
-const OUT_BYTES: usize = 65536;
-
-// The longest listing: each record but record 0 has at most 50 bytes beside its texts, and the last line 2.
-const MOST_PAGE: usize = (OUT_RECORDS - 1) * 50 + OUT_BYTES + 2;
 
 fn main(rt: HostRuntime) -> io::Result<()> {
     list(&mut rt.reader(), &mut io::writer(&rt))
@@ -46,39 +40,38 @@ fn list<R: Read, W: Write>(input: &mut R, out: &mut W) -> io::Result<()>
 {
     let mut buffer = [0u8; MOST_INPUT];
     let n = read_full(input, &mut buffer)?;
-    let mut page = [0u8; MOST_PAGE];
-    let used = list_whole(&buffer, n, &mut page);
-    out.write_all(&page[..used])
+    let mut page = Page::new();
+    list_whole(&buffer, n, &mut page);
+    out.write_all(page.written())
 }
 
-// Writes what is printed for an input to the start of a page that is long enough for any, and returns how
-// long it is. The input's first `n` bytes are in a buffer that is long enough for any that is not refused
-// by its size; only if the buffer is full does the input go on.
-fn list_whole(buffer: &[u8], n: usize, page: &mut [u8]) -> usize
+// Puts what is printed for an input on an empty page, which is long enough for any. The input's first `n` bytes
+// are in a buffer that is long enough for any that is not refused by its size; only if the buffer is full does
+// the input go on.
+fn list_whole(buffer: &[u8], n: usize, page: &mut Page)
     requires prefix_len { IsPrefixLen n buffer.now }
     requires most_read_in_bounds { most_read ≤ length buffer.now }
-    requires most_printed_in_bounds { most_printed ≤ length page.old }
-    ensures prefix_len_2 { IsPrefixLen result page.new }
-    ensures by_index { (input : List ℕ) → ReadOf input buffer.now n → take result page.new ≡ printed input }
+    requires empty { page.old ≡ page_at (replicate most_printed 0) 0 }
+    ensures in_bounds { page.new.at ≤ length page.new.bytes }
+    ensures by_index { (input : List ℕ) → ReadOf input buffer.now n → take page.new.at page.new.bytes ≡ printed input }
 {
-    list_input(&buffer[..n], page)
+    list_input(&buffer[..n], page);
 }
 
-// Writes what is printed for an input to the start of a page, cut where it does not fit, and returns how
-// long it is there.
-fn list_input(input: &[u8], page: &mut [u8]) -> usize
-    ensures { page_at page.new result ≡ filled page.old (printed input.now) }
+// Puts what is printed for an input on a page.
+fn list_input(input: &[u8], page: &mut Page)
+    ensures { Puts (printed input.now) page.old page.new }
 {
     if input.len() < WORD_BYTES {
-        return list_refusal(REFUSED_SIZE, 0, page);
+        return put_refusal(Refusal::Size, page);
     }
     let count = word_at(input, 0) as usize;
     let from = WORD_BYTES + count * RECORD_BYTES;
     if input.len() < from {
-        return list_refusal(REFUSED_SIZE, 0, page);
+        return put_refusal(Refusal::Size, page);
     }
     if MOST_RECORDS < count {
-        return list_refusal(REFUSED_SIZE, 0, page);
+        return put_refusal(Refusal::Size, page);
     }
     list_records(
         &input[WORD_BYTES..],
@@ -89,23 +82,22 @@ fn list_input(input: &[u8], page: &mut [u8]) -> usize
 }
 
 // The same for the bytes of `n` words, and a text.
-fn list_records(records: &[u8], n: usize, text: &[u8], page: &mut [u8]) -> usize
+fn list_records(records: &[u8], n: usize, text: &[u8], page: &mut Page)
     requires { (n * word_bytes ≤ length records.now) × (n ≤ most_words) }
-    ensures { page_at page.new result ≡ filled page.old
-        (listed (words_of n records.now) text.now) }
+    ensures { Puts (listed (words_of n records.now) text.now) page.old page.new }
 {
     let mut words = [0u32; MOST_RECORDS * RECORD_WORDS];
     read_words(records, n, &mut words);
-    list_words(&words[..n], text, page)
+    list_words(&words[..n], text, page);
 }
 
 // The same for words and a text.
-fn list_words(words: &[u32], text: &[u8], page: &mut [u8]) -> usize
-    ensures { page_at page.new result ≡ filled page.old (listed words.now text.now) }
+fn list_words(words: &[u32], text: &[u8], page: &mut Page)
+    ensures { Puts (listed words.now text.now) page.old page.new }
 {
     let mut out = [0u32; OUT_RECORDS * layout::RECORD_WORDS];
     let mut bytes = [0u8; OUT_BYTES];
-    list_lowered(words, text, &mut out, &mut bytes, page)
+    list_lowered(words, text, &mut out, &mut bytes, page);
 }
 
 // The same with room for the log.
@@ -114,13 +106,13 @@ fn list_lowered(
     text: &[u8],
     out: &mut [u32],
     bytes: &mut [u8],
-    page: &mut [u8],
-) -> usize
+    page: &mut Page,
+)
     requires out_len { length out.old ≡ out_length }
     requires bytes_len { length bytes.old ≡ bytes_length }
-    ensures { page_at page.new result ≡ filled page.old (listed words.now text.now) }
+    ensures { Puts (listed words.now text.now) page.old page.new }
 {
     let one_file = [0u32];
     let answer = lower(words, text, SIGNED, &one_file, out, bytes);
-    list_answer(answer.number, answer.returned, out, bytes, page)
+    list_answer(answer, out, bytes, page);
 }

@@ -1,51 +1,81 @@
-// Texts, numbers and spans put on a page, one behind the other. Each function answers where the next
-// one goes; what does not fit is cut at the page's end.
-ghost use Rattle.std.specs.Prelude.{[], ◌∷◌};
+// The page that is printed: texts, numbers and spans put on it, one behind the other. What does not fit is cut at its end.
+ghost use Rattle.std.specs.Prelude.{[], ◌∷◌, ◌≡◌, ◌≤◌, length, take, replicate};
 ghost use Rattle.definition_log.specs.machine.Parts.{meant};
 ghost use Rattle.listing.specs.meaning.Listing.{decimal, span_field};
-ghost use Rattle.listing.specs.machine.Page.{Puts};
+ghost use Rattle.listing.specs.meaning.Program.{most_printed};
+ghost use Rattle.listing.specs.machine.Page.{page_at, Puts};
 
 use definition_log::parts::Span;
 use itoa::Buffer;
 
-// A byte.
-pub fn put_byte(page: &mut [u8], at: usize, b: u8) -> usize
-    ensures { Puts (b ∷ []) page.old at page.new result }
-{
-    if at < page.len() {
-        page[at] = b;
-        return at + 1;
+// "1,024 records and 65,536 bytes".
+pub const OUT_RECORDS: usize = 1024;
+
+pub const OUT_BYTES: usize = 65536;
+
+// The longest listing: each record but record 0 has at most 50 bytes beside its texts, and the last line 2.
+const MOST_PAGE: usize = (OUT_RECORDS - 1) * 50 + OUT_BYTES + 2;
+
+// Its bytes, and where the next one goes.
+#[derive(Drop)]
+pub struct Page {
+    pub bytes: [u8; MOST_PAGE],
+    pub at: usize,
+}
+
+impl Page {
+    // An empty one.
+    pub fn new() -> Page
+        ensures { result ≡ page_at (replicate most_printed 0) 0 }
+    {
+        Page {
+            bytes: [0; MOST_PAGE],
+            at: 0,
+        }
     }
-    at
-}
 
-// A text.
-pub fn put_text(page: &mut [u8], at: usize, text: &[u8]) -> usize
-    ensures { Puts text.now page.old at page.new result }
-{
-    let mut to = at;
-    let mut i = 0;
-    while i < text.len() {
-        to = put_byte(page, to, text[i]);
-        i += 1;
+    // What was put on it.
+    pub fn written(&self) -> &[u8]
+        requires { self.now.at ≤ length self.now.bytes }
+        ensures { result.now ≡ take self.now.at self.now.bytes }
+    {
+        &self.bytes[..self.at]
     }
-    to
-}
 
-// A number in decimal.
-pub fn put_number(page: &mut [u8], at: usize, n: u32) -> usize
-    ensures { Puts (decimal n) page.old at page.new result }
-{
-    let mut digits = Buffer::new();
-    put_text(page, at, digits.format(n).as_bytes())
-}
+    // A byte.
+    pub fn put_byte(&mut self, b: u8)
+        ensures { Puts (b ∷ []) self.old self.new }
+    {
+        if self.at < MOST_PAGE {
+            self.bytes[self.at] = b;
+            self.at += 1;
+        }
+    }
 
-// A span behind a space.
-pub fn put_span(page: &mut [u8], at: usize, span: Span) -> usize
-    ensures { Puts (span_field (meant span)) page.old at page.new result }
-{
-    let start = put_byte(page, at, b' ');
-    let middle = put_number(page, start, span.from);
-    let end = put_byte(page, middle, b'-');
-    put_number(page, end, span.to)
+    // A text.
+    pub fn put_text(&mut self, text: &[u8])
+        ensures { Puts text.now self.old self.new }
+    {
+        for b in text {
+            self.put_byte(*b);
+        }
+    }
+
+    // A number in decimal.
+    pub fn put_number(&mut self, n: u32)
+        ensures { Puts (decimal n) self.old self.new }
+    {
+        let mut digits = Buffer::new();
+        self.put_text(digits.format(n).as_bytes());
+    }
+
+    // A span behind a space.
+    pub fn put_span(&mut self, span: Span)
+        ensures { Puts (span_field (meant span)) self.old self.new }
+    {
+        self.put_byte(b' ');
+        self.put_number(span.from);
+        self.put_byte(b'-');
+        self.put_number(span.to);
+    }
 }

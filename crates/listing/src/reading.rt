@@ -15,8 +15,7 @@ pub fn word_at(s: &[u8], at: usize) -> u32
     requires { at + word_bytes ≤ length s.now }
     ensures { result ≡ word_of (drop at s.now) }
 {
-    let high = (s[at + 2] as u32) + 256 * (s[at + 3] as u32);
-    (s[at] as u32) + 256 * ((s[at + 1] as u32) + 256 * high)
+    u32::from_le_bytes([s[at], s[at + 1], s[at + 2], s[at + 3]])
 }
 
 // Writes the first `n` words that bytes hold to the start of `words`.
@@ -24,9 +23,7 @@ pub fn read_words(s: &[u8], n: usize, words: &mut [u32])
     requires { (n * word_bytes ≤ length s.now) × (n ≤ length words.old) }
     ensures { words.new ≡ written words.old 0 (words_of n s.now) }
 {
-    let mut i = 0;
-    while i < n {
+    for i in 0..n {
         words[i] = word_at(s, i * WORD_BYTES);
-        i += 1;
     }
 }

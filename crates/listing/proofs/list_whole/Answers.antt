@@ -1,10 +1,10 @@
 -- What was read gives what the whole input gives (Sizes: first_read), and no text is longer than the page (Enough: printed_most).
-use mathlib.Core.Path.{sym, ◌∙◌}
+use mathlib.Core.Path.{◌∙◌}
 use native.Mathlib.Omega.{arith}
-use lib.ListN.{take, length-take}
-use lib.Seq.{length-take-le}
-use Rattle.listing.specs.meaning.Program.{printed}
-use Rattle.listing.proofs.Pages.{filled_whole}
+use Prim.Native.Nat.{ℕ}
+use lib.ListN.{take, length-take, replicate, length-replicate}
+use Rattle.listing.specs.meaning.Program.{printed, most_printed}
+use Rattle.listing.proofs.Pages.{puts_filled, filled_whole}
 use Rattle.listing.proofs.Enough.{printed_most}
 use Rattle.listing.proofs.Sizes.{first_read}
 use Rattle.listing.proofs.list_whole.Goals as goal
@@ -14,5 +14,7 @@ slice_bounds-list_input-end c = simp length-take (omega arith)
 
 pub returns : goal.returns
 returns c = let a = c.args in
-    let w = filled_whole a.page.now (printed (take a.n a.buffer.now)) _ _ c.list_input.ensures
-    (omega (arith, printed_most (take a.n a.buffer.now))) in record { prefix_len_2 = (w.0, sym (length-take-le _ _ w.0)); by_index = λ input r. w.1 ∙ first_read input a.buffer.now a.n (omega arith) (omega arith) r }
+    let w = filled_whole (replicate most_printed 0) (printed (take a.n a.buffer.now)) _
+        (puts_filled (rw c.requires.empty at c.list_input.ensures))
+        (omega (arith, printed_most (take a.n a.buffer.now), length-replicate {A = ℕ} most_printed 0)) in
+    record { in_bounds = w.0; by_index = λ input r. w.1 ∙ first_read input a.buffer.now a.n (omega arith) (omega arith) r }

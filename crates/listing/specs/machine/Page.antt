@@ -3,14 +3,11 @@
 use Rattle.std.specs.Prelude.{ℕ, ◌+◌, ◌≤◌, cond, ◌≡◌, List, [], ◌∷◌, ◌++◌, eqb, ltb, length, take, drop, set}
 use Rattle.definition_log.specs.meaning.ReadBack.{Log}
 use Rattle.listing.specs.meaning.Listing.{listing, refusal_line}
+use Rattle.listing.specs.declared.page.Page.{Page}
 
 -- what is printed for an answer of lowering and the log that it left
 abbrev pub answer_text : ℕ → ℕ → Log → List ℕ
 answer_text number returned log = cond (eqb number 0) (listing log) (refusal_line number returned)
-
-pub record Page : Type 0 where
-  pub bytes : List ℕ
-  pub at : ℕ
 
 abbrev pub page_at : List ℕ → ℕ → Page
 page_at bytes at = record { bytes = bytes; at = at }
@@ -22,9 +19,9 @@ unfoldable pub put : List ℕ → Page → Page
 put [] p = p
 put (b ∷ s) p = put s (put_byte b p)
 
--- a text put on a page that held `before`, from index `at` on, leaves `after` and ends at `to`
-pub record Puts (text before : List ℕ) (at : ℕ) (after : List ℕ) (to : ℕ) : Type 0 where
-  pub gives : page_at after to ≡ put text (page_at before at)
+-- a text put on a page
+pub record Puts (text : List ℕ) (before after : Page) : Type 0 where
+  pub gives : after ≡ put text before
 
 -- a page that held `bytes` with a text at its start: the text is cut at the page's end, and what is behind the text stays
 unfoldable pub filled : List ℕ → List ℕ → Page

@@ -2,21 +2,18 @@
 use Prim.Native.Nat.{ℕ}
 use mathlib.Core.Path.{◌≡◌}
 use mathlib.Core.List.{List, flat_map}
-use lib.ListN.{length}
 use Rattle.definition_log.specs.meaning.Record.{first_text}
-use Rattle.definition_log.specs.meaning.ReadBack.{chain_from, read_labels}
+use Rattle.definition_log.specs.meaning.ReadBack.{read_labels}
+use Rattle.definition_log.specs.machine.ChainLeft.{chain_left}
 use Rattle.listing.specs.meaning.Listing.{label_line}
-use Rattle.listing.specs.machine.Page.{page_at, put}
+use Rattle.listing.specs.machine.Page.{put}
 use Rattle.listing.proofs.lines.put_labels.Given as goal
 
 -- the line of a label's record
 abbrev pub label : List ℕ → List ℕ → ℕ → List ℕ
 label words bytes r = label_line (first_text words bytes r)
 
-abbrev pub invariant-loop-page : goal.invariant-loop-page
-invariant-loop-page l = (length l.page ≡ length l.initial.page)
-    × (put (flat_map label_line (read_labels l.words l.bytes l.first)) (page_at l.initial.page l.at) ≡ put
-    (flat_map (label l.words l.bytes) (chain_from l.left l.words l.r)) (page_at l.page l.to))
-
-abbrev pub decreases-loop-page : goal.decreases-loop-page
-decreases-loop-page l = l.left
+abbrev pub invariant-loop-r : goal.invariant-loop-r
+invariant-loop-r l =
+    put (flat_map label_line (read_labels l.words l.bytes l.first)) l.initial.page
+    ≡ put (flat_map (label l.words l.bytes) (chain_left l.r-iterator)) l.page

@@ -1,5 +1,5 @@
 -- Loop invariant: the words that are left, written behind those before, give all (InputWords: word_next, words_end).
-use Prim.Native.Nat.{◌≤◌, ◌-◌, ◌*◌}
+use Prim.Native.Nat.{◌-◌, ◌*◌}
 use mathlib.Core.Path.{◌≡◌}
 use lib.ListN.{length, drop}
 use Rattle.paths_numbers.specs.meaning.Text.{written}
@@ -7,8 +7,5 @@ use Rattle.listing.specs.meaning.Program.{words_of}
 use Rattle.listing.proofs.reading.read_words.Given as goal
 
 abbrev pub invariant-loop-i : goal.invariant-loop-i
-invariant-loop-i l = (l.i ≤ l.n) × (length l.words ≡ length l.initial.words)
+invariant-loop-i l = (length l.words ≡ length l.initial.words)
     × (written l.initial.words 0 (words_of l.n l.s) ≡ written l.words l.i (words_of (l.n - l.i) (drop (l.i * 4) l.s)))
-
-abbrev pub decreases-loop-i : goal.decreases-loop-i
-decreases-loop-i l = l.n - l.i
