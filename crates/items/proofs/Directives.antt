@@ -50,7 +50,7 @@ use Rattle.resolving.specs.declared.resolve.Resolved.TheVariants as R
 use Rattle.input.proofs.Read.{optional_none, optional_some, first_missing, first_there}
 use Rattle.input.proofs.NameRead.{full_joined}
 use Rattle.resolving.proofs.Lowers.{Grows, define_grows, emit_grows, steps_lower}
-use Rattle.resolving.proofs.Under.{steps_under, lowers_under, idle, idle_under, emit_none}
+use Rattle.resolving.proofs.Under.{steps_under, lowers_under, idle, idle_under}
 use Rattle.resolving.proofs.Leading.{joined_plain}
 use Rattle.items.proofs.Deleting.{delete_grows}
 

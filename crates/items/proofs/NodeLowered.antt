@@ -18,7 +18,7 @@ use Rattle.making.proofs.InHand.{forget_place, root_place}
 use Rattle.queries.specs.meaning.Kind.{sets_overlay}
 use Rattle.paths_numbers.specs.meaning.Lists.{any}
 use Rattle.input.specs.meaning.Tree.{Trees}
-use Rattle.items.specs.meaning.Lower.{at, place_of, lower_node}
+use Rattle.items.specs.meaning.Lower.{place_of, lower_node}
 use Rattle.input.specs.meaning.Input.{span_at}
 use Rattle.input.specs.machine.PhandleRead.{label_at, path_at}
 use Rattle.resolving.specs.machine.Lowers.{LowersAt}

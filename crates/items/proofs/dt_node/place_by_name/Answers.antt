@@ -6,7 +6,6 @@ use Rattle.input.specs.meaning.Report.{Got}
 use Rattle.input.specs.meaning.Name.{full_name, node_name_span}
 use Rattle.input.specs.meaning.Input.{child_at, span_at, chain_at}
 use Rattle.input.specs.machine.NameRead.{is_there}
-use Rattle.input.proofs.Read.{child_there}
 use Rattle.items.proofs.Reported.{same_reports}
 use Rattle.items.proofs.NodePlaced.{name_decides, slash_decides, nothing_decides, there_some, not_there}
 use Rattle.items.proofs.dt_node.place_by_name.Goals as goal

@@ -1,5 +1,5 @@
 -- By the reference among the parts, else by the name (NodePlaced).
-use Rattle.input.proofs.Read.{child_there, first_missing, first_there}
+use Rattle.input.proofs.Read.{first_missing, first_there}
 use Rattle.items.proofs.NodePlaced.{without_reference, by_reference}
 use Rattle.items.proofs.dt_node.place_node.Goals as goal
 

@@ -1,6 +1,5 @@
 -- By where the reference leads (NodeReferenced).
 use mathlib.Core.Path.{refl, sym, ◌∙◌}
-use Rattle.input.proofs.Read.{child_there}
 use Rattle.items.proofs.NodeReferenced.{place_found, place_missing}
 use Rattle.input.specs.machine.At.{record_at}
 use Rattle.items.proofs.dt_node.place_resolved.Goals as goal

@@ -1,7 +1,6 @@
 -- One diagnostic (Reported).
 use mathlib.Core.Path.{refl, ◌∙◌}
 use mathlib.Core.List.{[]}
-use Rattle.input.proofs.Read.{child_there}
 use Rattle.items.proofs.Reported.{reported}
 use Rattle.items.proofs.dt_node.refuse_node.Goals as goal
 

@@ -1,7 +1,5 @@
 -- By the cases of what was read (Filled).
 use Rattle.items.proofs.Filled.{adding_values, fills_reports, same_fills}
-use Rattle.input.specs.machine.ValueRead.{value_made}
-use mathlib.Core.Path.{sym, ap, ◌∙◌}
 use Rattle.items.proofs.dt_property.lower_prop_value.Goals as goal
 
 pub returns-in-Ok-Plain : goal.returns-in-Ok-Plain

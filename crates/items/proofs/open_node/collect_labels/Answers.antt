@@ -1,5 +1,4 @@
 use mathlib.Core.Path.{refl, sym, ◌∙◌}
-use mathlib.Core.Logic.{⊎_elim}
 use Rattle.input.proofs.Read.{rank_less}
 use Rattle.items.proofs.Labels.{labels_start, labels_whole, labels_other, labels_more}
 use Rattle.items.proofs.open_node.collect_labels.Goals as goal

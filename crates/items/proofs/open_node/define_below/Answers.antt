@@ -4,7 +4,6 @@ use Rattle.paths_numbers.specs.meaning.Path.{joined}
 use Rattle.making.specs.machine.PathPlaces.{path_in}
 use Rattle.input.specs.meaning.Input.{span_at}
 use Rattle.input.specs.machine.NameRead.{name_text, unit_text}
-use Rattle.input.proofs.Read.{child_there}
 use Rattle.items.proofs.Opened.{defined_opens, below_parent}
 use Rattle.items.proofs.open_node.define_below.Goals as goal
 

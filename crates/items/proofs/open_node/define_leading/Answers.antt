@@ -4,7 +4,6 @@ use Rattle.making.specs.machine.PathPlaces.{path_in}
 use Rattle.input.specs.meaning.Input.{span_at}
 use Rattle.input.specs.machine.PhandleRead.{label_at, path_at}
 use Rattle.items.specs.machine.NodePlaced.{leads_on}
-use Rattle.input.proofs.Read.{child_there}
 use Rattle.items.proofs.NodeReferenced.{defines_bound, defines_below, defines_path, defines_named, defines_none}
 use Rattle.items.proofs.open_node.define_leading.Goals as goal
 

@@ -1,7 +1,6 @@
 -- The definition, then the labels (Opened).
 use mathlib.Core.Path.{refl, ◌∙◌}
 use Rattle.input.specs.meaning.Input.{span_at}
-use Rattle.input.proofs.Read.{child_there}
 use Rattle.items.proofs.Opened.{defined_opens}
 use Rattle.items.proofs.open_node.define_there.Goals as goal
 
