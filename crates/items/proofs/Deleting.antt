@@ -25,10 +25,9 @@ use Rattle.queries.specs.meaning.Live.{is_live, live, node_at, contains_node}
 use Rattle.items.specs.meaning.Unbind.{unbind}
 use Rattle.items.specs.meaning.Lower.{bare, delete_node}
 use Rattle.resolving.specs.machine.Lowers.{Lowers, LowersAt}
-use Rattle.resolving.specs.machine.Leading.{has_text, FirstWith}
+use Rattle.resolving.specs.machine.Leading.{has_text, FirstAt}
 use Rattle.items.specs.machine.Unbinding.{at_named, at_there, at_given, UnbindsAll}
 use Rattle.items.specs.machine.Deleting.{DeletesAt, DeletesThere}
-use Rattle.resolving.specs.declared.resolve.Found.{Found}
 use Rattle.items.specs.declared.unbind.Base.TheVariants.{Named, There, Given}
 use Rattle.resolving.proofs.Lowers.{Grows, define_grows, stays_over}
 
@@ -108,21 +107,32 @@ no_definition words bytes t (n ∷ ns) h =
     by_test (has_text words bytes t n) (λ q. absurd (not_both (rw q refl) h)) (λ q. rw q (no_definition words bytes t ns (rw q at h)))
 
 -- by a live node's path
-pub deletes_at : {path : List ℕ} (span : LogSpan) {f : Found} {c d e : LowerCtx} {words bytes w b v u : List ℕ}
-    → UnbindsAll Given path path c d words bytes w b → FirstWith w b d.defs.first path f
-    → Steps d e w b v u (define (bare_def D.DeletedNode span span (path_in d.bytes b (placed_in w f.number 2))))
+pub deletes_at : {path : List ℕ} (span : LogSpan) {number previous : ℕ} {c d e : LowerCtx} {words bytes w b v u : List ℕ}
+    → UnbindsAll Given path path c d words bytes w b → FirstAt w b d.defs.first path number previous
+    → Steps d e w b v u (define (bare_def D.DeletedNode span span (path_in d.bytes b (placed_in w number 2))))
     → DeletesAt path (meant span) c e words bytes v u
-unfolding delete_node unbind read_defs
-deletes_at {path} span {f} {d = d} {e} {w = w} {b} {v} {u} x m g =
+unfolding delete_node unbind
+deletes_at {path} span {number} {e = e} {v = v} {u} x at g =
+    record {
+      deletes = λ k s r n h.
+          let y = x.unbinds k s path r n (at_given refl) in
+          subst (λ (q : List ℕ). Represents k e v u (define (bare q deleted_node (meant span)) (unbind path s)))
+          (def_path y.0 y.1 at.before at.after number at.chain ∙ at.has)
+          (g.steps k (unbind path s) y.0 y.1);
+    }
+
+-- a live node's path that no definition has: there is none
+pub never_at : {path : List ℕ} {span : Span} {c d : LowerCtx} {words bytes w b : List ℕ}
+    → UnbindsAll Given path path c d words bytes w b → any (has_text w b path) (chain_of w d.defs.first) ≡ false
+    → DeletesAt path span c d words bytes w b
+unfolding unbind read_defs
+never_at {path} {d = d} {w = w} {b} x m =
     record {
       deletes = λ k s r n h.
           let y = x.unbinds k s path r n (at_given refl) in
           let there : any (λ (q : Def). same q.path path) (read_defs w b d.defs.first) ≡ true = ap
           (any (λ (q : Def). same q.path path)) (represents_defs y.0 y.1) ∙ contains_path path s.defs h in
-          let at = m.there (λ z. not_both there (no_definition w b path (chain_of w d.defs.first) (m.none_there z))) in
-          subst (λ (q : List ℕ). Represents k e v u (define (bare q deleted_node (meant span)) (unbind path s)))
-          (def_path y.0 y.1 at.before at.after f.number at.chain ∙ at.has)
-          (g.steps k (unbind path s) y.0 y.1);
+          absurd (not_both there (no_definition w b path (chain_of w d.defs.first) m));
     }
 
 -- by a definition of it, whose path stands at a place while bindings go

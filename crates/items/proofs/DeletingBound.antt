@@ -16,9 +16,9 @@ use Rattle.definition_log.specs.declared.parts.Span.{Span as LogSpan}
 use Rattle.making.specs.declared.recs.DefKind.TheVariants as D
 use Rattle.making.specs.machine.Recs.{bare_def}
 use Rattle.definition_log.specs.machine.Parts.{meant}
-use Rattle.definition_log.specs.meaning.Contents.{Def, deleted_node, Binding}
+use Rattle.definition_log.specs.meaning.Contents.{Def, deleted_node, Binding, Span}
 use Rattle.definition_log.specs.meaning.Record.{one_of, next_of, first_text, second_text, log_count}
-use Rattle.definition_log.specs.meaning.ReadBack.{chain_from, binding_at, read_bindings}
+use Rattle.definition_log.specs.meaning.ReadBack.{chain_from, chain_of, binding_at, read_bindings}
 use Rattle.making.specs.machine.PathPlaces.{path_in, placed_in}
 use Rattle.making.specs.meaning.State.{State, define}
 use Rattle.making.specs.machine.Adding.{remove_at, unbind_at}
@@ -31,11 +31,10 @@ use Rattle.queries.proofs.Chain.{goes, stops, goes_left}
 use Rattle.resolving.specs.meaning.Resolve.{first_binding}
 use Rattle.items.specs.meaning.Unbind.{binds_label_of, without, unbind}
 use Rattle.items.specs.meaning.Lower.{bare, delete_node}
-use Rattle.resolving.specs.machine.Leading.{has_text, FirstAt, FirstWith}
+use Rattle.resolving.specs.machine.Leading.{has_text, FirstAt}
 use Rattle.items.specs.machine.Unbinding.{base_of, goes_with, passes_at, with_binds, passed, ahead, BaseAt, at_bound, at_below, Stays}
 use Rattle.items.specs.machine.Unbinding.{Walk, Unbinds, bound_base, bound_path, FirstOfLabel, UnbindsOthers, UnlinksFirst}
 use Rattle.items.specs.machine.Deleting.{DeletesBound, DefinesBound}
-use Rattle.resolving.specs.declared.resolve.Found.{Found}
 use Rattle.items.specs.declared.unbind.Base.{Base}
 use Rattle.items.specs.declared.unbind.Unbound.{Unbound}
 use Rattle.resolving.proofs.Lowers.{stays_over}
@@ -96,25 +95,24 @@ none_labelled words bytes l [] h = refl
 none_labelled words bytes l (n ∷ ns) h =
     by_test (has_text words bytes l n) (λ q. absurd (not_both (rw q refl) h)) (λ q. rw q (none_labelled words bytes l ns (rw q at h)))
 
-module _ {k : Context} {c : LowerCtx} {words bytes : List ℕ} {s : State} {l : List ℕ} {f : Found} (h : Represents k c words bytes s)
-    (n : c.short ≡ false) (m : FirstWith words bytes c.binds.first l f) where
-  search_finds : (p : List ℕ) → first_binding l s.binds ≡ some p → f.number ≡ 0 → ⊥
-  search_finds p e z =
-      let q : some p ≡ none = sym e ∙ ap (first_binding l) (sym (represents_bindings h n)) ∙ label_missing words bytes l m z in
-      let x : ◌≡◌ {A = ℕ} 0 1 = cc in
-      omega arith
+-- a search for a label that has one finds it
+search_finds : {k : Context} {c : LowerCtx} {words bytes : List ℕ} {s : State} (l : List ℕ) → Represents k c words bytes s → c.short ≡ false
+    → (p : List ℕ) → first_binding l s.binds ≡ some p → any (has_text words bytes l) (chain_of words c.binds.first) ≡ false → ⊥
+search_finds {c = c} {words} {bytes} l h n p e m =
+    let q : some p ≡ none = sym e ∙ ap (first_binding l) (sym (represents_bindings h n)) ∙ label_missing words bytes l c.binds.first m in
+    let x : ◌≡◌ {A = ℕ} 0 1 = cc in
+    omega arith
 
-  module _ (z : f.number ≡ 0 → ⊥) where
-    abbrev found_at : FirstAt words bytes c.binds.first l f.number f.previous
-    found_at = m.there z
-
-    pub first_found : FirstOfLabel l s (map (binding_at words bytes) found_at.before) (binding_at words bytes f.number)
+module _ {k : Context} {c : LowerCtx} {words bytes : List ℕ} {s : State} {l : List ℕ} (h : Represents k c words bytes s)
+    (n : c.short ≡ false) where
+  module _ {number previous : ℕ} (found_at : FirstAt words bytes c.binds.first l number previous) where
+    pub first_found : FirstOfLabel l s (map (binding_at words bytes) found_at.before) (binding_at words bytes number)
         (map (binding_at words bytes) found_at.after)
     unfolding read_bindings binding_at
     first_found =
         record {
           binds = sym (represents_bindings h n) ∙ ap (map (binding_at words bytes)) found_at.chain
-              ∙ map-append (binding_at words bytes) found_at.before (f.number ∷ found_at.after);
+              ∙ map-append (binding_at words bytes) found_at.before (number ∷ found_at.after);
           others = none_labelled words bytes l found_at.before found_at.others;
           labelled = rw found_at.has (same_refl l);
         }
@@ -124,20 +122,18 @@ first_some : {l : List ℕ} {s : State} {xs : List Binding} {x : Binding} {ys : 
 first_some {l} {s} {xs} {x} {ys} g = ap (first_binding l) g.binds ∙ first_path l xs x ys g.others g.labelled
 
 -- the label's first binding taken out
-pub unlinks_first : {l : List ℕ} {f : Found} {c d : LowerCtx} {words bytes w b : List ℕ} → FirstWith words bytes c.binds.first l f
-    → Unlinks c d words bytes w b f.previous f.number
+pub unlinks_first : {l : List ℕ} {number previous : ℕ} {c d : LowerCtx} {words bytes w b : List ℕ}
+    → FirstAt words bytes c.binds.first l number previous → Unlinks c d words bytes w b previous number
     → UnlinksFirst l c d words bytes w b
 unfolding unbind_at
-unlinks_first {l} {f} {c} {d} {words} {bytes} {w} {b} m u =
+unlinks_first {l} {number} {c = c} {d} {words} {bytes} {w} {b} at u =
     record {
       unlinks = λ k s xs x ys h g.
           by_test c.short
           (λ t. stays_over (with_binds s (xs ++ ys)) u.stays t (omega arith) (omega arith) h)
           (λ t.
-          let z = search_finds h t m x.path (first_some g) in
-          let at = m.there z in
-          let o = first_found h t m z in
-          let q = one_first l xs x ys (map (binding_at words bytes) at.before) (binding_at words bytes f.number)
+          let o = first_found h t at in
+          let q = one_first l xs x ys (map (binding_at words bytes) at.before) (binding_at words bytes number)
           (map (binding_at words bytes) at.after) (sym g.binds ∙ o.binds) g.others g.labelled o.others o.labelled
           in
           let size : length at.before ≡ length xs = sym (length-map at.before (binding_at words bytes))
@@ -147,21 +143,41 @@ unlinks_first {l} {f} {c} {d} {words} {bytes} {w} {b} m u =
           (u.steps k s at.before at.after h t at.chain at.previous_is).0);
     }
 
+-- where the label has no binding there is nothing to take out or to delete
+module _ (l : List ℕ) {c : LowerCtx} {words bytes : List ℕ} (m : any (has_text words bytes l) (chain_of words c.binds.first) ≡ false) where
+  pub never_first : UnlinksFirst l c c words bytes words bytes
+  never_first =
+      record {
+        unlinks = λ k s xs x ys h g.
+            by_test c.short
+            (λ t. stays_over (with_binds s (xs ++ ys)) (λ q. (q, refl, refl)) t (omega arith) (omega arith) h)
+            (λ t. absurd (search_finds l h t x.path (first_some g) m));
+      }
+
+  pub never_others : (below : Bool) (name unit : List ℕ) → UnbindsOthers below name unit l c c words bytes words bytes
+  never_others below name unit =
+      record { unbinds = λ k s xs x ys h n g. absurd (search_finds l h n x.path (first_some g) m) }
+
+  pub never_defined : (below : Bool) (path : List ℕ) (span : Span) → DefinesBound below l path span c c words bytes words bytes
+  never_defined below path span = record { defines = λ k s p h n e. absurd (search_finds l h n p e m) }
+
+  pub never_deleted : (below : Bool) (path : List ℕ) (span : Span) → DeletesBound below l path span c c words bytes words bytes
+  never_deleted below path span = record { deletes = λ k s p h n e. absurd (search_finds l h n p e m) }
+
 -- the deletion, at its path
-module _ {l : List ℕ} {f : Found} {c : LowerCtx} {words bytes : List ℕ} (m : FirstWith words bytes c.binds.first l f) where
+module _ {l : List ℕ} {number previous : ℕ} {c : LowerCtx} {words bytes : List ℕ}
+    (at : FirstAt words bytes c.binds.first l number previous) where
   path_read : {k : Context} {s : State} → Represents k c words bytes s → c.short ≡ false → (p : List ℕ)
-      → first_binding l s.binds ≡ some p → path_in c.bytes bytes (placed_in words f.number 4) ≡ p
+      → first_binding l s.binds ≡ some p → path_in c.bytes bytes (placed_in words number 4) ≡ p
   path_read h n p e =
-      let z = search_finds h n m p e in
-      let at = m.there z in
-      let q : some p ≡ some (second_text words bytes f.number) = sym e ∙ ap (first_binding l) (sym (represents_bindings h n))
-      ∙ label_there words bytes l m z in
-      let i : second_text words bytes f.number ≡ p = cc in
-      binding_path h n at.before at.after f.number at.chain ∙ i
+      let q : some p ≡ some (second_text words bytes number) = sym e ∙ ap (first_binding l) (sym (represents_bindings h n))
+      ∙ label_there words bytes l at in
+      let i : second_text words bytes number ≡ p = cc in
+      binding_path h n at.before at.after number at.chain ∙ i
 
   pub defines_below : (span : LogSpan) (below : Bool) {path : List ℕ} {d : LowerCtx} {w b : List ℕ} → below ≡ true
       → Steps c d words bytes w b (define (bare_def D.DeletedNode span span
-      (joined (path_in c.bytes bytes (placed_in words f.number 4)) path [])))
+      (joined (path_in c.bytes bytes (placed_in words number 4)) path [])))
       → DefinesBound below l path (meant span) c d words bytes w b
   defines_below span below {path} {d} {w} {b} t g =
       record {
@@ -172,7 +188,7 @@ module _ {l : List ℕ} {f : Found} {c : LowerCtx} {words bytes : List ℕ} (m :
       }
 
   pub defines_whole : (span : LogSpan) (below : Bool) (path : List ℕ) {d : LowerCtx} {w b : List ℕ} → below ≡ false
-      → Steps c d words bytes w b (define (bare_def D.DeletedNode span span (path_in c.bytes bytes (placed_in words f.number 4))))
+      → Steps c d words bytes w b (define (bare_def D.DeletedNode span span (path_in c.bytes bytes (placed_in words number 4))))
       → DefinesBound below l path (meant span) c d words bytes w b
   defines_whole span below path {d} {w} {b} t g =
       record {
@@ -193,9 +209,9 @@ unfolding one_of
 member_here r xs ys = member_behind r xs (r ∷ ys) (rw (eq-eqb r r refl) refl)
 
 -- all others taken out: first those before it, then those behind it
-module _ (below : Bool) {name unit l : List ℕ} {f : Found} {c : LowerCtx} {words bytes w b : List ℕ} {most : ℕ} {up : Unbound}
-    (m : FirstWith words bytes c.binds.first l f) (q : most ≡ log_count words)
-    (one : Unbinds (bound_base below f.number) name unit true l c words bytes w b 0 c.binds.first most up)
+module _ (below : Bool) {name unit l : List ℕ} {number before : ℕ} {c : LowerCtx} {words bytes w b : List ℕ} {most : ℕ} {up : Unbound}
+    (at : FirstAt words bytes c.binds.first l number before) (q : most ≡ log_count words)
+    (one : Unbinds (bound_base below number) name unit true l c words bytes w b 0 c.binds.first most up)
     {k : Context} {s : State} {xs : List Binding} {x : Binding} {ys : List Binding} (h : Represents k c words bytes s)
     (n : c.short ≡ false) (g : FirstOfLabel l s xs x ys)
   where
@@ -205,20 +221,18 @@ module _ (below : Bool) {name unit l : List ℕ} {f : Found} {c : LowerCtx} {wor
     abbrev ds : List Def
     ds = live p s.defs
 
-    path_of_lem : x.path ≡ second_text words bytes f.number
+    path_of_lem : x.path ≡ second_text words bytes number
     path_of_lem =
-        let z = search_finds h n m x.path (first_some g) in
-        let e : some x.path ≡ some (second_text words bytes f.number) = sym (first_some g)
-        ∙ ap (first_binding l) (sym (represents_bindings h n)) ∙ label_there words bytes l m z in
+        let e : some x.path ≡ some (second_text words bytes number) = sym (first_some g)
+        ∙ ap (first_binding l) (sym (represents_bindings h n)) ∙ label_there words bytes l at in
         cc
 
-    walked : Walk (bound_base below f.number) name unit true l k s [] p up.ctx w b up.previous up.next up.left
+    walked : Walk (bound_base below number) name unit true l k s [] p up.ctx w b up.previous up.next up.left
     walked =
-        let at = m.there (search_finds h n m x.path (first_some g)) in
         one.walks k s [] p
         (walk_start h n q
-        (base_by below f.number p (ap (λ (v : List ℕ). bound_path below v name unit) path_of_lem)
-        (ahead (rw at.chain (member_here f.number at.before at.after)) refl (rw at.has (same_refl l)))))
+        (base_by below number p (ap (λ (v : List ℕ). bound_path below v name unit) path_of_lem)
+        (ahead (rw at.chain (member_here number at.before at.after)) refl (rw at.has (same_refl l)))))
 
     -- the walk stops at it
     still_on : goes_on w up.next up.left ≡ true
@@ -307,15 +321,15 @@ module _ (below : Bool) {name unit l : List ℕ} {f : Found} {c : LowerCtx} {wor
         (subst (λ (j : List Binding). Represents k behind.ctx v t (with_binds s j)) i r, o.going)
 
 -- so in any state
-module _ (below : Bool) {name unit l : List ℕ} {f : Found} {c : LowerCtx} {words bytes w b : List ℕ} {most : ℕ} {up : Unbound} {base : Base}
-    (m : FirstWith words bytes c.binds.first l f) (q : most ≡ log_count words)
-    (i : base ≡ bound_base below f.number) (one : Unbinds base name unit true l c words bytes w b 0 c.binds.first most up)
+module _ (below : Bool) {name unit l : List ℕ} {number before : ℕ} {c : LowerCtx} {words bytes w b : List ℕ} {most : ℕ} {up : Unbound}
+    {base : Base} (at : FirstAt words bytes c.binds.first l number before) (q : most ≡ log_count words)
+    (i : base ≡ bound_base below number) (one : Unbinds base name unit true l c words bytes w b 0 c.binds.first most up)
   where
-    up_to : Unbinds (bound_base below f.number) name unit true l c words bytes w b 0 c.binds.first most up
+    up_to : Unbinds (bound_base below number) name unit true l c words bytes w b 0 c.binds.first most up
     up_to = subst (λ (v : Base). Unbinds v name unit true l c words bytes w b 0 c.binds.first most up) i one
 
     pub others_none : up.left ≡ 0 → UnbindsOthers below name unit l c up.ctx words bytes w b
-    others_none e = record { unbinds = λ k s xs x ys h n g. absurd (some_left below m q up_to h n g e) }
+    others_none e = record { unbinds = λ k s xs x ys h n g. absurd (some_left below at q up_to h n g e) }
 
     pub others_all : {next : ℕ} {v t : List ℕ} {behind : Unbound} {base₁ : Base} → next ≡ next_of w up.next
         → base₁ ≡ bound_base below up.next
@@ -324,7 +338,7 @@ module _ (below : Bool) {name unit l : List ℕ} {f : Found} {c : LowerCtx} {wor
     others_all {next} {v} {t} {behind} e j two =
         record {
           unbinds = λ k s xs x ys h n g.
-              others_gone below m q up_to h n g e
+              others_gone below at q up_to h n g e
               (subst (λ (z : Base). Unbinds z name unit false l up.ctx w b v t up.next next (up.left - 1) behind) j two);
         }
 
@@ -347,26 +361,23 @@ base_bound true used words bytes name unit r = refl
 base_bound false used words bytes name unit r = refl
 
 -- the whole deletion
-module _ (span : LogSpan) (below : Bool) {l path : List ℕ} {f : Found} {c d e : LowerCtx} {words bytes w b v u : List ℕ}
-    (m : FirstWith words bytes c.binds.first l f)
+module _ (span : LogSpan) (below : Bool) {l path : List ℕ} {number previous : ℕ} {c d e : LowerCtx} {words bytes w b v u : List ℕ}
+    (at : FirstAt words bytes c.binds.first l number previous)
     (others : UnbindsOthers below path [] l c d words bytes w b) (made : DefinesBound below l path (meant span) d e w b v u)
   where
     module _ {k : Context} {s : State} (p : List ℕ) (h : Represents k c words bytes s) (n : c.short ≡ false)
         (q : first_binding l s.binds ≡ some p) where
-      abbrev at : FirstAt words bytes c.binds.first l f.number f.previous
-      at = m.there (search_finds h n m p q)
-
       abbrev before : List Binding
       before = map (binding_at words bytes) at.before
 
       abbrev this : Binding
-      this = binding_at words bytes f.number
+      this = binding_at words bytes number
 
       abbrev after : List Binding
       after = map (binding_at words bytes) at.after
 
       first_is_lem : FirstOfLabel l s before this after
-      first_is_lem = first_found h n m (search_finds h n m p q)
+      first_is_lem = first_found h n at
 
       path_is : this.path ≡ p
       path_is = let i : some this.path ≡ some p = sym (first_some first_is_lem) ∙ q in cc
@@ -397,10 +408,10 @@ module _ (span : LogSpan) (below : Bool) {l path : List ℕ} {f : Found} {c d e 
       made_so = made.defines k (with_binds s left_over) p unbound.0 unbound.1
           (first_path l (without nodes before) this (without nodes after) none_before first_is_lem.labelled ∙ ap some path_is)
 
-      goes_as : goes_with words bytes c.defs.first (base_of c.bytes words bytes path [] (bound_base below f.number))
-          f.number ≡ any (binds_label_of this) nodes
+      goes_as : goes_with words bytes c.defs.first (base_of c.bytes words bytes path [] (bound_base below number))
+          number ≡ any (binds_label_of this) nodes
       unfolding goes_with binding_at
-      goes_as = rw (base_bound below c.bytes words bytes path [] f.number, path_is, represents_defs h n) refl
+      goes_as = rw (base_bound below c.bytes words bytes path [] number, path_is, represents_defs h n) refl
 
       all_without : without nodes s.binds ≡ without nodes before ++ without nodes (this ∷ after)
       all_without = ap (without nodes) first_is_lem.binds ∙ without_append nodes before (this ∷ after)
@@ -418,7 +429,7 @@ module _ (span : LogSpan) (below : Bool) {l path : List ℕ} {f : Found} {c d e 
           (record { binds = refl; others = none_before; labelled = first_is_lem.labelled }))
 
     abbrev tested : Bool
-    tested = goes_with words bytes c.defs.first (base_of c.bytes words bytes path [] (bound_base below f.number)) f.number
+    tested = goes_with words bytes c.defs.first (base_of c.bytes words bytes path [] (bound_base below number)) number
 
     pub deletes_left : tested ≡ false → DeletesBound below l path (meant span) c e words bytes v u
     deletes_left t = record { deletes = λ k s p h n q. keeps p h n q (sym (goes_as p h n q) ∙ t) }

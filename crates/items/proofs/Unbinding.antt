@@ -9,14 +9,14 @@ use lib.Dec.{eqb}
 use lib.ListN.{length, take, length-append, length-map}
 use lib.Seq.{append_snoc, take_all}
 use Rattle.paths_numbers.specs.meaning.Text.{same}
-use Rattle.paths_numbers.specs.meaning.Path.{joined, root}
+use Rattle.paths_numbers.specs.meaning.Path.{joined}
 use Rattle.paths_numbers.proofs.Texts.{by_test, not_both}
 use Rattle.making.specs.declared.ctx.LowerCtx.{LowerCtx}
 use Rattle.definition_log.specs.meaning.Contents.{Def, Binding}
 use Rattle.definition_log.specs.meaning.Record.{one_of, next_of, first_text, second_text, leads, log_count}
 use Rattle.definition_log.specs.meaning.ReadBack.{chain_from, chain_of, binding_at, read_bindings, read_defs}
 use Rattle.making.specs.declared.place.PathAt.{PathAt}
-use Rattle.making.specs.machine.PathPlaces.{path_of, stands, settled, path_in}
+use Rattle.making.specs.machine.PathPlaces.{path_in}
 use Rattle.making.specs.meaning.State.{State}
 use Rattle.making.specs.machine.Adding.{remove_at, unbind_at}
 use Rattle.making.specs.machine.Represents.{Context, Represents, last_number, Unlinks}

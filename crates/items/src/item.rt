@@ -221,7 +221,9 @@ fn delete_at(ctx: LowerCtx, out: &mut [u32], bytes: &mut [u8], path: &[u8], span
         bytes.new }
 {
     let without = unbind_all(ctx, out, bytes, Base::Given, path, path);
-    let found = first_with(out, bytes, without.defs.first, path);
+    let Some(found) = first_with(out, bytes, without.defs.first, path) else {
+        return without;
+    };
     let place = first_place(out, found.number);
     without.define_at(out, bytes, DefKind::DeletedNode, span, span, place)
 }
@@ -250,7 +252,9 @@ fn delete_bound(
         out.new bytes.new }
 {
     let unit = no_text(path);
-    let found = first_with(out, bytes, ctx.binds.first, label);
+    let Some(found) = first_with(out, bytes, ctx.binds.first, label) else {
+        return ctx;
+    };
     let number = found.number;
     let base = bound_base(below, number);
     let goes = goes_with(ctx, out, bytes, base, path, unit, number);
@@ -275,7 +279,9 @@ fn define_bound(
     ensures { DefinesBound below label.now path.now (meant span) ctx result out.old bytes.old
         out.new bytes.new }
 {
-    let found = first_with(out, bytes, ctx.binds.first, label);
+    let Some(found) = first_with(out, bytes, ctx.binds.first, label) else {
+        return ctx;
+    };
     let place = second_place(out, found.number);
     if below {
         let unit = no_text(path);

@@ -235,7 +235,9 @@ pub fn unbind_others(
         bytes.old out.new bytes.new }
 {
     let r = ctx.binds.first;
-    let found = first_with(out, bytes, r, label);
+    let Some(found) = first_with(out, bytes, r, label) else {
+        return ctx;
+    };
     let most = log_count(out);
     let base = bound_base(below, found.number);
     let up = unbind(ctx, out, bytes, base, name, unit, true, label, 0, r, most);
@@ -266,6 +268,8 @@ pub fn unlink_first(ctx: LowerCtx, out: &mut [u32], bytes: &mut [u8], label: &[u
     ensures { UnlinksFirst label.now ctx result out.old bytes.old out.new
         bytes.new }
 {
-    let found = first_with(out, bytes, ctx.binds.first, label);
+    let Some(found) = first_with(out, bytes, ctx.binds.first, label) else {
+        return ctx;
+    };
     ctx.unlink_binding(out, bytes, found.previous, found.number)
 }

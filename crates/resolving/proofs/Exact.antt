@@ -1,21 +1,20 @@
 -- Where no live node's path has a unit address, a path leads where 01's rule led it: to a live node exactly there, or nowhere.
 use Prim.Native.Nat.{ℕ}
 use mathlib.Core.Path.{◌≡◌, refl, ap, ◌∙◌}
-use mathlib.Core.Bool.{Bool, true, false, cond}
+use mathlib.Core.Bool.{false, cond}
 use mathlib.Core.List.{List, [], ◌∷◌}
-use Rattle.paths_numbers.specs.meaning.Text.{same}
 use Rattle.paths_numbers.specs.meaning.Path.{at_or_under}
 use Rattle.paths_numbers.specs.meaning.Lists.{any}
 use Rattle.paths_numbers.proofs.Texts.{by_test, not_both, same_refl}
-use Rattle.short_paths.specs.meaning.Short.{has_at, may_mean, has_components}
+use Rattle.short_paths.specs.meaning.Short.{may_mean, has_components}
 use Rattle.short_paths.proofs.Plain.{means_itself}
 use Rattle.definition_log.specs.meaning.Contents.{Def}
 use Rattle.queries.specs.meaning.Kind.{is_node}
 use Rattle.queries.specs.meaning.Live.{live, node_at, contains_node}
-use Rattle.queries.specs.meaning.Lookup.{LookedUp, found, no_node, node_paths, distinct, lookup}
+use Rattle.queries.specs.meaning.Lookup.{found, no_node, node_paths, distinct, lookup}
 use Rattle.queries.proofs.Fold.{nodes_at, live_base}
-use Rattle.resolving.specs.meaning.Resolve.{Resolution, by_lookup, live_at}
-use Rattle.resolving.specs.meaning.Exact.{exactly_at, has_address, StaysExact}
+use Rattle.resolving.specs.meaning.Resolve.{by_lookup}
+use Rattle.resolving.specs.meaning.Exact.{has_address, StaysExact}
 
 -- a node that may be meant is the path's own
 none_meant : (p : List ℕ) (l : List Def) → any has_address l ≡ false → any (node_at p) l ≡ false → node_paths (may_mean p) l ≡ []

@@ -1,12 +1,12 @@
 -- The search for the first record of a chain with a text, and where a reference leads by it.
-use Prim.Native.Nat.{ℕ, ◌-◌}
+use Prim.Native.Nat.{ℕ}
 use mathlib.Core.Path.{◌≡◌, refl, sym, ap, ◌∙◌}
 use mathlib.Core.Bool.{Bool, true, false}
 use mathlib.Core.List.{List, [], ◌∷◌, ◌++◌, map, append-nil, head-eq_of_cons-eq, tail-eq_of_cons-eq}
 use mathlib.Core.Option.{some, none}
 use native.Mathlib.Omega.{arith}
-use borrow.Author.Tests.{eqb-true, eqb-false}
-use Rattle.std.specs.Prelude.{Result, Ok, Err}
+use borrow.Author.Tests.{eqb-true}
+use Rattle.std.specs.Prelude.{Option as Maybe, Some, None, Result, Ok, Err}
 use lib.Dec.{eqb}
 use lib.Seq.{append_snoc}
 use Rattle.paths_numbers.specs.meaning.Code.{node_not_found, node_ambiguous}
@@ -14,18 +14,16 @@ use Rattle.paths_numbers.specs.meaning.Text.{is_empty}
 use Rattle.paths_numbers.specs.meaning.Path.{join, joined, with_unit}
 use Rattle.paths_numbers.proofs.Texts.{by_test, not_both, same_true, same_refl}
 use Rattle.definition_log.specs.meaning.Contents.{Def, Binding, Span}
-use Rattle.definition_log.specs.meaning.Record.{next_of, first_text, second_text, log_count}
-use Rattle.definition_log.specs.meaning.ReadBack.{chain_from, chain_of, binding_at, read_bindings, read_defs}
+use Rattle.definition_log.specs.meaning.Record.{first_text, second_text}
+use Rattle.definition_log.specs.meaning.ReadBack.{chain_of, binding_at, read_bindings, read_defs}
 use Rattle.making.specs.machine.Represents.{last_number, Context, Represents, Steps}
 use Rattle.paths_numbers.specs.meaning.Lists.{any}
 use Rattle.paths_numbers.proofs.Lists.{any_append as any_both, any_head, any_back}
-use Rattle.queries.specs.machine.Pass.{goes_on}
 use Rattle.queries.specs.meaning.Live.{contains_node}
 use Rattle.queries.specs.meaning.Lookup.{lookup}
 use Rattle.queries.specs.machine.Looked.{looked_up, AnswersLookup}
 use Rattle.queries.specs.declared.lookup.Lookup.{Lookup}
 use Rattle.queries.specs.declared.lookup.Lookup.TheVariants as L
-use Rattle.queries.proofs.Chain.{goes, stops}
 use Rattle.queries.proofs.LookedUp.{found_live}
 use Rattle.paths_numbers.specs.meaning.Reference.{Target, label, label_path, path}
 use Rattle.resolving.specs.meaning.Resolve.{first_binding, by_lookup, by_label, below_label, live_at, resolve, reaches}
@@ -62,60 +60,43 @@ last_snoc (a ∷ b ∷ l) n = last_snoc (b ∷ l) n
 pub any_append : {A : Type 0} (f : A → Bool) (xs ys : List A) → any f xs ≡ false → any f (xs ++ ys) ≡ any f ys
 any_append f xs ys h = any_both f xs ys ∙ rw h refl
 
--- a chain that goes on is at a record
-pub goes_there : (words : List ℕ) (r left : ℕ) → goes_on words r left ≡ true → r ≡ 0 → ⊥
-unfolding goes_on
-goes_there words r left t e =
-    by_test (eqb left 0) (λ q. not_both (rw q at t) refl) (λ q. not_both (rw (q, e) at t) refl)
-
 -- what a walk along a chain has passed: none of it has the text
-pub record Passed (words bytes : List ℕ) (first : ℕ) (t : List ℕ) (previous r left : ℕ) : Type 0 where
+pub record Passed (words bytes : List ℕ) (first : ℕ) (t : List ℕ) (previous : ℕ) (left : List ℕ) : Type 0 where
   pub before : List ℕ
-  pub chain : chain_of words first ≡ before ++ chain_from left words r
+  pub chain : chain_of words first ≡ before ++ left
   pub previous_is : previous ≡ last_number before
   pub others : any (has_text words bytes t) before ≡ false
 
-pub passed_none : (words bytes : List ℕ) (first : ℕ) (t : List ℕ) (left : ℕ) → left ≡ log_count words
-    → Passed words bytes first t 0 first left
-unfolding chain_of last_number any
-passed_none words bytes first t left e = record { before = []; chain = rw e refl; previous_is = refl; others = refl }
+pub passed_none : (words bytes : List ℕ) (first : ℕ) (t : List ℕ) → Passed words bytes first t 0 (chain_of words first)
+unfolding last_number any
+passed_none words bytes first t = record { before = []; chain = refl; previous_is = refl; others = refl }
 
-module _ {words bytes : List ℕ} {first : ℕ} {t : List ℕ} {previous r left : ℕ} (p : Passed words bytes first t previous r left) where
-  pub passed_one : goes_on words r left ≡ true → has_text words bytes t r ≡ false → (next : ℕ) → next ≡ next_of words r
-      → Passed words bytes first t r next (left - 1)
+module _ {words bytes : List ℕ} {first : ℕ} {t : List ℕ} {previous : ℕ} where
+  pub passed_one : {r : ℕ} {left : List ℕ} → Passed words bytes first t previous (r ∷ left) → has_text words bytes t r ≡ false
+      → Passed words bytes first t r left
   unfolding any
-  passed_one g h next e =
+  passed_one {r} p h =
       record {
         before = p.before ++ r ∷ [];
-        chain = p.chain ∙ rw (goes words r left g, e, append_snoc) refl;
+        chain = p.chain ∙ rw append_snoc refl;
         previous_is = sym (last_snoc p.before r);
         others = any_append (has_text words bytes t) p.before (r ∷ []) p.others ∙ rw h refl;
       }
 
-  pub passed_found : goes_on words r left ≡ true → has_text words bytes t r ≡ true
-      → FirstWith words bytes first t (record { number = r; previous = previous })
-  passed_found g h =
+  pub passed_found : {r : ℕ} {left : List ℕ} → Passed words bytes first t previous (r ∷ left) → has_text words bytes t r ≡ true
+      → FirstAt words bytes first t r previous
+  passed_found {r} {left} p h =
       record {
-        none_there = λ z. absurd (goes_there words r left g z);
-        none_before = λ z. absurd (goes_there words r left g z);
-        there = λ n.
-            record {
-              before = p.before;
-              after = chain_from (left - 1) words (next_of words r);
-              chain = p.chain ∙ rw (goes words r left g) refl;
-              previous_is = p.previous_is;
-              others = p.others;
-              has = same_true (first_text words bytes r) t h;
-            };
+        before = p.before;
+        after = left;
+        chain = p.chain;
+        previous_is = p.previous_is;
+        others = p.others;
+        has = same_true (first_text words bytes r) t h;
       }
 
-  pub passed_all : goes_on words r left ≡ false → FirstWith words bytes first t (record { number = 0; previous = 0 })
-  passed_all g =
-      record {
-        none_there = λ z. ap (any (has_text words bytes t)) (p.chain ∙ rw (stops words r left g, append-nil) refl) ∙ p.others;
-        none_before = λ z. refl;
-        there = λ n. absurd (n refl);
-      }
+  pub passed_all : Passed words bytes first t previous [] → any (has_text words bytes t) (chain_of words first) ≡ false
+  passed_all p = ap (any (has_text words bytes t)) (p.chain ∙ rw append-nil refl) ∙ p.others
 
 -- a list has one first element that passes a test
 one_first : (f : ℕ → Bool) (x y : List ℕ) (m n : ℕ) (z w : List ℕ) → x ++ m ∷ z ≡ y ++ n ∷ w → any f x ≡ false → any f y ≡ false
@@ -136,35 +117,24 @@ module _ {words bytes : List ℕ} {first : ℕ} {t : List ℕ} where
   passes : {r previous : ℕ} → FirstAt words bytes first t r previous → has_text words bytes t r ≡ true
   passes x = rw (x.has, same_refl t) refl
 
-  never_missed : {f g : Found} → FirstWith words bytes first t f → FirstWith words bytes first t g → f.number ≡ 0
-      → (g.number ≡ 0 → ⊥) → ⊥
-  never_missed {f} {g} a b e n =
-      let x = b.there n in
-      let h = any_head (has_text words bytes t) g.number x.after (passes x) in
-      not_both (ap (any (has_text words bytes t)) x.chain ∙ any_back (has_text words bytes t) x.before (g.number ∷ x.after) h)
-      (a.none_there e)
+  never_missed : {r previous : ℕ} → any (has_text words bytes t) (chain_of words first) ≡ false → FirstAt words bytes first t r previous → ⊥
+  never_missed {r} h x =
+      let y = any_head (has_text words bytes t) r x.after (passes x) in
+      not_both (ap (any (has_text words bytes t)) x.chain ∙ any_back (has_text words bytes t) x.before (r ∷ x.after) y) h
 
-  pub answers_once : {f g : Found} → FirstWith words bytes first t f → FirstWith words bytes first t g
-      → (f.number ≡ g.number) × (f.previous ≡ g.previous)
-  answers_once {f} {g} a b =
-      by_test (eqb f.number 0)
-      (λ p.
-      by_test (eqb g.number 0)
-      (λ q.
-      let x = eqb-true f.number 0 p in
-      let y = eqb-true g.number 0 q in
-      (x ∙ sym y, a.none_before x ∙ sym (b.none_before y)))
-      (λ q. absurd (never_missed a b (eqb-true f.number 0 p) (eqb-false g.number 0 q))))
-      (λ p.
-      by_test (eqb g.number 0)
-      (λ q. absurd (never_missed b a (eqb-true g.number 0 q) (eqb-false f.number 0 p)))
-      (λ q.
-      let x = a.there (eqb-false f.number 0 p) in
-      let y = b.there (eqb-false g.number 0 q) in
-      let i = one_first (has_text words bytes t) x.before y.before f.number g.number x.after y.after
-      (sym x.chain ∙ y.chain) x.others y.others
-      (passes x) (passes y) in
-      (i.0, x.previous_is ∙ ap last_number i.1 ∙ sym y.previous_is)))
+pub answers_once : (words bytes : List ℕ) (first : ℕ) (t : List ℕ) (f g : Maybe Found) → FirstWith words bytes first t f
+    → FirstWith words bytes first t g → f ≡ g
+answers_once words bytes first t None None a b = refl
+answers_once words bytes first t None (Some g) a b = absurd (never_missed a b)
+answers_once words bytes first t (Some f) None a b = absurd (never_missed b a)
+answers_once words bytes first t (Some f) (Some g) a b =
+    let i = one_first (has_text words bytes t) a.before b.before f.number g.number a.after b.after
+    (sym a.chain ∙ b.chain) a.others b.others
+    (passes a) (passes b) in
+    ap (λ (x : Found). Some x) (alike f g i.0 (a.previous_is ∙ ap last_number i.1 ∙ sym b.previous_is))
+  where
+    alike : (f g : Found) → f.number ≡ g.number → f.previous ≡ g.previous → f ≡ g
+    alike f g e h = rw (e, h) refl
 
 -- the same of bindings: the label's first
 module _ (words bytes : List ℕ) (l : List ℕ) where
@@ -181,17 +151,16 @@ module _ (words bytes : List ℕ) (l : List ℕ) where
   a_binding (m ∷ ns) n ms h e =
       by_test (has_text words bytes l m) (λ q. absurd (not_both (rw q refl) h)) (λ q. rw q (a_binding ns n ms (rw q at h) e))
 
-  module _ {first : ℕ} {f : Found} (w : FirstWith words bytes first l f) where
-    pub label_missing : f.number ≡ 0 → first_binding l (read_bindings words bytes first) ≡ none
-    unfolding read_bindings
-    label_missing e = no_binding (chain_of words first) (w.none_there e)
+  pub label_missing : (first : ℕ) → any (has_text words bytes l) (chain_of words first) ≡ false → first_binding l (read_bindings words bytes first) ≡ none
+  unfolding read_bindings
+  label_missing first h = no_binding (chain_of words first) h
 
-    pub label_there : (f.number ≡ 0 → ⊥) → first_binding l (read_bindings words bytes first) ≡ some (second_text words bytes f.number)
-    unfolding read_bindings
-    label_there n =
-        let x = w.there n in
-        ap (λ (c : List ℕ). first_binding l (map (binding_at words bytes) c)) x.chain
-        ∙ a_binding x.before f.number x.after x.others x.has
+  pub label_there : {first n previous : ℕ} → FirstAt words bytes first l n previous
+      → first_binding l (read_bindings words bytes first) ≡ some (second_text words bytes n)
+  unfolding read_bindings
+  label_there {n = n} x =
+      ap (λ (c : List ℕ). first_binding l (map (binding_at words bytes) c)) x.chain
+      ∙ a_binding x.before n x.after x.others x.has
 
 -- a name without a unit address
 pub joined_plain : (parent name : List ℕ) → joined parent name [] ≡ join parent name
@@ -228,30 +197,30 @@ module _ (words bytes l p : List ℕ) where
   below_led_lem n L.Several = refl
 
 -- where a reference leads
-module _ (words bytes : List ℕ) {first : ℕ} (l p : List ℕ) {f : Found} (w : FirstWith words bytes first l f) where
-  pub leads_label : (f.number ≡ 0 → ⊥) → resolution words bytes l p (R.Bound f.number) ≡ by_label l
-      (first_binding l (read_bindings words bytes first))
-  unfolding resolution
-  leads_label n = rw (label_there words bytes l w n) refl
+module _ (words bytes l p : List ℕ) where
+  module _ (first : ℕ) (h : any (has_text words bytes l) (chain_of words first) ≡ false) where
+    pub no_label : resolution words bytes l p R.NoLabel ≡ by_label l (first_binding l (read_bindings words bytes first))
+    unfolding resolution
+    no_label = rw (label_missing words bytes l first h) refl
 
-  pub no_label : f.number ≡ 0 → resolution words bytes l p R.NoLabel ≡ by_label l (first_binding l (read_bindings words bytes first))
-  unfolding resolution
-  no_label e = rw (label_missing words bytes l w e) refl
-
-  module _ (defs : List Def) where
-    pub no_label_below : f.number ≡ 0 → resolution words bytes l p R.NoLabel ≡ below_label l p
+    pub no_label_below : (defs : List Def) → resolution words bytes l p R.NoLabel ≡ below_label l p
         (first_binding l (read_bindings words bytes first)) defs
     unfolding resolution
-    no_label_below e = rw (label_missing words bytes l w e) refl
+    no_label_below defs = rw (label_missing words bytes l first h) refl
 
-    leads_below : (n : f.number ≡ 0 → ⊥) (v : Lookup)
-        → looked_up words bytes (joined (second_text words bytes f.number) p []) v
-        ≡ lookup (joined (second_text words bytes f.number) p []) defs
-        → resolution words bytes l p (below_led f.number v) ≡ below_label l p (first_binding l (read_bindings words bytes first)) defs
-    leads_below n v e =
-        let j = joined_plain (second_text words bytes f.number) p in
-        below_led_lem words bytes l p f.number v ∙ ap (by_lookup (joined (second_text words bytes f.number) p [])) e
-        ∙ rw (label_there words bytes l w n, ← j) refl
+  module _ {first n previous : ℕ} (x : FirstAt words bytes first l n previous) where
+    pub leads_label : resolution words bytes l p (R.Bound n) ≡ by_label l (first_binding l (read_bindings words bytes first))
+    unfolding resolution
+    leads_label = rw (label_there words bytes l x) refl
+
+    leads_below : (defs : List Def) (v : Lookup)
+        → looked_up words bytes (joined (second_text words bytes n) p []) v
+        ≡ lookup (joined (second_text words bytes n) p []) defs
+        → resolution words bytes l p (below_led n v) ≡ below_label l p (first_binding l (read_bindings words bytes first)) defs
+    leads_below defs v e =
+        let j = joined_plain (second_text words bytes n) p in
+        below_led_lem words bytes l p n v ∙ ap (by_lookup (joined (second_text words bytes n) p [])) e
+        ∙ rw (label_there words bytes l x, ← j) refl
 
 leads_path : (words bytes l p : List ℕ) (defs : List Def) (v : Lookup) → looked_up words bytes p v ≡ lookup p defs
     → resolution words bytes l p (path_led v) ≡ live_at p defs
@@ -287,9 +256,9 @@ module _ (words text : List ℕ) (r : ℕ) (k : Result MirPhandleTarget Report) 
       go (Err d) e h = let z : ◌≡◌ {A = ℕ} 0 1 = cc in omega arith
 
 -- a binding that was found is one of the log's
-pub bound_there : {words bytes : List ℕ} {first : ℕ} {t : List ℕ} {f : Found} → FirstWith words bytes first t f → (f.number ≡ 0 → ⊥)
-    → InChain words first f.number
-bound_there w n = let x = w.there n in record { before = x.before; after = x.after; chain = x.chain }
+pub bound_there : {words bytes : List ℕ} {first : ℕ} {t : List ℕ} {n previous : ℕ} → FirstAt words bytes first t n previous
+    → InChain words first n
+bound_there x = record { before = x.before; after = x.after; chain = x.chain }
 
 -- a definition that was found is one of the log's
 number_in : (r : ℕ) (ns : List ℕ) → any (eqb r) ns ≡ true → (before : List ℕ) × (after : List ℕ) × (ns ≡ before ++ r ∷ after)
@@ -304,14 +273,14 @@ node_there : (words : List ℕ) (first r : ℕ) → any (eqb r) (chain_of words 
 node_there words first r h = let i = number_in r (chain_of words first) h in record { before = i.0; after = i.1; chain = i.2 }
 
 module _ {words bytes : List ℕ} {binds defs : ℕ} {l p : List ℕ} where
-  bound_in : (v : Resolved) {f : Found} → FirstWith words bytes binds l f → (f.number ≡ 0 → ⊥) → bound_by v ≡ some f.number
+  bound_in : (v : Resolved) {n previous : ℕ} → FirstAt words bytes binds l n previous → bound_by v ≡ some n
       → Leads words bytes binds defs l p v
-  bound_in v {f} w z e =
+  bound_in v {n} w e =
       record {
-        there = λ r q. let i : f.number ≡ r = cc in rw (← i) (bound_there w z);
-        first = λ r q. let i : f.number ≡ r = cc in rw (← i) (label_there words bytes l w z);
-        alive = λ q. let i : none ≡ some f.number = sym (ap bound_by q) ∙ e in let x : ◌≡◌ {A = ℕ} 0 1 = cc in absurd (omega arith);
-        named = λ r q. let i : none ≡ some f.number = sym (ap bound_by q) ∙ e in let x : ◌≡◌ {A = ℕ} 0 1 = cc in absurd (omega arith);
+        there = λ r q. let i : n ≡ r = cc in rw (← i) (bound_there w);
+        first = λ r q. let i : n ≡ r = cc in rw (← i) (label_there words bytes l w);
+        alive = λ q. let i : none ≡ some n = sym (ap bound_by q) ∙ e in let x : ◌≡◌ {A = ℕ} 0 1 = cc in absurd (omega arith);
+        named = λ r q. let i : none ≡ some n = sym (ap bound_by q) ∙ e in let x : ◌≡◌ {A = ℕ} 0 1 = cc in absurd (omega arith);
       }
 
   none_in : (v : Resolved) → bound_by v ≡ none → (v ≡ R.AtPath → contains_node p (read_defs words bytes defs) ≡ true)
@@ -325,9 +294,8 @@ module _ {words bytes : List ℕ} {binds defs : ℕ} {l p : List ℕ} where
       }
 
   -- by the label's binding, and nowhere for its label
-  pub label_in_lem : {f : Found} → FirstWith words bytes binds l f → (f.number ≡ 0 → ⊥)
-      → Leads words bytes binds defs l p (R.Bound f.number)
-  label_in_lem {f} w z = bound_in (R.Bound f.number) w z refl
+  pub label_in_lem : {n previous : ℕ} → FirstAt words bytes binds l n previous → Leads words bytes binds defs l p (R.Bound n)
+  label_in_lem {n} w = bound_in (R.Bound n) w refl
 
   pub no_label_in : Leads words bytes binds defs l p R.NoLabel
   no_label_in =
@@ -353,13 +321,13 @@ module _ {words bytes : List ℕ} {binds defs : ℕ} {l p : List ℕ} where
   path_in_lem (L.Node n) a = node_in_lem n a.1
   path_in_lem L.Several a = no_node_in node_ambiguous
 
-  below_in : {f : Found} → FirstWith words bytes binds l f → (f.number ≡ 0 → ⊥) → (v : Lookup) (q : List ℕ)
+  below_in : {n previous : ℕ} → FirstAt words bytes binds l n previous → (v : Lookup) (q : List ℕ)
       → AnswersLookup words bytes defs q v
-      → Leads words bytes binds defs l p (below_led f.number v)
-  below_in {f} w z L.Exact q a = bound_in (R.BoundPath f.number) w z refl
-  below_in {f} w z L.NoNode q a = bound_in (R.NoNodeBelow node_not_found f.number) w z refl
-  below_in w z (L.Node n) q a = node_in_lem n a.1
-  below_in {f} w z L.Several q a = bound_in (R.NoNodeBelow node_ambiguous f.number) w z refl
+      → Leads words bytes binds defs l p (below_led n v)
+  below_in {n} w L.Exact q a = bound_in (R.BoundPath n) w refl
+  below_in {n} w L.NoNode q a = bound_in (R.NoNodeBelow node_not_found n) w refl
+  below_in w (L.Node m) q a = node_in_lem m a.1
+  below_in {n} w L.Several q a = bound_in (R.NoNodeBelow node_ambiguous n) w refl
 
 -- what the look-ups answer
 pub answers_path : {words bytes : List ℕ} {defs : ℕ} {p : List ℕ} (v : Lookup) (o : Resolved) → o ≡ path_led v
@@ -367,11 +335,11 @@ pub answers_path : {words bytes : List ℕ} {defs : ℕ} {p : List ℕ} (v : Loo
 answers_path {words} {bytes} {defs} {p} v o e a =
     rw e ((λ l. leads_path words bytes l p (read_defs words bytes defs) v a.0), (λ l k. path_in_lem v a))
 
-pub answers_below : {words bytes : List ℕ} {binds defs : ℕ} {l p : List ℕ} {f : Found} → FirstWith words bytes binds l f
-    → (f.number ≡ 0 → ⊥) → (v : Lookup) (o : Resolved) → o ≡ below_led f.number v
-    → AnswersLookup words bytes defs (joined (second_text words bytes f.number) p []) v → AnswersBelow words bytes binds defs l p o
-answers_below {words} {bytes} {defs = defs} {l} {p} w z v o e a =
-    rw e (leads_below words bytes l p w (read_defs words bytes defs) z v a.0, below_in w z v _ a)
+pub answers_below : {words bytes : List ℕ} {binds defs : ℕ} {l p : List ℕ} {n previous : ℕ} → FirstAt words bytes binds l n previous
+    → (v : Lookup) (o : Resolved) → o ≡ below_led n v
+    → AnswersLookup words bytes defs (joined (second_text words bytes n) p []) v → AnswersBelow words bytes binds defs l p o
+answers_below {words} {bytes} {defs = defs} {l} {p} w v o e a =
+    rw e (leads_below words bytes l p w (read_defs words bytes defs) v a.0, below_in w v _ a)
 
 -- what a reference that leads nowhere reports
 pub reports_overlay : {v : Resolved} {l p : List ℕ} {span : Span} {c : LowerCtx} {words bytes : List ℕ}

@@ -4,9 +4,10 @@ ghost use Rattle.definition_log.specs.machine.Parts.{meant};
 ghost use Rattle.resolving.specs.machine.Leading.{AnswersPhandle, AnswersTarget, AnswersLabel, AnswersBelow, AnswersPath};
 ghost use Rattle.resolving.specs.machine.Leading.{FirstWith, ReportsMissing};
 
+use definition_log::chain::chain;
 use definition_log::layout;
 use definition_log::parts::Span;
-use definition_log::record::{first_text, log_count, next_of, out_field, second_text};
+use definition_log::record::{first_text, out_field, second_text};
 use input::phandle::{phandle_label_at, phandle_path_at};
 use input::record::no_text;
 use input::report::Report;
@@ -15,7 +16,6 @@ use making::place::second_place;
 use paths_numbers::codes::{LABEL_NOT_FOUND, NODE_AMBIGUOUS, NODE_NOT_FOUND};
 use paths_numbers::phandle::MirPhandleTarget;
 use paths_numbers::text::equals;
-use queries::definition::goes_on;
 use queries::lookup::{Lookup, lookup_in, lookup_path};
 use queries::mir::sets_overlay_in;
 
@@ -34,7 +34,7 @@ pub enum Resolved {
 }
 
 // A record of a chain, and the one before it, 0 where there is none.
-#[derive(Clone, Copy)]
+#[derive(Clone, Copy, Debug, PartialEq, Eq)]
 pub struct Found {
     pub number: u32,
     pub previous: u32,
@@ -88,10 +88,9 @@ pub fn resolve_target(out: &[u32], bytes: &[u8], binds: u32, defs: u32, r: u32) 
 pub fn resolve_label(out: &[u32], bytes: &[u8], binds: u32, label: &[u8]) -> Resolved
     ensures { AnswersLabel out.now bytes.now binds label.now result }
 {
-    let found = first_with(out, bytes, binds, label);
-    if found.number == 0 {
+    let Some(found) = first_with(out, bytes, binds, label) else {
         return Resolved::NoLabel;
-    }
+    };
     Resolved::Bound(found.number)
 }
 
@@ -106,11 +105,10 @@ pub fn resolve_below(
 ) -> Resolved
     ensures { AnswersBelow out.now bytes.now binds defs label.now path.now result }
 {
-    let found = first_with(out, bytes, binds, label);
-    let number = found.number;
-    if number == 0 {
+    let Some(found) = first_with(out, bytes, binds, label) else {
         return Resolved::NoLabel;
-    }
+    };
+    let number = found.number;
     let base = second_text(out, bytes, number);
     match lookup_path(out, bytes, defs, base, path) {
         Lookup::Exact => Resolved::BoundPath(number),
@@ -132,29 +130,21 @@ pub fn resolve_path(out: &[u32], bytes: &[u8], defs: u32, path: &[u8]) -> Resolv
     }
 }
 
-// The first record of a chain with this first text, number 0 where there is none: a label's first
-// binding, a definition with a path.
-pub fn first_with(out: &[u32], bytes: &[u8], first: u32, text: &[u8]) -> Found
+// The first record of a chain with this first text: a label's first binding, a definition with a path.
+pub fn first_with(out: &[u32], bytes: &[u8], first: u32, text: &[u8]) -> Option<Found>
     ensures { FirstWith out.now bytes.now first text.now result }
 {
-    let mut previous: u32 = 0;
-    let mut r = first;
-    let mut left = log_count(out);
-    while goes_on(out, r, left) {
+    let mut previous = 0;
+    for r in chain(out, first) {
         if equals(first_text(out, bytes, r), text) {
-            return Found {
+            return Some(Found {
                 number: r,
-                previous: previous,
-            };
+                previous,
+            });
         }
         previous = r;
-        r = next_of(out, r);
-        left -= 1;
     }
-    Found {
-        number: 0,
-        previous: 0,
-    }
+    None
 }
 
 // Reports a reference that leads nowhere, unless the log in hand is an overlay.

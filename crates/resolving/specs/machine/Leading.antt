@@ -1,5 +1,5 @@
 -- What the search for where a reference leads answers, as the resolution that it stands for.
-use Rattle.std.specs.Prelude.{ℕ, ◌≡◌, Bool, true, false, cond, List, [], ◌∷◌, ◌++◌, eqb, Result}
+use Rattle.std.specs.Prelude.{ℕ, ◌≡◌, Bool, true, false, cond, List, [], ◌∷◌, ◌++◌, eqb, Option as Maybe, Result, MatchOption}
 use Rattle.std.proofs.Math.Option.{Option, some, none}
 use Rattle.paths_numbers.specs.meaning.Text.{same}
 use Rattle.paths_numbers.specs.meaning.Path.{joined}
@@ -49,11 +49,10 @@ pub record FirstAt (words bytes : List ℕ) (first : ℕ) (t : List ℕ) (number
   pub others : any (has_text words bytes t) before ≡ false
   pub has : first_text words bytes number ≡ t
 
--- what the search for it answers: number 0, and 0 before it, where the chain has none
-pub record FirstWith (words bytes : List ℕ) (first : ℕ) (t : List ℕ) (f : Found) : Type 0 where
-  pub none_there : f.number ≡ 0 → any (has_text words bytes t) (chain_of words first) ≡ false
-  pub none_before : f.number ≡ 0 → f.previous ≡ 0
-  pub there : (f.number ≡ 0 → ⊥) → FirstAt words bytes first t f.number f.previous
+-- what the search for it answers
+abbrev pub FirstWith : List ℕ → List ℕ → ℕ → List ℕ → Maybe Found → Type 0
+FirstWith words bytes first t o =
+    MatchOption o (any (has_text words bytes t) (chain_of words first) ≡ false) (λ f. FirstAt words bytes first t f.number f.previous)
 
 -- a record of a chain
 pub record InChain (words : List ℕ) (first r : ℕ) : Type 0 where

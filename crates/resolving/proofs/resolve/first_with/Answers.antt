@@ -1,42 +1,22 @@
 use mathlib.Core.Path.{sym, ◌∙◌}
-use native.Mathlib.Omega.{arith}
-use Rattle.queries.proofs.Chain.{goes_left}
 use Rattle.resolving.proofs.Leading.{passed_none, passed_one, passed_found, passed_all}
 use Rattle.resolving.proofs.resolve.first_with.Goals as goal
 
-pub loop-first-init : goal.loop-first-init
-loop-first-init c =
+pub loop-r-init : goal.loop-r-init
+loop-r-init c =
     let a = c.args in
-    passed_none a.out.now a.bytes.now a.first a.text.now _ c.log_count-left.ensures
+    rw (c.into_iter-r-iterator.ensures.into_iter_gives, c.chain-r-items.ensures)
+    (passed_none a.out.now a.bytes.now a.first a.text.now)
 
 pub returns-then-equals : goal.returns-then-equals
 returns-then-equals c =
-    let g = sym c.goes_on.ensures ∙ c.loop-first-test.true in
-    passed_found c.loop-first.invariant g
+    passed_found (rw c.in-Some.ensures.steps at c.loop-r.invariant)
     (rw c.first_text.ensures at (sym c.equals.ensures ∙ c.if-equals.true))
 
-pub overflow_sub-left : goal.overflow_sub-left
-overflow_sub-left c =
-    let l = c.loop-first in
-    goes_left c.args.out.now l.r l.left
-    (sym c.goes_on.ensures ∙ c.loop-first-test.true)
-
-pub loop-first-smaller : goal.loop-first-smaller
-loop-first-smaller c =
-    let l = c.loop-first in
-    omega (
-      arith,
-      goes_left c.args.out.now
-          l.r l.left (sym c.goes_on.ensures
-          ∙ c.loop-first-test.true),
-    )
-
-pub loop-first-preserved : goal.loop-first-preserved
-loop-first-preserved c =
-    let g = sym c.goes_on.ensures ∙ c.loop-first-test.true in
-    passed_one c.loop-first.invariant g
-    (rw c.first_text.ensures at (sym c.equals.ensures ∙ c.if-equals.false)) _
-    c.next_of-r.ensures
+pub loop-r-preserved : goal.loop-r-preserved
+loop-r-preserved c =
+    passed_one (rw c.in-Some.ensures.steps at c.loop-r.invariant)
+    (rw c.first_text.ensures at (sym c.equals.ensures ∙ c.if-equals.false))
 
 pub returns : goal.returns
-returns c = passed_all c.loop-first.invariant (sym c.goes_on.ensures ∙ c.loop-first-test.false)
+returns c = passed_all (rw c.in-None.ensures.steps.0 at c.loop-r.invariant)

@@ -1,9 +1,7 @@
 -- Loop invariant: what was passed of the chain has not the text (Leading).
+use Rattle.definition_log.specs.machine.ChainLeft.{chain_left}
 use Rattle.resolving.proofs.Leading.{Passed}
 use Rattle.resolving.proofs.resolve.first_with.Given as goal
 
-abbrev pub invariant-loop-first : goal.invariant-loop-first
-invariant-loop-first l = Passed l.out l.bytes l.first l.text l.previous l.r l.left
-
-abbrev pub decreases-loop-first : goal.decreases-loop-first
-decreases-loop-first l = l.left
+abbrev pub invariant-loop-r : goal.invariant-loop-r
+invariant-loop-r l = Passed l.out l.bytes l.first l.text l.previous (chain_left l.r-iterator)
