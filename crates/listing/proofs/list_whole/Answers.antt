@@ -15,6 +15,6 @@ slice_bounds-list_input-end c = simp length-take (omega arith)
 pub returns : goal.returns
 returns c = let a = c.args in
     let w = filled_whole (replicate most_printed 0) (printed (take a.n a.buffer.now)) _
-        (puts_filled (rw c.requires.empty at c.list_input.ensures))
-        (omega (arith, printed_most (take a.n a.buffer.now), length-replicate {A = ℕ} most_printed 0)) in
+    (puts_filled (rw c.requires.empty at c.list_input.ensures))
+    (omega (arith, printed_most (take a.n a.buffer.now), length-replicate {A = ℕ} most_printed 0)) in
     record { in_bounds = w.0; by_index = λ input r. w.1 ∙ first_read input a.buffer.now a.n (omega arith) (omega arith) r }
