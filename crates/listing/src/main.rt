@@ -52,7 +52,8 @@ fn list_whole(buffer: &[u8], n: usize, page: &mut Page)
     requires prefix_len { IsPrefixLen n buffer.now }
     requires most_read_in_bounds { most_read ≤ length buffer.now }
     requires empty { page.old ≡ page_at (replicate most_printed 0) 0 }
-    ensures in_bounds { page.new.at ≤ length page.new.bytes }
+    ensures in_bounds { page.new.at ≤ most_printed }
+    ensures prefix_len_2 { IsPrefixLen page.new.at page.new.bytes }
     ensures by_index { (input : List ℕ) → ReadOf input buffer.now n → take page.new.at page.new.bytes ≡ printed input }
 {
     list_input(&buffer[..n], page);
