@@ -6,10 +6,8 @@ use native.Mathlib.Nat.{add-zero, zero-add}
 use native.Mathlib.Numerals.{add-one}
 use native.Mathlib.Omega.{arith}
 use borrow.Author.Tests.{lt-ltb, le-ltb}
-use lib.Dec.{ltb}
-use lib.ListN.{length, get_or, take, drop, set, length-append, length-set, drop_of_length-le}
+use lib.ListN.{length, get_or, take, drop, set, length-append, drop_of_length-le}
 use lib.Seq.{drop-cons, take_all, take_at, take-nil, drop-nil, set-append_seam, append_snoc}
-use Rattle.paths_numbers.proofs.Texts.{by_test}
 use Rattle.listing.specs.declared.page.Page.{Page}
 use Rattle.listing.specs.machine.Page.{page_at, put_byte, put, Puts, filled}
 

@@ -105,7 +105,7 @@ whole_printed (Some xs) (Some ys) a b buffer text n h c e k w =
     let l : length (take n buffer) ≡ n = length-take-le n buffer h in
     let starts : take n buffer ≡ take n xs = rw c (sym (take_at (take n buffer) ys n l)) in
     let ends : n < length buffer → length xs ≤ n =
-        (λ m. rw (c, e m) (simp length-append (omega (arith, l)))) in
+    (λ m. rw (c, e m) (simp length-append (omega (arith, l)))) in
     subst (λ t. Appends a b t) (k xs (record { starts = starts; ends = ends })) w
 
 pub on_ok : {T E A B : Type 0} (r : Result T E) → (A → B) → OnOk r A → OnOk r B
