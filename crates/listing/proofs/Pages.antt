@@ -6,10 +6,8 @@ use native.Mathlib.Nat.{add-zero, zero-add}
 use native.Mathlib.Numerals.{add-one}
 use native.Mathlib.Omega.{arith}
 use borrow.Author.Tests.{lt-ltb, le-ltb}
-use lib.Dec.{ltb}
-use lib.ListN.{length, get_or, take, drop, set, length-append, length-set, drop_of_length-le}
+use lib.ListN.{length, get_or, take, drop, set, length-append, drop_of_length-le}
 use lib.Seq.{drop-cons, take_all, take_at, take-nil, drop-nil, set-append_seam, append_snoc}
-use Rattle.paths_numbers.proofs.Texts.{by_test}
 use Rattle.listing.specs.declared.page.Page.{Page}
 use Rattle.listing.specs.machine.Page.{page_at, put_byte, put, Puts, filled}
 
@@ -78,10 +76,10 @@ puts_filled {text} {bytes} p = p.gives ∙ put_filled bytes text
 
 -- a text that fits is there as a whole
 pub filled_whole : (before text : List ℕ) (after : Page) → after ≡ filled before text → length text ≤ length before
-    → (after.at ≤ length after.bytes) × (take after.at after.bytes ≡ text)
+    → (after.at ≤ length before) × (after.at ≤ length after.bytes) × (take after.at after.bytes ≡ text)
 unfolding filled
 filled_whole before text after e h =
     let t : take (length before) text ≡ text = take_all (length before) text h in
     let a : after.bytes ≡ text ++ drop (length text) before = ap (λ (p : Page). p.bytes) e ∙ rw t refl in
     let k : after.at ≡ length text = ap (λ (p : Page). p.at) e ∙ rw t refl in
-    rw (a, k) (simp length-append (omega arith), take_at text (drop (length text) before) (length text) refl)
+    rw (a, k) (h, simp length-append (omega arith), take_at text (drop (length text) before) (length text) refl)

@@ -1,14 +1,16 @@
 -- Inputs that are refused by their size (cause 1), and those that are cut short.
 use Prim.Native.Nat.{ℕ, ◌+◌, ◌-◌, ◌*◌, ◌≤◌, ◌<◌}
-use mathlib.Core.Path.{◌≡◌, refl, sym, ap, ◌∙◌}
+use mathlib.Core.Path.{◌≡◌, refl, sym, ap, subst, ◌∙◌}
 use mathlib.Core.Bool.{true}
 use mathlib.Core.List.{List}
+use Rattle.std.specs.Prelude.{Option as Maybe, Some, None, Result, Ok, Err, IfSome, OnOk}
+use Rattle.std.specs.Io.KnownBytes.{Appends, Consumes, IsAtEnd}
 use native.Mathlib.Nat.{mul-div_cancel}
 use native.Mathlib.Omega.{arith}
 use borrow.Author.Tests.{lt-ltb, le-ltb, lt-leb, ltb-true, ltb-false}
 use lib.Dec.{eqb, leb, ltb}
-use lib.ListN.{length, take, drop, length-take, length-drop}
-use lib.Seq.{take_all, length-take-le}
+use lib.ListN.{length, take, drop, length-take, length-drop, length-append}
+use lib.Seq.{take_all, take_at, length-take-le}
 use Rattle.paths_numbers.proofs.Texts.{by_test, rest}
 use Rattle.input.specs.meaning.Input.{record_count}
 use Rattle.input.specs.meaning.Rows.{most_records, most_text, wrong_size}
@@ -90,3 +92,22 @@ first_read input buffer n h k r =
     let e : length (take n buffer) ≡ n = length-take-le n buffer k in
     let l : n ≤ length input = omega (arith, sym e ∙ ap length r.starts, length-take n input) in
     sym (long_printed (take n buffer) (omega arith)) ∙ long_printed input (omega arith))
+
+-- a text that is what is printed for every input of which the buffer's first n bytes were read, for the bytes that a reader had
+pub whole_printed : (o p a b : Maybe (List ℕ)) (buffer text : List ℕ) (n : ℕ) → n ≤ length buffer → Consumes o p (take n buffer)
+    → (n < length buffer → IsAtEnd p)
+    → ((input : List ℕ) → ReadOf input buffer n → text ≡ printed input)
+    → Appends a b text
+    → IfSome o (λ whole. Appends a b (printed whole))
+whole_printed None p a b buffer text n h c e k w = tt
+whole_printed (Some xs) None a b buffer text n h c e k w = absurd c
+whole_printed (Some xs) (Some ys) a b buffer text n h c e k w =
+    let l : length (take n buffer) ≡ n = length-take-le n buffer h in
+    let starts : take n buffer ≡ take n xs = rw c (sym (take_at (take n buffer) ys n l)) in
+    let ends : n < length buffer → length xs ≤ n =
+    (λ m. rw (c, e m) (simp length-append (omega (arith, l)))) in
+    subst (λ t. Appends a b t) (k xs (record { starts = starts; ends = ends })) w
+
+pub on_ok : {T E A B : Type 0} (r : Result T E) → (A → B) → OnOk r A → OnOk r B
+on_ok (Ok v) f x = f x
+on_ok (Err e) f x = tt

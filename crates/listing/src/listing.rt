@@ -26,9 +26,21 @@ pub fn list_answer(answer: Result<u32, Refusal>, words: &[u32], bytes: &[u8], pa
 fn write_listing(words: &[u32], bytes: &[u8], page: &mut Page)
     ensures { Puts (listing (read_log words.now bytes.now)) page.old page.new }
 {
-    put_chain(words, bytes, Kind::Definition, layout::FIRST_DEFINITION, page);
+    put_chain(
+        words,
+        bytes,
+        Kind::Definition,
+        layout::FIRST_DEFINITION,
+        page,
+    );
     put_chain(words, bytes, Kind::Binding, layout::FIRST_BINDING, page);
-    put_chain(words, bytes, Kind::Diagnostic, layout::FIRST_DIAGNOSTIC, page);
+    put_chain(
+        words,
+        bytes,
+        Kind::Diagnostic,
+        layout::FIRST_DIAGNOSTIC,
+        page,
+    );
     put_chain(words, bytes, Kind::Diagnostic, layout::FIRST_POST, page);
     page.put_text(b".\n");
 }

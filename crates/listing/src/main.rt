@@ -42,7 +42,7 @@ fn list<R: Read, W: Write>(input: &mut R, out: &mut W) -> io::Result<()>
     let n = read_full(input, &mut buffer)?;
     let mut page = Page::new();
     list_whole(&buffer, n, &mut page);
-    out.write_all(page.written())
+    out.write_all(&page.bytes[..page.at])
 }
 
 // Puts what is printed for an input on an empty page, which is long enough for any. The input's first `n` bytes
@@ -52,7 +52,8 @@ fn list_whole(buffer: &[u8], n: usize, page: &mut Page)
     requires prefix_len { IsPrefixLen n buffer.now }
     requires most_read_in_bounds { most_read ≤ length buffer.now }
     requires empty { page.old ≡ page_at (replicate most_printed 0) 0 }
-    ensures in_bounds { page.new.at ≤ length page.new.bytes }
+    ensures in_bounds { page.new.at ≤ most_printed }
+    ensures prefix_len_2 { IsPrefixLen page.new.at page.new.bytes }
     ensures by_index { (input : List ℕ) → ReadOf input buffer.now n → take page.new.at page.new.bytes ≡ printed input }
 {
     list_input(&buffer[..n], page);
@@ -101,13 +102,7 @@ fn list_words(words: &[u32], text: &[u8], page: &mut Page)
 }
 
 // The same with room for the log.
-fn list_lowered(
-    words: &[u32],
-    text: &[u8],
-    out: &mut [u32],
-    bytes: &mut [u8],
-    page: &mut Page,
-)
+fn list_lowered(words: &[u32], text: &[u8], out: &mut [u32], bytes: &mut [u8], page: &mut Page)
     requires out_len { length out.old ≡ out_length }
     requires bytes_len { length bytes.old ≡ bytes_length }
     ensures { Puts (listed words.now text.now) page.old page.new }

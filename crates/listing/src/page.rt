@@ -1,5 +1,5 @@
 // The page that is printed: texts, numbers and spans put on it, one behind the other. What does not fit is cut at its end.
-ghost use Rattle.std.specs.Prelude.{[], ◌∷◌, ◌≡◌, ◌≤◌, length, take, replicate};
+ghost use Rattle.std.specs.Prelude.{[], ◌∷◌, ◌≡◌, replicate};
 ghost use Rattle.definition_log.specs.machine.Parts.{meant};
 ghost use Rattle.listing.specs.meaning.Listing.{decimal, span_field};
 ghost use Rattle.listing.specs.meaning.Program.{most_printed};
@@ -32,14 +32,6 @@ impl Page {
             bytes: [0; MOST_PAGE],
             at: 0,
         }
-    }
-
-    // What was put on it.
-    pub fn written(&self) -> &[u8]
-        requires { self.now.at ≤ length self.now.bytes }
-        ensures { result.now ≡ take self.now.at self.now.bytes }
-    {
-        &self.bytes[..self.at]
     }
 
     // A byte.

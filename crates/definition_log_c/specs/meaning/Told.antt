@@ -1,6 +1,6 @@
 -- What C is told.
 use Rattle.definition_log.specs.meaning.Answer.{Answered}
-use Rattle.boxes.specs.declared.box_number.BoxRead.{BoxRead}
+use Rattle.boxes.specs.meaning.Box.{BoxRead}
 use Rattle.definition_log_c.specs.declared.DlAnswer.{DlAnswer}
 use Rattle.definition_log_c.specs.declared.DlBox.{DlBox}
 

@@ -1,5 +1,6 @@
 -- What was read gives what the whole input gives (Sizes: first_read), and no text is longer than the page (Enough: printed_most).
-use mathlib.Core.Path.{◌∙◌}
+use lib.Seq.{length-take-le}
+use mathlib.Core.Path.{sym, ◌∙◌}
 use native.Mathlib.Omega.{arith}
 use Prim.Native.Nat.{ℕ}
 use lib.ListN.{take, length-take, replicate, length-replicate}
@@ -15,6 +16,10 @@ slice_bounds-list_input-end c = simp length-take (omega arith)
 pub returns : goal.returns
 returns c = let a = c.args in
     let w = filled_whole (replicate most_printed 0) (printed (take a.n a.buffer.now)) _
-        (puts_filled (rw c.requires.empty at c.list_input.ensures))
-        (omega (arith, printed_most (take a.n a.buffer.now), length-replicate {A = ℕ} most_printed 0)) in
-    record { in_bounds = w.0; by_index = λ input r. w.1 ∙ first_read input a.buffer.now a.n (omega arith) (omega arith) r }
+    (puts_filled (rw c.requires.empty at c.list_input.ensures))
+    (omega (arith, printed_most (take a.n a.buffer.now), length-replicate {A = ℕ} most_printed 0)) in
+    record {
+      in_bounds = omega (arith, w.0, length-replicate {A = ℕ} most_printed 0);
+      prefix_len_2 = (w.1, sym (length-take-le _ _ w.1));
+      by_index = λ input r. w.2 ∙ first_read input a.buffer.now a.n (omega arith) (omega arith) r;
+    }

@@ -1,6 +1,6 @@
-use mathlib.Core.Path.{refl, ap, ◌∙◌}
+use mathlib.Core.Path.{refl, ap}
 use Rattle.definition_log.specs.meaning.Record.{first_text}
-use Rattle.definition_log.specs.meaning.ReadBack.{chain_of, read_labels}
+use Rattle.definition_log.specs.meaning.ReadBack.{read_labels}
 use Rattle.listing.specs.meaning.Listing.{label_line}
 use Rattle.listing.proofs.Pages.{puts_same}
 use Rattle.listing.proofs.Walks.{lines_next, lines_end, lines_of}

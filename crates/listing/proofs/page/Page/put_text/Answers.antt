@@ -1,7 +1,3 @@
-use mathlib.Core.Path.{refl}
-use lib.Seq.{drop-cons}
-use lib.ListN.{drop_of_length-le}
-use native.Mathlib.Numerals.{add-one}
 use Rattle.listing.proofs.Pages.{put_left, put_all}
 use Rattle.listing.proofs.page.Page.put_text.Goals as goal
 
