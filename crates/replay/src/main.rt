@@ -11,6 +11,8 @@ mod records;
 mod replayed;
 mod tally;
 
+ghost use Rattle.std.specs.Prelude.{◌≡◌, length};
+
 use full_reads::read_full;
 use recorded::Sample;
 use replayed::replay_case;
@@ -28,10 +30,17 @@ const BYTES: usize = 65536;
 const ANSWERS: usize = 1024;
 
 fn main(rt: HostRuntime) -> io::Result<()> {
-    let mut sample = [0; SAMPLE];
+    let mut sample = sample_buffer();
     let mut file = fs::open(&rt, "answers.bin")?;
     let n = read_full(&mut file, &mut sample)?;
     replay(&rt, &sample[..n])
+}
+
+// Room for the sample, as a function: where the file is read, the check would count the bytes one by one.
+fn sample_buffer() -> [u8; SAMPLE]
+    ensures { 524288 ≡ length result }
+{
+    [0; SAMPLE]
 }
 
 // Replays a sample: its first number says how many cases it has.
@@ -46,6 +55,7 @@ fn replay<'a, R: Print>(rt: &'a R, sample: &'a [u8]) -> io::Result<()> {
         t.next_case();
         replay_case(&mut input, &mut out, &mut bytes, &mut list, &mut t)?;
     }
-    t.noted(t.sample.is_at_end(), "end of the sample")?;
+    let ended = t.sample.is_at_end();
+    t.noted(ended, "end of the sample")?;
     t.print_total(cases)
 }

@@ -2,5 +2,5 @@
 use Rattle.std.proofs.Common.{length, ◌≤◌, ◌≡◌}
 use Rattle.replay.proofs.recorded.Sample.numbers.Given as goal
 
-abbrev pub invariant-loop-number : goal.invariant-loop-number
-invariant-loop-number l = (l.n ≤ length l.words) × (length l.words ≡ length l.initial.words)
+abbrev pub invariant-loop : goal.invariant-loop
+invariant-loop l = (l.n ≤ length l.words) × (length l.words ≡ length l.initial.words)
