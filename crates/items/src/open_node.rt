@@ -20,7 +20,7 @@ use input::kinds::{LABEL, OMIT};
 use input::linked::Input;
 use input::name::{FullName, name_text, unit_text};
 use input::phandle::phandle_path_at;
-use input::record::{child_at, kind_at, next_at, no_text, span_at, text_at};
+use input::record::{child_at, kind_at, no_text, span_at, text_at};
 use making::ctx::LowerCtx;
 use making::place::{PathAt, first_place, second_place};
 use making::recs::DefKind;
@@ -166,12 +166,10 @@ pub fn collect_labels(
         (λ (p : List ℕ). labels_of p (chain_at input.entry.words.now input.entry.text.now parts)) }
 {
     let mut state = ctx;
-    let mut r = parts;
-    while r != 0 {
+    for r in input.chain(parts) {
         if kind_at(input.words, r) == LABEL {
             state = lower_label(input, r, place, out, bytes, state);
         }
-        r = next_at(input.words, r);
     }
     state
 }
