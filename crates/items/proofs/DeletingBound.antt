@@ -17,7 +17,7 @@ use Rattle.making.specs.declared.recs.DefKind.TheVariants as D
 use Rattle.making.specs.machine.Recs.{bare_def}
 use Rattle.definition_log.specs.machine.Parts.{meant}
 use Rattle.definition_log.specs.meaning.Contents.{Def, deleted_node, Binding, Span}
-use Rattle.definition_log.specs.meaning.Record.{one_of, next_of, first_text, second_text, log_count}
+use Rattle.definition_log.specs.meaning.Record.{one_of, next_of, second_text, log_count}
 use Rattle.definition_log.specs.meaning.ReadBack.{chain_from, chain_of, binding_at, read_bindings}
 use Rattle.making.specs.machine.PathPlaces.{path_in, placed_in}
 use Rattle.making.specs.meaning.State.{State, define}

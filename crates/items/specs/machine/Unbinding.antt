@@ -7,7 +7,7 @@ use Rattle.paths_numbers.specs.meaning.Path.{joined}
 use Rattle.making.specs.declared.ctx.LowerCtx.{LowerCtx}
 use Rattle.making.specs.declared.place.PathAt.{PathAt}
 use Rattle.definition_log.specs.meaning.Contents.{Binding}
-use Rattle.definition_log.specs.meaning.Record.{one_of, first_text, second_text, log_count}
+use Rattle.definition_log.specs.meaning.Record.{one_of, second_text, log_count}
 use Rattle.definition_log.specs.meaning.ReadBack.{chain_from, chain_of, binding_at, read_defs}
 use Rattle.making.specs.machine.PathPlaces.{path_in}
 use Rattle.making.specs.meaning.State.{State}
