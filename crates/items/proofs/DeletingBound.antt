@@ -17,7 +17,7 @@ use Rattle.making.specs.declared.recs.DefKind.TheVariants as D
 use Rattle.making.specs.machine.Recs.{bare_def}
 use Rattle.definition_log.specs.machine.Parts.{meant}
 use Rattle.definition_log.specs.meaning.Contents.{Def, deleted_node, Binding, Span}
-use Rattle.definition_log.specs.meaning.Record.{one_of, next_of, first_text, second_text, log_count}
+use Rattle.definition_log.specs.meaning.Record.{one_of, next_of, second_text, log_count}
 use Rattle.definition_log.specs.meaning.ReadBack.{chain_from, chain_of, binding_at, read_bindings}
 use Rattle.making.specs.machine.PathPlaces.{path_in, placed_in}
 use Rattle.making.specs.meaning.State.{State, define}
@@ -26,20 +26,22 @@ use Rattle.making.specs.machine.Represents.{Context, Represents, Steps, Unlinks}
 use Rattle.making.proofs.InHand.{represents_defs, represents_bindings, binding_path}
 use Rattle.paths_numbers.specs.meaning.Lists.{any}
 use Rattle.queries.specs.meaning.Live.{live}
-use Rattle.queries.specs.machine.Pass.{goes_on}
-use Rattle.queries.proofs.Chain.{goes, stops, goes_left}
+use Rattle.std.specs.Prelude.{Option as Maybe, Some, None, MatchOption}
+use Rattle.definition_log.specs.machine.ChainLeft.{Stopped, Stepped}
+use Rattle.definition_log.specs.declared.chain.Walk.{Walk as Cursor}
+use Rattle.definition_log.proofs.ChainLeft.{goes, goes_left}
 use Rattle.resolving.specs.meaning.Resolve.{first_binding}
 use Rattle.items.specs.meaning.Unbind.{binds_label_of, without, unbind}
 use Rattle.items.specs.meaning.Lower.{bare, delete_node}
 use Rattle.resolving.specs.machine.Leading.{has_text, FirstAt}
-use Rattle.items.specs.machine.Unbinding.{base_of, goes_with, passes_at, with_binds, passed, ahead, BaseAt, at_bound, at_below, Stays}
-use Rattle.items.specs.machine.Unbinding.{Walk, Unbinds, bound_base, bound_path, FirstOfLabel, UnbindsOthers, UnlinksFirst}
+use Rattle.items.specs.machine.Unbinding.{base_of, goes_with, stop_of, with_binds, passed, ahead, BaseAt, at_bound, at_below, Stays}
+use Rattle.items.specs.machine.Unbinding.{Walk, Unbinds, bound_base, bound_path, FirstOfLabel, UnbindsOthers, UnbindsBehind, UnlinksFirst}
 use Rattle.items.specs.machine.Deleting.{DeletesBound, DefinesBound}
 use Rattle.items.specs.declared.unbind.Base.{Base}
 use Rattle.items.specs.declared.unbind.Unbound.{Unbound}
 use Rattle.resolving.proofs.Lowers.{stays_over}
 use Rattle.resolving.proofs.Leading.{last_snoc, label_missing, label_there}
-use Rattle.items.proofs.Unbinding.{member_behind, removed_at, walk_start, walk_ended, todo_is, without_append}
+use Rattle.items.proofs.Unbinding.{member_behind, removed_at, walk_start, walk_here, walk_ended, nothing_left, to_the_end, todo_is, without_append}
 
 -- whether a binding has a label
 abbrev named : List ℕ → Binding → Bool
@@ -198,9 +200,9 @@ module _ {l : List ℕ} {number previous : ℕ} {c : LowerCtx} {words bytes : Li
       }
 
 -- the base by a binding of the log
-base_by : (below : Bool) {k : Context} {w b name unit : List ℕ} {stops : Bool} {label ns ms : List ℕ} (r : ℕ) (p : List ℕ)
+base_by : (below : Bool) {k : Context} {w b name unit : List ℕ} {until : Maybe (List ℕ)} {ns ms : List ℕ} (r : ℕ) (p : List ℕ)
     → p ≡ bound_path below (second_text w b r) name unit
-    → Stays w b stops label r ns ms → BaseAt k w b name unit stops label ns ms p (bound_base below r)
+    → Stays w b until r ns ms → BaseAt k w b name unit until ns ms p (bound_base below r)
 base_by true r p e m = at_below r m e
 base_by false r p e m = at_bound r m e
 
@@ -209,9 +211,9 @@ unfolding one_of
 member_here r xs ys = member_behind r xs (r ∷ ys) (rw (eq-eqb r r refl) refl)
 
 -- all others taken out: first those before it, then those behind it
-module _ (below : Bool) {name unit l : List ℕ} {number before : ℕ} {c : LowerCtx} {words bytes w b : List ℕ} {most : ℕ} {up : Unbound}
-    (at : FirstAt words bytes c.binds.first l number before) (q : most ≡ log_count words)
-    (one : Unbinds (bound_base below number) name unit true l c words bytes w b 0 c.binds.first most up)
+module _ (below : Bool) {name unit l : List ℕ} {number before : ℕ} {c : LowerCtx} {words bytes w b : List ℕ} {from : Cursor} {up : Unbound}
+    (at : FirstAt words bytes c.binds.first l number before) (q : from ≡ record { next = c.binds.first; left = log_count words })
+    (one : Unbinds (bound_base below number) name unit (Some l) c words bytes w b 0 from up)
     {k : Context} {s : State} {xs : List Binding} {x : Binding} {ys : List Binding} (h : Represents k c words bytes s)
     (n : c.short ≡ false) (g : FirstOfLabel l s xs x ys)
   where
@@ -227,120 +229,114 @@ module _ (below : Bool) {name unit l : List ℕ} {number before : ℕ} {c : Lowe
         ∙ ap (first_binding l) (sym (represents_bindings h n)) ∙ label_there words bytes l at in
         cc
 
-    walked : Walk (bound_base below number) name unit true l k s [] p up.ctx w b up.previous up.next up.left
+    walked : Walk (bound_base below number) name unit (Some l) k s [] p up.ctx w b up.previous one.last.next one.last.left
+    unfolding binding_at
     walked =
         one.walks k s [] p
         (walk_start h n q
         (base_by below number p (ap (λ (v : List ℕ). bound_path below v name unit) path_of_lem)
-        (ahead (rw at.chain (member_here number at.before at.after)) refl (rw at.has (same_refl l)))))
+        (ahead (rw at.chain (member_here number at.before at.after)) (rw at.has (same_refl l)))))
 
     -- the walk stops at it
-    still_on : goes_on w up.next up.left ≡ true
-    still_on =
-        by_test (goes_on w up.next up.left)
-        (λ t. t)
-        (λ t.
-        let none_left : walked.todo ≡ [] = sym (todo_is walked) ∙ ap (map (binding_at w b)) (stops w up.next up.left t) in
-        let all : s.binds ≡ walked.done = walked.split ∙ rw (none_left, append-nil) refl in
+    pub never_ends : Stopped w one.last up.rest → ⊥
+    never_ends t =
+        let all : s.binds ≡ walked.done = walked.split ∙ rw (nothing_left walked t, append-nil) refl in
         let e : some x.path ≡ none = sym (first_some g) ∙ ap (first_binding l) all
-        ∙ none_named l walked.done (walked.unlabelled refl) in
+        ∙ none_named l walked.done walked.unlabelled in
         let z : ◌≡◌ {A = ℕ} 0 1 = cc in
-        absurd (omega arith))
+        omega arith
 
-    pub some_left : up.left ≡ 0 → ⊥
-    some_left z = let i = goes_left w up.next up.left still_on in omega arith
+    module _ {r : ℕ} (step : Stepped w one.last up.rest r) (stopped : stop_of (Some l) (binding_at w b r) ≡ true) where
+      abbrev later : List ℕ
+      later = chain_from (one.last.left - 1) w (next_of w r)
 
-    abbrev later : List ℕ
-    later = chain_from (up.left - 1) w (next_of w up.next)
+      abbrev u : Binding
+      u = binding_at w b r
 
-    abbrev u : Binding
-    u = binding_at w b up.next
+      abbrev vs : List Binding
+      vs = map (binding_at w b) later
 
-    abbrev vs : List Binding
-    vs = map (binding_at w b) later
+      at_it : Walk (bound_base below number) name unit (Some l) k s [] p up.ctx w b up.previous r one.last.left
+      at_it = walk_here step walked
 
-    here : chain_from up.left w up.next ≡ up.next ∷ later
-    here = goes w up.next up.left still_on
+      here : chain_from one.last.left w r ≡ r ∷ later
+      here = goes w r one.last.left step.going
 
-    todo_there : walked.todo ≡ u ∷ vs
-    todo_there = sym (todo_is walked) ∙ ap (map (binding_at w b)) here
+      todo_there : at_it.todo ≡ u ∷ vs
+      todo_there = sym (todo_is at_it) ∙ ap (map (binding_at w b)) here
 
-    labelled_here : same (first_text w b up.next) l ≡ true
-    unfolding passes_at
-    labelled_here =
-        by_test (same (first_text w b up.next) l) (λ t. t) (λ t. absurd (not_both refl (rw (still_on, t) at one.ends)))
+      split_there : s.binds ≡ at_it.done ++ u ∷ vs
+      split_there = at_it.split ∙ rw todo_there refl
 
-    split_there : s.binds ≡ walked.done ++ u ∷ vs
-    split_there = walked.split ∙ rw todo_there refl
+      same_first : Same xs at_it.done x u ys vs
+      same_first = one_first l xs x ys at_it.done u vs (sym g.binds ∙ split_there) g.others g.labelled at_it.unlabelled stopped
 
-    same_first : Same xs walked.done x u ys vs
-    unfolding binding_at
-    same_first = one_first l xs x ys walked.done u vs (sym g.binds ∙ split_there) g.others g.labelled (walked.unlabelled refl)
-        labelled_here
+      abbrev front : List Binding
+      front = without ds at_it.done ++ u ∷ []
 
-    abbrev front : List Binding
-    front = without ds walked.done ++ u ∷ []
+      -- so far
+      abbrev s₁ : State
+      s₁ = with_binds s (front ++ vs)
 
-    -- so far
-    abbrev s₁ : State
-    s₁ = with_binds s (front ++ vs)
+      so_far : Represents k up.ctx w b s₁
+      so_far = subst (λ (v : List Binding). Represents k up.ctx w b (with_binds s v)) (rw (todo_there, append_snoc) refl) at_it.now
 
-    so_far : Represents k up.ctx w b s₁
-    so_far = subst (λ (v : List Binding). Represents k up.ctx w b (with_binds s v)) (rw (todo_there, append_snoc) refl) walked.now
+      behind_start : Walk (bound_base below r) name unit None k s₁ front p up.ctx w b r up.rest.next up.rest.left
+      unfolding without any binding_at
+      behind_start =
+          subst (λ (i : ℕ). Walk (bound_base below r) name unit None k s₁ front p up.ctx w b r i up.rest.left) (sym step.next)
+          (subst (λ (i : ℕ). Walk (bound_base below r) name unit None k s₁ front p up.ctx w b r (next_of w r) i) (sym step.left)
+          (record {
+            done = [];
+            todo = vs;
+            ns = at_it.ns ++ r ∷ [];
+            going = at_it.going;
+            split = refl;
+            now = rw append-nil so_far;
+            chain = at_it.chain ∙ rw (here, append_snoc) refl;
+            sized = rw append-nil (length-append at_it.ns (r ∷ []) ∙ ap (λ (i : ℕ). i + 1) at_it.sized
+                ∙ sym (length-append (without ds at_it.done) (u ∷ [])));
+            last_is = sym (last_snoc at_it.ns r);
+            room = omega (arith, goes_left w r one.last.left step.going, length-append at_it.ns (r ∷ []), at_it.room);
+            at = base_by below r p (ap (λ (v : Binding). bound_path below v.path name unit) same_first.firsts)
+                (passed (member_here r at_it.ns []));
+            unlabelled = refl;
+          }))
 
-    behind_start : (next : ℕ) → next ≡ next_of w up.next → Walk (bound_base below up.next) name unit false l k s₁ front p up.ctx w b
-        up.next next (up.left - 1)
-    unfolding without binding_at
-    behind_start next e =
-        rw e
-        (record {
-          done = [];
-          todo = vs;
-          ns = walked.ns ++ up.next ∷ [];
-          going = walked.going;
-          split = refl;
-          now = rw append-nil so_far;
-          chain = walked.chain ∙ rw (here, append_snoc) refl;
-          sized = rw append-nil (length-append walked.ns (up.next ∷ []) ∙ ap (λ (i : ℕ). i + 1) walked.sized
-              ∙ sym (length-append (without ds walked.done) (u ∷ [])));
-          last_is = sym (last_snoc walked.ns up.next);
-          room = omega (arith, goes_left w up.next up.left still_on, length-append walked.ns (up.next ∷ []), walked.room);
-          at = base_by below up.next p (ap (λ (v : Binding). bound_path below v.path name unit) same_first.firsts)
-              (passed (member_here up.next walked.ns []));
-          unlabelled = λ t. absurd (not_both t refl);
-        })
-
-    pub others_gone : {next : ℕ} {v t : List ℕ} {behind : Unbound} → next ≡ next_of w up.next
-        → Unbinds (bound_base below up.next) name unit false l up.ctx w b v t up.next next (up.left - 1) behind
-        → Represents k behind.ctx v t (with_binds s (without ds xs ++ x ∷ without ds ys)) × (behind.ctx.short ≡ false)
-    others_gone {next} {v} {t} {behind} e two =
-        let o = two.walks k s₁ front p (behind_start next e) in
-        let r = walk_ended o two.ends vs refl in
-        let i : front ++ without ds vs ≡ without ds xs ++ x ∷ without ds ys = append_snoc (without ds walked.done) u (without ds vs)
-        ∙ sym (parts ds same_first.fronts same_first.firsts same_first.rests) in
-        (subst (λ (j : List Binding). Represents k behind.ctx v t (with_binds s j)) i r, o.going)
+      pub others_gone : {v t : List ℕ} {behind : Unbound}
+          → Unbinds (bound_base below r) name unit None up.ctx w b v t r up.rest behind
+          → Represents k behind.ctx v t (with_binds s (without ds xs ++ x ∷ without ds ys)) × (behind.ctx.short ≡ false)
+      others_gone {v} {t} {behind} two =
+          let o = two.walks k s₁ front p behind_start in
+          let i : front ++ without ds vs ≡ without ds xs ++ x ∷ without ds ys = append_snoc (without ds at_it.done) u (without ds vs)
+          ∙ sym (parts ds same_first.fronts same_first.firsts same_first.rests) in (
+            subst (λ (j : List Binding). Represents k behind.ctx v t (with_binds s j)) i
+                (walk_ended o (to_the_end two) vs refl),
+            o.going,
+          )
 
 -- so in any state
-module _ (below : Bool) {name unit l : List ℕ} {number before : ℕ} {c : LowerCtx} {words bytes w b : List ℕ} {most : ℕ} {up : Unbound}
-    {base : Base} (at : FirstAt words bytes c.binds.first l number before) (q : most ≡ log_count words)
-    (i : base ≡ bound_base below number) (one : Unbinds base name unit true l c words bytes w b 0 c.binds.first most up)
+pub others_all : (below : Bool) {name unit l : List ℕ} {number before : ℕ} {c d : LowerCtx} {words bytes w b v t : List ℕ} {from : Cursor}
+    (up : Unbound) {base : Base} → FirstAt words bytes c.binds.first l number before
+    → from ≡ record { next = c.binds.first; left = log_count words } → base ≡ bound_base below number
+    → Unbinds base name unit (Some l) c words bytes w b 0 from up → UnbindsBehind below name unit up d w b v t
+    → UnbindsOthers below name unit l c d words bytes v t
+others_all below {name} {unit} {l} {number} {c = c} {d} {words} {bytes} {w} {b} {v} {t} {from} up at q i one two =
+    record { unbinds = λ k s xs x ys h n g. by_here k s xs x ys h n g up.here refl up_to.ends }
   where
-    up_to : Unbinds (bound_base below number) name unit true l c words bytes w b 0 c.binds.first most up
-    up_to = subst (λ (v : Base). Unbinds v name unit true l c words bytes w b 0 c.binds.first most up) i one
+    up_to : Unbinds (bound_base below number) name unit (Some l) c words bytes w b 0 from up
+    up_to = subst (λ (z : Base). Unbinds z name unit (Some l) c words bytes w b 0 from up) i one
 
-    pub others_none : up.left ≡ 0 → UnbindsOthers below name unit l c up.ctx words bytes w b
-    others_none e = record { unbinds = λ k s xs x ys h n g. absurd (some_left below at q up_to h n g e) }
-
-    pub others_all : {next : ℕ} {v t : List ℕ} {behind : Unbound} {base₁ : Base} → next ≡ next_of w up.next
-        → base₁ ≡ bound_base below up.next
-        → Unbinds base₁ name unit false l up.ctx w b v t up.next next (up.left - 1) behind
-        → UnbindsOthers below name unit l c behind.ctx words bytes v t
-    others_all {next} {v} {t} {behind} e j two =
-        record {
-          unbinds = λ k s xs x ys h n g.
-              others_gone below at q up_to h n g e
-              (subst (λ (z : Base). Unbinds z name unit false l up.ctx w b v t up.next next (up.left - 1) behind) j two);
-        }
+    by_here : (k : Context) (s : State) (xs : List Binding) (x : Binding) (ys : List Binding) → Represents k c words bytes s
+        → c.short ≡ false → FirstOfLabel l s xs x ys → (here : Maybe ℕ) → up.here ≡ here
+        → MatchOption here (Stopped w up_to.last up.rest)
+        (λ r. Stepped w up_to.last up.rest r × (stop_of (Some l) (binding_at w b r) ≡ true))
+        → Represents k d v t (with_binds s (without (live (bound_path below x.path name unit) s.defs) xs ++ x
+        ∷ without (live (bound_path below x.path name unit) s.defs) ys)) × (d.short ≡ false)
+    by_here k s xs x ys h n g None e m = absurd (never_ends below at q up_to h n g m)
+    by_here k s xs x ys h n g (Some r) e m =
+        let y = two.some_here r e in
+        rw y.2 (others_gone below at q up_to h n g m.0 m.1 y.1)
 
 -- what goes leaves no others with the label
 without_named : (l : List ℕ) (ds : List Def) (xs : List Binding) → any (named l) xs ≡ false → any (named l) (without ds xs) ≡ false

@@ -1,13 +1,12 @@
 -- Directives: what names report, deletions by reference, and a directive by its W.
 use Prim.Native.Nat.{ℕ, ◌≤◌}
-use mathlib.Core.Path.{◌≡◌, refl, sym, ap, ◌∙◌}
+use mathlib.Core.Path.{◌≡◌, refl, sym, ap, subst, ◌∙◌}
 use mathlib.Core.Bool.{true, false}
-use mathlib.Core.Logic.{◌⊎◌, inl, inr}
 use mathlib.Core.List.{List, [], ◌∷◌}
 use mathlib.Core.Option.{Option, some, none}
 use native.Mathlib.Omega.{arith}
 use borrow.Author.Tests.{ne_eqb}
-use Rattle.std.specs.Prelude.{Result}
+use Rattle.std.specs.Prelude.{Result, Ok, Err}
 use Rattle.paths_numbers.specs.meaning.Path.{joined}
 use Rattle.paths_numbers.specs.meaning.Reference.{Target}
 use Rattle.paths_numbers.proofs.Texts.{not_both}
@@ -45,8 +44,10 @@ use Rattle.items.specs.machine.Deleting.{DeletesAt, DeletesThere, DeletesBound}
 use Rattle.input.specs.declared.name.FullName.{FullName}
 use Rattle.input.specs.declared.report.Report.{Report}
 use Rattle.paths_numbers.specs.declared.phandle.MirPhandleTarget.{MirPhandleTarget}
-use Rattle.resolving.specs.declared.resolve.Resolved.{Resolved}
-use Rattle.resolving.specs.declared.resolve.Resolved.TheVariants as R
+use Rattle.resolving.specs.declared.resolve.Leads.{Leads as Led}
+use Rattle.resolving.specs.declared.resolve.Leads.TheVariants as R
+use Rattle.resolving.specs.declared.resolve.Missing.{Missing}
+use Rattle.resolving.specs.declared.resolve.Missing.TheVariants as M
 use Rattle.input.proofs.Read.{optional_none, optional_some, first_missing, first_there}
 use Rattle.input.proofs.NameRead.{full_joined}
 use Rattle.resolving.proofs.Lowers.{Grows, define_grows, emit_grows, steps_lower}
@@ -84,7 +85,7 @@ module _ {parent : PathAt} {c : LowerCtx} {out bytes : List ℕ} (words text : L
 abbrev pub Deletes : Target → Tree → Span → LowerCtx → LowerCtx → List ℕ → List ℕ → List ℕ → List ℕ → Type 0
 Deletes t rec span c d out bytes w b = Lowers c d out bytes w b (λ s. delete_resolved rec span (resolve t s.binds s.defs) s)
 
-module _ (t : Target) (rec : Tree) (span : Span) (c : LowerCtx) {out bytes l p : List ℕ} {v : Resolved} (n : c.short ≡ false)
+module _ (t : Target) (rec : Tree) (span : Span) (c : LowerCtx) {out bytes l p : List ℕ} {v : Result Led Missing} (n : c.short ≡ false)
     (e : resolution out bytes l p v ≡ resolve t (read_bindings out bytes c.binds.first) (read_defs out bytes c.defs.first))
     (i : Leads out bytes c.binds.first c.defs.first l p v)
   where
@@ -98,7 +99,7 @@ module _ (t : Target) (rec : Tree) (span : Span) (c : LowerCtx) {out bytes l p :
         → first_binding l s.binds ≡ some (second_text out bytes r)
     first_in h r q = ap (first_binding l) (sym (represents_bindings h n)) ∙ i.first r q
 
-    pub target_bound : {d : LowerCtx} {w b : List ℕ} (r : ℕ) → v ≡ R.Bound r → DeletesBound false l p span c d out bytes w b
+    pub target_bound : {d : LowerCtx} {w b : List ℕ} (r : ℕ) → v ≡ Ok (R.Bound r) → DeletesBound false l p span c d out bytes w b
         → Deletes t rec span c d out bytes w b
     unfolding resolution
     target_bound r q x =
@@ -107,7 +108,7 @@ module _ (t : Target) (rec : Tree) (span : Span) (c : LowerCtx) {out bytes l p :
               rw (resolved h ∙ ap (resolution out bytes l p) q) (x.deletes k s (second_text out bytes r) h n (first_in h r (ap bound_by q)));
         }
 
-    pub target_below_lem : {d : LowerCtx} {w b : List ℕ} (r : ℕ) → v ≡ R.BoundPath r → DeletesBound true l p span c d out bytes w b
+    pub target_below_lem : {d : LowerCtx} {w b : List ℕ} (r : ℕ) → v ≡ Ok (R.BoundPath r) → DeletesBound true l p span c d out bytes w b
         → Deletes t rec span c d out bytes w b
     unfolding resolution
     target_below_lem r q x =
@@ -116,7 +117,7 @@ module _ (t : Target) (rec : Tree) (span : Span) (c : LowerCtx) {out bytes l p :
               rw (resolved h ∙ ap (resolution out bytes l p) q) (x.deletes k s (second_text out bytes r) h n (first_in h r (ap bound_by q)));
         }
 
-    pub target_at_lem : {d : LowerCtx} {w b : List ℕ} → v ≡ R.AtPath → DeletesAt p span c d out bytes w b → Deletes t rec span c d out bytes w b
+    pub target_at_lem : {d : LowerCtx} {w b : List ℕ} → v ≡ Ok R.AtPath → DeletesAt p span c d out bytes w b → Deletes t rec span c d out bytes w b
     unfolding resolution
     target_at_lem q x =
         record {
@@ -125,25 +126,27 @@ module _ (t : Target) (rec : Tree) (span : Span) (c : LowerCtx) {out bytes l p :
               (x.deletes k s h n (ap (contains_node p) (sym (represents_defs h n)) ∙ i.alive q));
         }
 
-    pub target_there : {d : LowerCtx} {w b : List ℕ} (r : ℕ) → v ≡ R.Node r → DeletesThere r span c d out bytes w b
+    pub target_there : {d : LowerCtx} {w b : List ℕ} (r : ℕ) → v ≡ Ok (R.Node r) → DeletesThere r span c d out bytes w b
         → Deletes t rec span c d out bytes w b
     unfolding resolution
     target_there r q x =
         record { lowers = λ k s h. rw (resolved h ∙ ap (resolution out bytes l p) q) (x.deletes k s h n (i.named r q)) }
 
-    target_missing : {d : LowerCtx} {w b : List ℕ} (code : ℕ) (text : List ℕ) → resolution out bytes l p v ≡ missing code text → {at : Span}
-        → at ≡ span_of rec → ReportsMissing v l p at c d out bytes w b → Deletes t rec span c d out bytes w b
-    target_missing code text q m x =
-        record { lowers = λ k s h. rw (resolved h ∙ q, ← m) (x.reports k s code text h n i q) }
+    target_missing : {d : LowerCtx} {w b : List ℕ} (m : Missing) (code : ℕ) (text : List ℕ) → v ≡ Err m
+        → resolution out bytes l p (Err m) ≡ missing code text → {at : Span}
+        → at ≡ span_of rec → ReportsMissing m l p at c d out bytes w b → Deletes t rec span c d out bytes w b
+    target_missing m code text f q e x =
+        let there : Leads out bytes c.binds.first c.defs.first l p (Err m) =
+        subst (λ (y : Result Led Missing). Leads out bytes c.binds.first c.defs.first l p y) f i in
+        record { lowers = λ k s h. rw (resolved h ∙ ap (resolution out bytes l p) f ∙ q, ← e) (x.reports k s code text h n there q) }
 
-    pub target_nowhere : {d : LowerCtx} {w b : List ℕ} {at : Span} → at ≡ span_of rec → ReportsMissing v l p at c d out bytes w b
-        → (v ≡ R.NoLabel) ⊎ (((code : ℕ) × (v ≡ R.NoNode code)) ⊎ ((code : ℕ) × (r : ℕ) × (v ≡ R.NoNodeBelow code r)))
-        → Deletes t rec span c d out bytes w b
+    pub target_nowhere : {d : LowerCtx} {w b : List ℕ} {at : Span} (m : Missing) → v ≡ Err m → at ≡ span_of rec
+        → ReportsMissing m l p at c d out bytes w b → Deletes t rec span c d out bytes w b
     unfolding resolution
-    target_nowhere m x (inl q) = target_missing 3 l (ap (resolution out bytes l p) q) m x
-    target_nowhere m x (inr (inl (code, q))) = target_missing code p (ap (resolution out bytes l p) q) m x
-    target_nowhere m x (inr (inr (code, r, q))) =
-        target_missing code (joined (second_text out bytes r) p []) (ap (resolution out bytes l p) q) m x
+    target_nowhere M.NoLabel q e x = target_missing M.NoLabel 3 l q refl e x
+    target_nowhere (M.NoNode code) q e x = target_missing (M.NoNode code) code p q refl e x
+    target_nowhere (M.NoNodeBelow code r) q e x =
+        target_missing (M.NoNodeBelow code r) code (joined (second_text out bytes r) p []) q refl e x
 
 -- counts never fall
 resolved_grows : (rec : Tree) (span : Span) (v : Resolution) (s : State)

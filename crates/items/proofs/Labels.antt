@@ -1,5 +1,5 @@
 -- What one label does, and a chain of parts with labels among them.
-use Prim.Native.Nat.{ℕ, ◌<◌}
+use Prim.Native.Nat.{ℕ}
 use mathlib.Core.Path.{◌≡◌, refl, sym, ap, subst, ◌∙◌}
 use mathlib.Core.List.{List, [], ◌∷◌, append_assoc, append-nil}
 use native.Mathlib.Omega.{arith}
@@ -15,17 +15,18 @@ use Rattle.making.specs.meaning.State.{State, bind, emit}
 use Rattle.making.specs.machine.Adding.{add_part, add_label, in_node}
 use Rattle.making.specs.machine.Recs.{binding_made}
 use Rattle.making.specs.machine.Represents.{Context, with_place, Represents, Steps, StepsIn}
-use Rattle.input.specs.meaning.Tree.{label_kind}
+use Rattle.input.specs.meaning.Tree.{Trees, more, label_kind}
 use Rattle.input.specs.meaning.Report.{Got, Made, nothing, and_then}
 use Rattle.input.specs.meaning.Name.{name_or_macro, labelled, labels_of}
-use Rattle.input.specs.meaning.Input.{record_count, kind_at, next_at, child_at, chain_at}
+use Rattle.input.specs.meaning.Input.{kind_at, child_at, chain_at}
 use Rattle.input.specs.machine.At.{record_at}
 use Rattle.input.specs.machine.Linked.{Linked, At}
 use Rattle.input.specs.machine.NameRead.{name_read}
 use Rattle.input.specs.declared.report.Report.{Report}
 use Rattle.resolving.specs.machine.Lowers.{Lowers}
 use Rattle.items.specs.machine.Labelled.{labelled_by, LabelsAt}
-use Rattle.input.proofs.Input.{chain_none, chain_more}
+use Rattle.input.specs.machine.ChainLeft.{numbers_from, trees_of, AreRecords}
+use Rattle.input.proofs.ChainLeft.{chain_is, are_records}
 use Rattle.resolving.proofs.Lowers.{bind_grows, stays_over}
 use Rattle.items.proofs.Labelled.{labelled_none, labelled_then, labelled_one, labelled_report, labelled_node}
 use Rattle.making.proofs.InHand.{place_reads}
@@ -90,22 +91,16 @@ module _ {place : PathAt} {c d : LowerCtx} {words bytes w b : List ℕ} (input t
       (h ∙ ap (λ (n : ℕ). name_or_macro (chain_at input text n)) e) m
 
 -- the labels of a chain of parts, by its first record
-module _ (words : List ℕ) (l : Linked words) (text : List ℕ) where
-  pub labels_end : (p : List ℕ) → labels_of p (chain_at words text 0) ≡ nothing []
-  unfolding labels_of
-  labels_end p = rw (chain_none words text) refl
+module _ (words text : List ℕ) (r : ℕ) (later : Trees) (p : List ℕ) where
+  pub labels_hit : kind_at words r ≡ label_kind
+      → labels_of p (more (record_at words text r) later) ≡ and_then (labelled p (record_at words text r)
+      (name_or_macro (chain_at words text (child_at words r)))) (labels_of p later)
+  unfolding labels_of record_at
+  labels_hit e = simp (eq-eqb (kind_at words r) label_kind e)
 
-  module _ (r : ℕ) (n : r ≡ 0 → ⊥) (a : r < record_count words) (p : List ℕ) where
-    pub labels_hit : kind_at words r ≡ label_kind
-        → labels_of p (chain_at words text r) ≡ and_then (labelled p (record_at words text r)
-        (name_or_macro (chain_at words text (child_at words r)))) (labels_of p (chain_at words text (next_at words r)))
-    unfolding labels_of record_at
-    labels_hit e = rw (chain_more words l text r n a) (simp (eq-eqb (kind_at words r) label_kind e))
-
-    pub labels_miss : (kind_at words r ≡ label_kind → ⊥) → labels_of p (chain_at words text r) ≡ labels_of p
-        (chain_at words text (next_at words r))
-    unfolding labels_of record_at
-    labels_miss e = rw (chain_more words l text r n a) (simp (ne_eqb (kind_at words r) label_kind e))
+  pub labels_miss : (kind_at words r ≡ label_kind → ⊥) → labels_of p (more (record_at words text r) later) ≡ labels_of p later
+  unfolding labels_of record_at
+  labels_miss e = simp (ne_eqb (kind_at words r) label_kind e)
 
 -- what is done before, one record's, and the rest
 pub made_assoc : (x y z : Made Binding) → and_then (and_then x y) z ≡ and_then x (and_then y z)
@@ -114,47 +109,54 @@ made_assoc x y z = rw (append_assoc x.made y.made z.made, append_assoc x.reports
 pub made_nothing : (x : Made Binding) → and_then x (nothing []) ≡ x
 made_nothing x = rw (append-nil x.made, append-nil x.reports) refl
 
--- the labels of a chain up to record r: what they make, and with the rest's what the whole chain makes
-pub record LabelsTo (place : PathAt) (c d : LowerCtx) (words bytes w b input text : List ℕ) (parts r : ℕ) : Type 0 where
-  pub at : At input r
+-- the labels of the records of a chain that were walked: what they make, and with the rest's what the whole chain makes
+pub record LabelsTo (place : PathAt) (c d : LowerCtx) (words bytes w b input text : List ℕ) (parts : ℕ) (left : List ℕ) : Type 0 where
+  pub at : AreRecords input left
   pub done : List ℕ → Made Binding
   pub labels : LabelsAt place c d words bytes w b done
-  pub whole : (p : List ℕ) → and_then (done p) (labels_of p (chain_at input text r)) ≡ labels_of p (chain_at input text parts)
+  pub whole : (p : List ℕ) → and_then (done p) (labels_of p (trees_of input text left)) ≡ labels_of p (chain_at input text parts)
 
-pub labels_start : {place : PathAt} {c : LowerCtx} {words bytes : List ℕ} (input text : List ℕ) (parts : ℕ) → At input parts
-    → LabelsTo place c c words bytes words bytes input text parts parts
-labels_start input text parts a = record { at = a; done = λ p. nothing []; labels = label_nothing; whole = λ p. refl }
+pub labels_start : {place : PathAt} {c : LowerCtx} {words bytes : List ℕ} (input : List ℕ) → Linked input → (text : List ℕ) (parts : ℕ)
+    → At input parts → LabelsTo place c c words bytes words bytes input text parts (numbers_from input parts)
+labels_start input l text parts a =
+    record {
+      at = are_records input l parts a;
+      done = λ p. nothing [];
+      labels = label_nothing;
+      whole = λ p. ap (labels_of p) (chain_is input l text parts a);
+    }
 
-module _ {place : PathAt} {c d : LowerCtx} {words bytes w b input text : List ℕ} {parts r : ℕ} (l : Linked input)
-    (h : LabelsTo place c d words bytes w b input text parts r) where
-  pub labels_whole : r ≡ 0 → LabelsAt place c d words bytes w b (λ (p : List ℕ). labels_of p (chain_at input text parts))
-  labels_whole e =
+module _ {place : PathAt} {c d : LowerCtx} {words bytes w b input text : List ℕ} {parts : ℕ} where
+  pub labels_whole : LabelsTo place c d words bytes w b input text parts []
+      → LabelsAt place c d words bytes w b (λ (p : List ℕ). labels_of p (chain_at input text parts))
+  unfolding labels_of
+  labels_whole h =
       record {
         labels = λ k p s m n.
             subst (λ (x : Made Binding). Represents (with_place (record { at = place; path = p }) k) d w b (labelled_by x s))
-            (sym (made_nothing (h.done p)) ∙ ap (and_then (h.done p))
-            (sym (labels_end input l text p) ∙ ap (λ (q : ℕ). labels_of p (chain_at input text q)) (sym e)) ∙ h.whole p)
+            (sym (made_nothing (h.done p)) ∙ h.whole p)
             (h.labels.labels k p s m n);
       }
 
-  module _ (n : r ≡ 0 → ⊥) where
-    pub labels_other : (kind_at input r ≡ label_kind → ⊥) → LabelsTo place c d words bytes w b input text parts (next_at input r)
+  module _ {r : ℕ} {later : List ℕ} (h : LabelsTo place c d words bytes w b input text parts (r ∷ later)) where
+    pub labels_other : (kind_at input r ≡ label_kind → ⊥) → LabelsTo place c d words bytes w b input text parts later
     labels_other e =
         record {
-          at = (l.all r (h.at n)).next.within;
+          at = h.at.1;
           done = h.done;
           labels = h.labels;
-          whole = λ p. ap (and_then (h.done p)) (sym (labels_miss input l text r n (h.at n) p e)) ∙ h.whole p;
+          whole = λ p. ap (and_then (h.done p)) (sym (labels_miss input text r (trees_of input text later) p e)) ∙ h.whole p;
         }
 
     pub labels_more : {d₁ : LowerCtx} {v u : List ℕ} → kind_at input r ≡ label_kind
         → LabelsAt place d d₁ w b v u (λ (p : List ℕ). labelled p (record_at input text r)
         (name_or_macro (chain_at input text (child_at input r))))
-        → LabelsTo place c d₁ words bytes v u input text parts (next_at input r)
+        → LabelsTo place c d₁ words bytes v u input text parts later
     labels_more e m =
         record {
-          at = (l.all r (h.at n)).next.within;
+          at = h.at.1;
           done = λ p. and_then (h.done p) (labelled p (record_at input text r) (name_or_macro (chain_at input text (child_at input r))));
           labels = labels_then h.labels m;
-          whole = λ p. made_assoc (h.done p) _ _ ∙ ap (and_then (h.done p)) (sym (labels_hit input l text r n (h.at n) p e)) ∙ h.whole p;
+          whole = λ p. made_assoc (h.done p) _ _
+              ∙ ap (and_then (h.done p)) (sym (labels_hit input text r (trees_of input text later) p e)) ∙ h.whole p;
         }

@@ -4,6 +4,7 @@ pub mod DeletingBound
 pub mod Directives
 pub mod Labelled
 pub mod Labels
+pub mod ChainWalked
 pub mod Short
 pub mod Opened
 pub mod NodePlaced

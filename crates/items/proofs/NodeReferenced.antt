@@ -1,13 +1,13 @@
 -- Where a node goes by its reference: to the path that it leads to, or aside.
 use Prim.Native.Nat.{ℕ}
 use mathlib.Core.Path.{◌≡◌, refl, sym, ap, subst, ◌∙◌}
-use mathlib.Core.Bool.{Bool, true, false}
+use mathlib.Core.Bool.{Bool, false}
 use mathlib.Core.List.{List, []}
 use mathlib.Core.Option.{some, none}
 use native.Mathlib.Omega.{arith}
+use Rattle.std.specs.Prelude.{Result, Ok, Err}
 use Rattle.paths_numbers.specs.meaning.Path.{joined}
 use Rattle.paths_numbers.specs.meaning.Reference.{Target}
-use Rattle.paths_numbers.proofs.Texts.{not_both}
 use Rattle.making.specs.declared.ctx.LowerCtx.{LowerCtx}
 use Rattle.making.specs.declared.place.PathAt.{PathAt}
 use Rattle.definition_log.specs.declared.parts.Span.{Span as SpanRead}
@@ -35,9 +35,11 @@ use Rattle.resolving.specs.machine.Lowers.{Lowers}
 use Rattle.input.specs.machine.PhandleRead.{label_at, path_at}
 use Rattle.resolving.specs.machine.Leading.{resolution, Leads, ReportsMissing}
 use Rattle.items.specs.machine.Opened.{Opens}
-use Rattle.items.specs.machine.NodePlaced.{PlacesIn, DefinesLeading, leads_on}
-use Rattle.resolving.specs.declared.resolve.Resolved.{Resolved}
-use Rattle.resolving.specs.declared.resolve.Resolved.TheVariants as R
+use Rattle.items.specs.machine.NodePlaced.{PlacesIn, DefinesLeading}
+use Rattle.resolving.specs.declared.resolve.Leads.{Leads as Led}
+use Rattle.resolving.specs.declared.resolve.Leads.TheVariants as R
+use Rattle.resolving.specs.declared.resolve.Missing.{Missing}
+use Rattle.resolving.specs.declared.resolve.Missing.TheVariants as M
 use Rattle.items.specs.declared.open_node.Opened.{Opened}
 use Rattle.items.specs.declared.dt_node.NodePlace.TheVariants as N
 use Rattle.items.specs.declared.dt_node.PlacedNode.{PlacedNode}
@@ -58,34 +60,26 @@ never_reached e = let z : ◌≡◌ {A = ℕ} 0 1 = cc in absurd (omega arith)
 
 -- what the search answered
 module _ (words bytes l path : List ℕ) where
-  pub leads_to : (v : Resolved) → leads_on v ≡ true → (p : List ℕ) × (resolution words bytes l path v ≡ reaches p)
+  pub leads_to : (v : Led) → (p : List ℕ) × (resolution words bytes l path (Ok v) ≡ reaches p)
   unfolding resolution
-  leads_to (R.Bound r) e = (second_text words bytes r, refl)
-  leads_to (R.BoundPath r) e = (joined (second_text words bytes r) path [], refl)
-  leads_to R.AtPath e = (path, refl)
-  leads_to (R.Node r) e = (first_text words bytes r, refl)
-  leads_to R.NoLabel e = absurd (not_both e refl)
-  leads_to (R.NoNode code) e = absurd (not_both e refl)
-  leads_to (R.NoNodeBelow code r) e = absurd (not_both e refl)
+  leads_to (R.Bound r) = (second_text words bytes r, refl)
+  leads_to (R.BoundPath r) = (joined (second_text words bytes r) path [], refl)
+  leads_to R.AtPath = (path, refl)
+  leads_to (R.Node r) = (first_text words bytes r, refl)
 
-  pub leads_nowhere : (v : Resolved) → leads_on v ≡ false → (code : ℕ) × (text : List ℕ)
-      × (resolution words bytes l path v ≡ missing code text)
+  pub leads_nowhere : (m : Missing) → (code : ℕ) × (text : List ℕ) × (resolution words bytes l path (Err m) ≡ missing code text)
   unfolding resolution
-  leads_nowhere (R.Bound r) e = absurd (not_both {t = true} refl e)
-  leads_nowhere (R.BoundPath r) e = absurd (not_both {t = true} refl e)
-  leads_nowhere R.AtPath e = absurd (not_both {t = true} refl e)
-  leads_nowhere (R.Node r) e = absurd (not_both {t = true} refl e)
-  leads_nowhere R.NoLabel e = (3, l, refl)
-  leads_nowhere (R.NoNode code) e = (code, path, refl)
-  leads_nowhere (R.NoNodeBelow code r) e = (code, joined (second_text words bytes r) path [], refl)
+  leads_nowhere M.NoLabel = (3, l, refl)
+  leads_nowhere (M.NoNode code) = (code, path, refl)
+  leads_nowhere (M.NoNodeBelow code r) = (code, joined (second_text words bytes r) path [], refl)
 
 -- the definition there
-module _ {c d : LowerCtx} {words bytes w b : List ℕ} {parts : Trees} (v : Resolved) (l path : List ℕ) (kind : DefKind)
+module _ {c d : LowerCtx} {words bytes w b : List ℕ} {parts : Trees} (v : Led) (l path : List ℕ) (kind : DefKind)
     (span name_span : SpanRead) (found : Span) (q : List ℕ) (made : Steps c d words bytes w b (define (bare_def kind span name_span q)))
     (value_is : bare_value kind ≡ node [] (has omit_kind parts)) (span_is : meant span ≡ found)
     (name_span_is : meant name_span ≡ node_name_span parts found) where
   defines_at : ((k : Context) (s : State) (p : List ℕ) → Represents k c words bytes s → c.short ≡ false
-      → Leads words bytes c.binds.first c.defs.first l path v → resolution words bytes l path v ≡ reaches p → q ≡ p)
+      → Leads words bytes c.binds.first c.defs.first l path (Ok v) → resolution words bytes l path (Ok v) ≡ reaches p → q ≡ p)
       → DefinesLeading v l path c d words bytes w b parts found
   defines_at e =
       record {
@@ -119,17 +113,11 @@ module _ {c d : LowerCtx} {words bytes w b : List ℕ} {parts : Trees} (v : Reso
   unfolding resolution
   defines_named n e g =
       defines_at (λ k s p r z i h.
-      let x = i.named n e in
+      let x = i.named n (ap Ok e) in
       g ∙ def_path r z x.before x.after n x.chain ∙ same_path_lem (rw e at h))
 
--- none where it leads nowhere
-pub defines_none : {c d : LowerCtx} {words bytes w b : List ℕ} {parts : Trees} {span : Span} (v : Resolved) (l path : List ℕ)
-    → leads_on v ≡ false → DefinesLeading v l path c d words bytes w b parts span
-defines_none {words = words} {bytes} v l path e =
-    let x = leads_nowhere words bytes l path v e in record { defines = λ k s p r z i h. never_reached (sym x.2 ∙ h) }
-
 -- the node placed
-module _ (c : LowerCtx) (words bytes : List ℕ) (target : Target) (l path : List ℕ) (v : Resolved)
+module _ (c : LowerCtx) (words bytes : List ℕ) (target : Target) (l path : List ℕ) (v : Result Led Missing)
     (bound : Leads words bytes c.binds.first c.defs.first l path v)
     (resolved : resolution words bytes l path v ≡ resolve target (read_bindings words bytes c.binds.first)
     (read_defs words bytes c.defs.first)) where
@@ -141,54 +129,58 @@ module _ (c : LowerCtx) (words bytes : List ℕ) (target : Target) (l path : Lis
       ∙ ap (λ (x : List Def). resolve target s.binds x) (represents_defs r z))
 
   pub place_found : {parent : PathAt} {d : LowerCtx} {w₁ b₁ w b input text : List ℕ} {parts : Trees} {span : Span} {o : Opened} (t : Tree)
-      → leads_on v ≡ true
-      → DefinesLeading v l path c d words bytes w₁ b₁ parts span → Opens d w₁ b₁ w b parts o
+      (to : Led) → v ≡ Ok to
+      → DefinesLeading to l path c d words bytes w₁ b₁ parts span → Opens d w₁ b₁ w b parts o
       → PlacesIn parent c words bytes w b input text parts span
       (λ p s. by_resolution t target s.defs (resolve target s.binds s.defs)) (record { node = N.At o.place; ctx = o.ctx })
-  place_found {parent} {w = w} {b} {parts = parts} {span} {o} t on de op =
-      let x = leads_to words bytes l path v on in
+  place_found {parent} {w = w} {b} {parts = parts} {span} {o} t to on de op =
+      let x = leads_to words bytes l path to in
+      let there : Leads words bytes c.binds.first c.defs.first l path (Ok to) =
+      subst (λ (y : Result Led Missing). Leads words bytes c.binds.first c.defs.first l path y) on bound in
       record {
         places = λ k p s z r.
             let e : by_resolution t target s.defs (resolve target s.binds s.defs) ≡ record { place = at x.0; reports = [] } =
-            rw (in_hand (with_place (record { at = parent; path = p }) k) s r z, x.1) refl in (
+            rw (in_hand (with_place (record { at = parent; path = p }) k) s r z, on, x.1) refl in (
               x.0,
               ap (λ (y : Placed). y.place) e,
               subst (λ (u : State). Represents (with_place (record { at = o.place; path = x.0 })
                   (with_place (record { at = parent; path = p }) k)) o.ctx w b (opened x.0 parts span u))
                   (sym (emit_none s) ∙ ap (λ (y : Placed). emit y.reports s) (sym e))
                   (op.opens (with_place (record { at = parent; path = p }) k) x.0 span s
-                  (de.defines (with_place (record { at = parent; path = p }) k) s x.0 r z bound x.1)),
+                  (de.defines (with_place (record { at = parent; path = p }) k) s x.0 r z there x.1)),
             );
       }
 
 -- or put aside
-pub place_missing : (c : LowerCtx) (words bytes : List ℕ) (v : Resolved) {parent : PathAt} {d : LowerCtx} {w b : List ℕ} {parts : Trees}
+pub place_missing : (c : LowerCtx) (words bytes : List ℕ) (v : Result Led Missing) (m : Missing) {parent : PathAt} {d : LowerCtx} {w b : List ℕ} {parts : Trees}
     {span : Span} {keeps : Bool} (input text : List ℕ) (reference : ℕ)
     (kind : MirPhandleTarget) → Leads words bytes c.binds.first c.defs.first (label_at input text reference) (path_at input text reference)
     v
     → resolution words bytes (label_at input text reference) (path_at input text reference) v ≡ resolve
     (target_made kind (label_at input text reference) (path_at input text reference)) (read_bindings words bytes c.binds.first)
     (read_defs words bytes c.defs.first)
-    → leads_on v ≡ false → keeps ≡ sets_overlay (read_defs words bytes c.defs.first)
-    → ReportsMissing v (label_at input text reference) (path_at input text reference) (span_at input reference) c d words bytes w b
+    → v ≡ Err m → keeps ≡ sets_overlay (read_defs words bytes c.defs.first)
+    → ReportsMissing m (label_at input text reference) (path_at input text reference) (span_at input reference) c d words bytes w b
     → PlacesIn parent c words bytes w b input text parts span
     (λ p s. by_resolution (record_at input text reference) (target_made kind (label_at input text reference) (path_at input text reference))
     s.defs (resolve (target_made kind (label_at input text reference) (path_at input text reference)) s.binds s.defs))
     (record { node = N.Aside reference kind keeps; ctx = d })
 unfolding record_at
-place_missing c words bytes v {parent} input text reference kind bound g on keep re =
+place_missing c words bytes v m {parent} input text reference kind bound g on keep re =
     let l = label_at input text reference in
     let path = path_at input text reference in
-    let x = leads_nowhere words bytes l path v on in
+    let x = leads_nowhere words bytes l path m in
+    let there : Leads words bytes c.binds.first c.defs.first l path (Err m) =
+    subst (λ (y : Result Led Missing). Leads words bytes c.binds.first c.defs.first l path y) on bound in
     record {
       places = λ k p s z r.
           let e = in_hand c words bytes (target_made kind l path) l path v bound g (with_place (record { at = parent; path = p }) k) s r z
-          ∙ x.2 in
+          ∙ ap (resolution words bytes l path) on ∙ x.2 in
           rw e (
             refl,
             keep ∙ ap sets_overlay (represents_defs r z),
             re.reports (with_place (record { at = parent; path = p }) k) s x.0
-                x.1 r z bound x.2,
+                x.1 r z there x.2,
           );
     }
 

@@ -1,5 +1,5 @@
 -- The removal of bindings along their chain: each turn, and its start and end.
-use Prim.Native.Nat.{ℕ, zero, suc, ◌+◌, ◌-◌, ◌≤◌, ◌<◌}
+use Prim.Native.Nat.{ℕ, zero, suc, ◌+◌, ◌-◌, ◌≤◌}
 use mathlib.Core.Path.{◌≡◌, refl, sym, ap, subst, ◌∙◌}
 use mathlib.Core.Bool.{Bool, true, false}
 use mathlib.Core.List.{List, [], ◌∷◌, ◌++◌, map, append_assoc, append-nil, map-append}
@@ -8,7 +8,6 @@ use borrow.Author.Tests.{eqb-true}
 use lib.Dec.{eqb}
 use lib.ListN.{length, take, length-append, length-map}
 use lib.Seq.{append_snoc, take_all}
-use Rattle.paths_numbers.specs.meaning.Text.{same}
 use Rattle.paths_numbers.specs.meaning.Path.{joined}
 use Rattle.paths_numbers.proofs.Texts.{by_test, not_both}
 use Rattle.making.specs.declared.ctx.LowerCtx.{LowerCtx}
@@ -24,11 +23,14 @@ use Rattle.making.proofs.InHand.{represents_defs, represents_bindings, place_rea
 use Rattle.paths_numbers.specs.meaning.Lists.{any}
 use Rattle.queries.specs.meaning.Live.{live}
 use Rattle.queries.specs.meaning.Labels.{has_label_at}
-use Rattle.queries.specs.machine.Pass.{goes_on}
-use Rattle.queries.proofs.Chain.{goes, stops, goes_left}
+use Rattle.std.specs.Prelude.{Option as Maybe, Some, None, MatchOption}
+use Rattle.definition_log.specs.machine.ChainLeft.{goes_on, Stopped, Stepped}
+use Rattle.definition_log.specs.declared.chain.Walk.{Walk as Cursor}
+use Rattle.definition_log.proofs.ChainLeft.{goes, stops, goes_left}
 use Rattle.items.specs.meaning.Unbind.{binds_label_of, without, unbind}
-use Rattle.items.specs.machine.Unbinding.{base_of, goes_with, passes_at, with_binds, Passes, takes, leaves, Stays, passed, ahead, BaseAt}
-use Rattle.items.specs.machine.Unbinding.{at_named, at_there, at_given, at_bound, at_below, Walk}
+use Rattle.items.specs.machine.Unbinding.{base_of, goes_with, stop_of, with_binds, Passes, takes, leaves, Stays, passed, ahead, BaseAt}
+use Rattle.items.specs.machine.Unbinding.{at_named, at_there, at_given, at_bound, at_below, Walk, Unbinds}
+use Rattle.items.specs.declared.unbind.Unbound.{Unbound}
 use Rattle.items.specs.declared.unbind.Base.{Base}
 use Rattle.items.specs.declared.unbind.Base.TheVariants.{Named, There, Given, Bound, BoundPath}
 use Rattle.resolving.proofs.Leading.{last_snoc, any_append}
@@ -155,8 +157,8 @@ chain_ahead left v w next first ns h fits e = go (chain_from left v next) refl
         ∙ ap (take left) whole ∙ take_all left (m ∷ ms) long ∙ sym q
 
 -- the base is read as its path
-base_reads : {k : Context} {w b name unit : List ℕ} {stops : Bool} {label ns ms p : List ℕ} {base : Base} {d : LowerCtx} {t : State}
-    → BaseAt k w b name unit stops label ns ms p base → Represents k d w b t → d.short ≡ false → base_of d.bytes w b name unit base ≡ p
+base_reads : {k : Context} {w b name unit : List ℕ} {until : Maybe (List ℕ)} {ns ms p : List ℕ} {base : Base} {d : LowerCtx} {t : State}
+    → BaseAt k w b name unit until ns ms p base → Represents k d w b t → d.short ≡ false → base_of d.bytes w b name unit base ≡ p
 unfolding base_of
 base_reads {w = w} {b} {name} {unit} {d = d} {t} (at_named place parent k e q) h n =
     ap (λ (x : List ℕ). joined x name unit) (place_reads (subst (λ (y : Context). Represents y d w b t) e h) n) ∙ sym q
@@ -166,75 +168,65 @@ base_reads (at_bound r m q) h n = sym q
 base_reads (at_below r m q) h n = sym q
 
 -- it is still, after a binding was passed, and after one was taken out
-module _ (w b : List ℕ) (stops : Bool) (label : List ℕ) (r x : ℕ) (ns ms : List ℕ) where
-  stays_passed : Stays w b stops label r ns (x ∷ ms) → Stays w b stops label r (ns ++ x ∷ []) ms
+module _ (w b : List ℕ) (until : Maybe (List ℕ)) (r x : ℕ) (ns ms : List ℕ) where
+  stays_passed : Stays w b until r ns (x ∷ ms) → Stays w b until r (ns ++ x ∷ []) ms
   unfolding one_of
   stays_passed (passed h) = passed (member_later r ns (x ∷ []) h)
-  stays_passed (ahead h s l) =
+  stays_passed (ahead h s) =
       by_test (eqb r x)
       (λ q. passed (member_behind r ns (x ∷ []) (rw q refl)))
-      (λ q. ahead (rw q at h) s l)
+      (λ q. ahead (rw q at h) s)
 
   -- x has not the label
-  module _ (v c : List ℕ) (other : stops ≡ true → same (first_text w b x) label ≡ false)
+  module _ (v c : List ℕ) (other : stop_of until (binding_at w b x) ≡ false)
       (agree : map (binding_at v c) (ns ++ ms) ≡ map (binding_at w b) (ns ++ ms)) where
-    not_this : one_of r (x ∷ ms) ≡ true → stops ≡ true → same (first_text w b r) label ≡ true → one_of r ms ≡ true
+    not_this : one_of r (x ∷ ms) ≡ true → stop_of until (binding_at w b r) ≡ true → one_of r ms ≡ true
     unfolding one_of
-    not_this h s l =
+    not_this h s =
         by_test (eqb r x)
-        (λ q. absurd (not_both (ap (λ (n : ℕ). same (first_text w b n) label) (sym (eqb-true r x q)) ∙ l) (other s)))
+        (λ q. absurd (not_both (ap (λ (n : ℕ). stop_of until (binding_at w b n)) (sym (eqb-true r x q)) ∙ s) other))
         (λ q. rw q at h)
 
-    still_there : Stays w b stops label r ns (x ∷ ms) → one_of r (ns ++ ms) ≡ true
+    still_there : Stays w b until r ns (x ∷ ms) → one_of r (ns ++ ms) ≡ true
     still_there (passed h) = member_later r ns ms h
-    still_there (ahead h s l) = member_behind r ns ms (not_this h s l)
+    still_there (ahead h s) = member_behind r ns ms (not_this h s)
 
-    same_binding : Stays w b stops label r ns (x ∷ ms) → binding_at v c r ≡ binding_at w b r
+    same_binding : Stays w b until r ns (x ∷ ms) → binding_at v c r ≡ binding_at w b r
     same_binding m = member_same (binding_at v c) (binding_at w b) (ns ++ ms) r agree (still_there m)
 
-    same_path_lem : Stays w b stops label r ns (x ∷ ms) → second_text w b r ≡ second_text v c r
+    same_path_lem : Stays w b until r ns (x ∷ ms) → second_text w b r ≡ second_text v c r
     unfolding binding_at
     same_path_lem m = ap (λ (y : Binding). y.path) (sym (same_binding m))
 
-    stays_taken : Stays w b stops label r ns (x ∷ ms) → Stays v c stops label r ns ms
+    stays_taken : Stays w b until r ns (x ∷ ms) → Stays v c until r ns ms
     unfolding binding_at
     stays_taken (passed h) = passed h
-    stays_taken (ahead h s l) =
-        ahead (not_this h s l) s (ap (λ (y : Binding). same y.label label) (same_binding (ahead h s l)) ∙ l)
+    stays_taken (ahead h s) = ahead (not_this h s) (ap (stop_of until) (same_binding (ahead h s)) ∙ s)
 
-module _ {k : Context} {w b name unit : List ℕ} {stops : Bool} {label : List ℕ} {x : ℕ} {ns ms p : List ℕ} where
-  base_passed : {base : Base} → BaseAt k w b name unit stops label ns (x ∷ ms) p base
-      → BaseAt k w b name unit stops label (ns ++ x ∷ []) ms p base
+module _ {k : Context} {w b name unit : List ℕ} {until : Maybe (List ℕ)} {x : ℕ} {ns ms p : List ℕ} where
+  base_passed : {base : Base} → BaseAt k w b name unit until ns (x ∷ ms) p base
+      → BaseAt k w b name unit until (ns ++ x ∷ []) ms p base
   base_passed (at_named place parent k' e q) = at_named place parent k' e q
   base_passed (at_there place k' e) = at_there place k' e
   base_passed (at_given q) = at_given q
-  base_passed (at_bound r m q) = at_bound r (stays_passed w b stops label r x ns ms m) q
-  base_passed (at_below r m q) = at_below r (stays_passed w b stops label r x ns ms m) q
+  base_passed (at_bound r m q) = at_bound r (stays_passed w b until r x ns ms m) q
+  base_passed (at_below r m q) = at_below r (stays_passed w b until r x ns ms m) q
 
-  module _ {v c : List ℕ} (other : stops ≡ true → same (first_text w b x) label ≡ false)
+  module _ {v c : List ℕ} (other : stop_of until (binding_at w b x) ≡ false)
       (agree : map (binding_at v c) (ns ++ ms) ≡ map (binding_at w b) (ns ++ ms)) where
-    base_taken : {base : Base} → BaseAt k w b name unit stops label ns (x ∷ ms) p base → BaseAt k v c name unit stops label ns ms p base
+    base_taken : {base : Base} → BaseAt k w b name unit until ns (x ∷ ms) p base → BaseAt k v c name unit until ns ms p base
     base_taken (at_named place parent k' e q) = at_named place parent k' e q
     base_taken (at_there place k' e) = at_there place k' e
     base_taken (at_given q) = at_given q
-    base_taken (at_bound r m q) = at_bound r (stays_taken w b stops label r x ns ms v c other agree m)
-        (q ∙ same_path_lem w b stops label r x ns ms v c other agree m)
-    base_taken (at_below r m q) = at_below r (stays_taken w b stops label r x ns ms v c other agree m)
-        (q ∙ ap (λ (y : List ℕ). joined y name unit) (same_path_lem w b stops label r x ns ms v c other agree m))
-
--- what a walk that passes a record knows
-passes_on : (w b : List ℕ) (stops : Bool) (label : List ℕ) (r left : ℕ) → passes_at w b stops label r left ≡ true
-    → (goes_on w r left ≡ true) × (stops ≡ true → same (first_text w b r) label ≡ false)
-unfolding passes_at
-passes_on w b stops label r left t =
-    by_test (goes_on w r left)
-    (λ g. (g, λ s. by_test (same (first_text w b r) label) (λ q. absurd (not_both (rw (g, s, q) at t) refl)) (λ q. q)))
-    (λ g. absurd (not_both (rw g at t) refl))
+    base_taken (at_bound r m q) = at_bound r (stays_taken w b until r x ns ms v c other agree m)
+        (q ∙ same_path_lem w b until r x ns ms v c other agree m)
+    base_taken (at_below r m q) = at_below r (stays_taken w b until r x ns ms v c other agree m)
+        (q ∙ ap (λ (y : List ℕ). joined y name unit) (same_path_lem w b until r x ns ms v c other agree m))
 
 -- one turn of a walk
-module _ {base : Base} {name unit : List ℕ} {stops : Bool} {label : List ℕ} {k : Context} {s : State} {front : List Binding} {p : List ℕ}
+module _ {base : Base} {name unit : List ℕ} {until : Maybe (List ℕ)} {k : Context} {s : State} {front : List Binding} {p : List ℕ}
     {d : LowerCtx} {w b : List ℕ} {previous r left : ℕ}
-    (o : Walk base name unit stops label k s front p d w b previous r left)
+    (o : Walk base name unit until k s front p d w b previous r left)
   where
     abbrev ds : List Def
     ds = live p s.defs
@@ -258,15 +250,12 @@ module _ {base : Base} {name unit : List ℕ} {stops : Bool} {label : List ℕ} 
     pub todo_is : map (binding_at w b) (chain_from left w r) ≡ o.todo
     todo_is = same_rest (map (binding_at w b) o.ns) _ kept o.todo all_are as_many
 
-    module _ (t : passes_at w b stops label r left ≡ true) where
+    module _ (goes_here : goes_on w r left ≡ true) (other : stop_of until (binding_at w b r) ≡ false) where
       abbrev x : Binding
       x = binding_at w b r
 
       abbrev later : List ℕ
       later = chain_from (left - 1) w (next_of w r)
-
-      goes_here : goes_on w r left ≡ true
-      goes_here = (passes_on w b stops label r left t).0
 
       chain_here : chain_from left w r ≡ r ∷ later
       chain_here = goes w r left goes_here
@@ -280,14 +269,12 @@ module _ {base : Base} {name unit : List ℕ} {stops : Bool} {label : List ℕ} 
       room_here : left ≡ suc (left - 1)
       room_here = omega (arith, goes_left w r left goes_here)
 
-      at_here : BaseAt k w b name unit stops label o.ns (r ∷ later) p base
-      at_here = subst (λ (l : List ℕ). BaseAt k w b name unit stops label o.ns l p base) chain_here o.at
+      at_here : BaseAt k w b name unit until o.ns (r ∷ later) p base
+      at_here = subst (λ (l : List ℕ). BaseAt k w b name unit until o.ns l p base) chain_here o.at
 
-      unlabelled_here : stops ≡ true → any (λ (y : Binding). same y.label label) (o.done ++ x ∷ []) ≡ false
-      unfolding any binding_at
-      unlabelled_here q =
-          any_append (λ (y : Binding). same y.label label) o.done (x ∷ []) (o.unlabelled q)
-          ∙ rw ((passes_on w b stops label r left t).1 q) refl
+      unlabelled_here : any (stop_of until) (o.done ++ x ∷ []) ≡ false
+      unfolding any
+      unlabelled_here = any_append (stop_of until) o.done (x ∷ []) o.unlabelled ∙ rw other refl
 
       -- whether it goes
       goes_as : goes_with w b d.defs.first (base_of d.bytes w b name unit base) r ≡ any (binds_label_of x) ds
@@ -295,7 +282,7 @@ module _ {base : Base} {name unit : List ℕ} {stops : Bool} {label : List ℕ} 
       goes_as = rw (base_reads o.at o.now o.going, represents_defs o.now o.going) refl
 
       pub walk_leave : goes_with w b d.defs.first (base_of d.bytes w b name unit base) r ≡ false → (next : ℕ) → next ≡ next_of w r
-          → Walk base name unit stops label k s front p d w b r next (left - 1)
+          → Walk base name unit until k s front p d w b r next (left - 1)
       walk_leave f next e =
           let still : front ++ without ds (o.done ++ x ∷ []) ≡ kept ++ x
           ∷ [] = rw (without_left ds o.done x (sym goes_as ∙ f), append_assoc) refl in
@@ -347,7 +334,7 @@ module _ {base : Base} {name unit : List ℕ} {stops : Bool} {label : List ℕ} 
             ∙ ap (λ (l : List Binding). l ++ ahead_of) (sym kept_is) ∙ sym (map-append (binding_at w b) o.ns later)
 
         pub walk_take : goes_with w b d.defs.first (base_of d.bytes w b name unit base) r ≡ true
-            → Walk base name unit stops label k s front p d₁ w₁ b₁ previous next (left - 1)
+            → Walk base name unit until k s front p d₁ w₁ b₁ previous next (left - 1)
         walk_take f =
             let gone = without_gone ds o.done x (sym goes_as ∙ f) in
             record {
@@ -361,8 +348,8 @@ module _ {base : Base} {name unit : List ℕ} {stops : Bool} {label : List ℕ} 
               sized = rw gone o.sized;
               last_is = o.last_is;
               room = rw q (omega (arith, room_here, o.room));
-              at = subst (λ (l : List ℕ). BaseAt k w₁ b₁ name unit stops label o.ns l p base) (sym ahead_so)
-                  (base_taken (passes_on w b stops label r left t).1 agree_so at_here);
+              at = subst (λ (l : List ℕ). BaseAt k w₁ b₁ name unit until o.ns l p base) (sym ahead_so)
+                  (base_taken other agree_so at_here);
               unlabelled = unlabelled_here;
             }
 
@@ -370,59 +357,83 @@ module _ {base : Base} {name unit : List ℕ} {stops : Bool} {label : List ℕ} 
       pub walk_on : {d₁ : LowerCtx} {w₁ b₁ : List ℕ} {previous₁ : ℕ}
           → Passes d d₁ w b w₁ b₁ (base_of d.bytes w b name unit base) previous r previous₁
           → log_count w₁ ≡ log_count w → (next : ℕ) → next ≡ next_of w r
-          → Walk base name unit stops label k s front p d₁ w₁ b₁ previous₁ next (left - 1)
+          → Walk base name unit until k s front p d₁ w₁ b₁ previous₁ next (left - 1)
       walk_on (takes f u) q next e = walk_take u q next e f
       walk_on (leaves f i j l) q next e = rw (i, j, l) (walk_leave f next e)
+
+-- along a step of the walk
+module _ {base : Base} {name unit : List ℕ} {until : Maybe (List ℕ)} {k : Context} {s : State} {front : List Binding} {p : List ℕ}
+    {d : LowerCtx} {w b : List ℕ} {previous r : ℕ} {from to : Cursor} (step : Stepped w from to r)
+    (o : Walk base name unit until k s front p d w b previous from.next from.left)
+  where
+    pub walk_here : Walk base name unit until k s front p d w b previous r from.left
+    walk_here = subst (λ (n : ℕ). Walk base name unit until k s front p d w b previous n from.left) step.here o
+
+    pub walk_step : stop_of until (binding_at w b r) ≡ false → {d₁ : LowerCtx} {w₁ b₁ : List ℕ} {previous₁ : ℕ}
+        → Passes d d₁ w b w₁ b₁ (base_of d.bytes w b name unit base) previous r previous₁
+        → log_count w₁ ≡ log_count w
+        → Walk base name unit until k s front p d₁ w₁ b₁ previous₁ to.next to.left
+    walk_step n {d₁} {w₁} {b₁} {previous₁} q e =
+        subst (λ (j : ℕ). Walk base name unit until k s front p d₁ w₁ b₁ previous₁ to.next j) (sym step.left)
+        (walk_on walk_here step.going n q e to.next step.next)
 
 -- a state with its own bindings
 with_own : (s : State) → with_binds s s.binds ≡ s
 with_own s = refl
 
 -- the start of a walk, at the first binding
-pub walk_start : {base : Base} {name unit : List ℕ} {stops : Bool} {label : List ℕ} {k : Context} {s : State} {p : List ℕ} {c : LowerCtx}
-    {words bytes : List ℕ} {left : ℕ}
-    → Represents k c words bytes s → c.short ≡ false → left ≡ log_count words
-    → BaseAt k words bytes name unit stops label [] (chain_of words c.binds.first) p base
-    → Walk base name unit stops label k s [] p c words bytes 0 c.binds.first left
+pub walk_start : {base : Base} {name unit : List ℕ} {until : Maybe (List ℕ)} {k : Context} {s : State} {p : List ℕ} {c : LowerCtx}
+    {words bytes : List ℕ} {from : Cursor}
+    → Represents k c words bytes s → c.short ≡ false → from ≡ record { next = c.binds.first; left = log_count words }
+    → BaseAt k words bytes name unit until [] (chain_of words c.binds.first) p base
+    → Walk base name unit until k s [] p c words bytes 0 from.next from.left
 unfolding without chain_of last_number any
 walk_start {s = s} h n e a =
-    record {
+    rw e
+    (record {
       done = [];
       todo = s.binds;
       ns = [];
       going = n;
       split = refl;
       now = h;
-      chain = rw e refl;
+      chain = refl;
       sized = refl;
       last_is = refl;
       room = omega arith;
-      at = rw e a;
-      unlabelled = λ q. refl;
-    }
+      at = a;
+      unlabelled = refl;
+    })
 
 -- and its end, behind the last
-module _ {base : Base} {name unit label : List ℕ} {k : Context} {s : State} {front : List Binding} {p : List ℕ} {d : LowerCtx}
-    {w b : List ℕ} {previous r left : ℕ}
-    (o : Walk base name unit false label k s front p d w b previous r left) (t : passes_at w b false label r left ≡ false)
+module _ {base : Base} {name unit : List ℕ} {until : Maybe (List ℕ)} {k : Context} {s : State} {front : List Binding} {p : List ℕ}
+    {d : LowerCtx} {w b : List ℕ} {previous : ℕ} {last rest : Cursor}
+    (o : Walk base name unit until k s front p d w b previous last.next last.left) (t : Stopped w last rest)
   where
-    no_more : goes_on w r left ≡ false
-    unfolding passes_at
-    no_more = by_test (goes_on w r left) (λ g. absurd (not_both refl (rw g at t))) (λ g. g)
+    pub nothing_left : o.todo ≡ []
+    nothing_left = sym (todo_is o) ∙ ap (map (binding_at w b)) (stops w last.next last.left t.stops)
 
-    nothing_left : o.todo ≡ []
-    nothing_left = sym (todo_is o) ∙ ap (map (binding_at w b)) (stops w r left no_more)
-
-    pub walk_ended : (rest : List Binding) → s.binds ≡ front ++ rest
-        → Represents k d w b (with_binds s (front ++ without (live p s.defs) rest))
-    walk_ended rest e =
-        let all : o.done ≡ rest = same_rest front o.done front rest (sym (o.split ∙ rw (nothing_left, append-nil) refl) ∙ e) refl in
+    pub walk_ended : (bs : List Binding) → s.binds ≡ front ++ bs
+        → Represents k d w b (with_binds s (front ++ without (live p s.defs) bs))
+    walk_ended bs e =
+        let all : o.done ≡ bs = same_rest front o.done front bs (sym (o.split ∙ rw (nothing_left, append-nil) refl) ∙ e) refl in
         subst (λ (l : List Binding). Represents k d w b (with_binds s l)) (rw (nothing_left, append-nil, all) refl) o.now
 
+-- a walk up to no label is one to the end
+pub to_the_end : {base : Base} {name unit : List ℕ} {c : LowerCtx} {words bytes w b : List ℕ} {previous : ℕ} {from : Cursor} {u : Unbound}
+    (x : Unbinds base name unit None c words bytes w b previous from u) → Stopped w x.last u.rest
+to_the_end {w = w} {b} {u = u} x = go u.here x.ends
+  where
+    go : (here : Maybe ℕ)
+        → MatchOption here (Stopped w x.last u.rest) (λ r. Stepped w x.last u.rest r × (stop_of None (binding_at w b r) ≡ true))
+        → Stopped w x.last u.rest
+    go None m = m
+    go (Some r) m = absurd (not_both m.1 refl)
+
 -- a walk along all bindings
-pub unbinds_all : {base : Base} {name unit label : List ℕ} {k : Context} {s : State} {p : List ℕ} {d : LowerCtx} {w b : List ℕ}
-    {previous r left : ℕ}
-    → Walk base name unit false label k s [] p d w b previous r left → passes_at w b false label r left ≡ false
+pub unbinds_all : {base : Base} {name unit : List ℕ} {until : Maybe (List ℕ)} {k : Context} {s : State} {p : List ℕ} {d : LowerCtx}
+    {w b : List ℕ} {previous : ℕ} {last rest : Cursor}
+    → Walk base name unit until k s [] p d w b previous last.next last.left → Stopped w last rest
     → Represents k d w b (unbind p s)
 unfolding unbind
 unbinds_all {s = s} o t = walk_ended o t s.binds refl
@@ -431,10 +442,6 @@ unbinds_all {s = s} o t = walk_ended o t s.binds refl
 pub count_same : (v w : List ℕ) → length v ≡ length w → log_count v ≡ log_count w
 unfolding log_count
 count_same v w e = rw e refl
-
--- a walk that passes a record has one left
-pub passes_left : (w b : List ℕ) (stops : Bool) (label : List ℕ) (r left : ℕ) → passes_at w b stops label r left ≡ true → 0 < left
-passes_left w b stops label r left t = goes_left w r left (passes_on w b stops label r left t).0
 
 -- whether a binding goes, by how its texts and the base are read
 pub goes_by : {t : Bool} {l q x : List ℕ} (used : ℕ) (words bytes name unit : List ℕ) (defs : ℕ) (base : Base) (r : ℕ)

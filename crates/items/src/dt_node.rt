@@ -14,7 +14,7 @@ ghost use Rattle.input.specs.meaning.Input.{record_count, child_at, span_at, par
 ghost use Rattle.input.specs.machine.At.{record_at};
 ghost use Rattle.resolving.specs.machine.Lowers.{Lowers};
 ghost use Rattle.input.specs.machine.NameRead.{FullNameRead};
-ghost use Rattle.items.specs.machine.NodePlaced.{PlacesAt, PlacesInAt, leads_on, placed_at, placed_nowhere};
+ghost use Rattle.items.specs.machine.NodePlaced.{PlacesAt, PlacesInAt, placed_at, placed_nowhere};
 ghost use Rattle.items.specs.machine.NodeLowered.{Settles};
 ghost use Rattle.items.specs.machine.AtRecord.{node_name_at, named_at};
 
@@ -31,7 +31,7 @@ use making::place::PathAt;
 use paths_numbers::codes::{ROOT_INSIDE, SUBNODE_OUTSIDE};
 use paths_numbers::phandle::MirPhandleTarget;
 use queries::mir::sets_overlay_in;
-use resolving::resolve::{Resolved, report_unresolved, resolve_phandle};
+use resolving::resolve::{report_unresolved, resolve_phandle};
 
 // Where a node goes before its body is lowered: to the place of its path; to a log of its own for the
 // reference of a record, of this kind, and whether that log is kept; to a log that is dropped; or
@@ -131,29 +131,23 @@ fn place_resolved(
         binds,
         defs,
     );
-    if leads_on(leads) {
-        let made = define_leading(input, r, reference, leads, out, bytes, ctx);
-        return placed_at(open_node(input, child_at(input.words, r), out, bytes, made));
+    match leads {
+        Ok(to) => {
+            let made = define_leading(input, r, reference, to, out, bytes, ctx);
+            placed_at(open_node(input, child_at(input.words, r), out, bytes, made))
+        }
+        Err(missing) => {
+            let keeps = sets_overlay_in(out, defs);
+            let label = phandle_label_at(input.words, input.text, reference);
+            let path = phandle_path_at(input.words, input.text, reference);
+            let span = span_at(input.words, reference);
+            let told = report_unresolved(ctx, out, bytes, missing, label, path, span);
+            PlacedNode {
+                node: NodePlace::Aside(reference, kind, keeps),
+                ctx: told,
+            }
+        }
     }
-    let keeps = sets_overlay_in(out, defs);
-    let label = phandle_label_at(input.words, input.text, reference);
-    let path = phandle_path_at(input.words, input.text, reference);
-    let span = span_at(input.words, reference);
-    let told = report_unresolved(ctx, out, bytes, leads, label, path, span);
-    PlacedNode {
-        node: NodePlace::Aside(reference, kind, keeps),
-        ctx: told,
-    }
-}
-
-// Whether a reference leads somewhere.
-fn leads_on(v: Resolved) -> bool
-    ensures { result ≡ leads_on v }
-{
-    matches!(
-        v,
-        Resolved::Bound(_) | Resolved::BoundPath(_) | Resolved::AtPath | Resolved::Node(_)
-    )
 }
 
 // Opens or refuses the node of record r by its name.

@@ -23,7 +23,7 @@ use crate::report::{emit_code, emit_name, emit_report};
 use input::linked::Input;
 use input::name::{FullName, is_named, name_text, unit_text};
 use input::phandle::{phandle_label_at, phandle_path_at};
-use input::record::{child_at, next_at, second_at, span_at, text_at};
+use input::record::{child_at, second_at, span_at, text_at};
 use input::value_read::{CellValue, PlainValue, Value};
 use making::ctx::LowerCtx;
 use making::place::PathAt;
@@ -126,11 +126,9 @@ fn lower_prop_values(
     ensures { FillsProperty keep ctx result out.old bytes.old out.new bytes.new
         (lower_values level (chain_at input.entry.words.now input.entry.text.now first)) }
 {
-    let mut r = first;
     let mut next = ctx;
-    while r != 0 {
+    for r in input.chain(first) {
         next = lower_prop_value(input, r, keep, nesting, out, bytes, next, level);
-        r = next_at(input.words, r);
     }
     next
 }
@@ -261,11 +259,9 @@ fn lower_cells(
     ensures { FillsCells keep ctx result out.old bytes.old out.new bytes.new
         (lower_cells level size (chain_at input.entry.words.now input.entry.text.now first)) }
 {
-    let mut r = first;
     let mut next = ctx;
-    while r != 0 {
+    for r in input.chain(first) {
         next = lower_cell(input, r, size, keep, nesting, out, bytes, next, level);
-        r = next_at(input.words, r);
     }
     next
 }

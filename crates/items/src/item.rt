@@ -30,7 +30,7 @@ use making::place::{PathAt, first_place, second_place};
 use making::recs::DefKind;
 use paths_numbers::codes;
 use paths_numbers::phandle::MirPhandleTarget;
-use resolving::resolve::{Resolved, first_with, report_unresolved, resolve_phandle};
+use resolving::resolve::{Leads, first_with, report_unresolved, resolve_phandle};
 
 // Lowers a directive.
 pub fn handle_dts_directive(
@@ -175,13 +175,11 @@ fn delete_target(
     let defs = ctx.defs.first;
     let leads = resolve_phandle(words, text, r, Ok(kind), out, bytes, binds, defs);
     match leads {
-        Resolved::Bound(_) => delete_bound(ctx, out, bytes, false, label, path, span),
-        Resolved::BoundPath(_) => delete_bound(ctx, out, bytes, true, label, path, span),
-        Resolved::AtPath => delete_at(ctx, out, bytes, path, span),
-        Resolved::Node(n) => delete_there(ctx, out, bytes, n, span),
-        Resolved::NoLabel | Resolved::NoNode(_) | Resolved::NoNodeBelow(_, _) => {
-            report_unresolved(ctx, out, bytes, leads, label, path, at)
-        }
+        Ok(Leads::Bound(_)) => delete_bound(ctx, out, bytes, false, label, path, span),
+        Ok(Leads::BoundPath(_)) => delete_bound(ctx, out, bytes, true, label, path, span),
+        Ok(Leads::AtPath) => delete_at(ctx, out, bytes, path, span),
+        Ok(Leads::Node(n)) => delete_there(ctx, out, bytes, n, span),
+        Err(missing) => report_unresolved(ctx, out, bytes, missing, label, path, at),
     }
 }
 

@@ -20,11 +20,11 @@ use input::kinds::{LABEL, OMIT};
 use input::linked::Input;
 use input::name::{FullName, name_text, unit_text};
 use input::phandle::phandle_path_at;
-use input::record::{child_at, kind_at, next_at, no_text, span_at, text_at};
+use input::record::{child_at, kind_at, no_text, span_at, text_at};
 use making::ctx::LowerCtx;
 use making::place::{PathAt, first_place, second_place};
 use making::recs::DefKind;
-use resolving::resolve::Resolved;
+use resolving::resolve::Leads;
 
 // A node whose definition is made: where its path stands.
 #[derive(Clone, Copy)]
@@ -85,7 +85,7 @@ pub fn define_leading(
     input: Input<'_>,
     r: u32,
     reference: u32,
-    leads: Resolved,
+    leads: Leads,
     out: &mut [u32],
     bytes: &mut [u8],
     ctx: LowerCtx,
@@ -101,23 +101,20 @@ pub fn define_leading(
     let name_span = input.node_name_span(parts, span);
     let path = phandle_path_at(input.words, input.text, reference);
     match leads {
-        Resolved::Bound(b) => {
+        Leads::Bound(b) => {
             let place = second_place(out, b);
             ctx.define_at(out, bytes, kind, span, name_span, place)
         }
-        Resolved::BoundPath(b) => {
+        Leads::BoundPath(b) => {
             let place = second_place(out, b);
             let unit = no_text(path);
             ctx.define(out, bytes, kind, span, name_span, place, path, unit)
         }
-        Resolved::AtPath => ctx.define_text(out, bytes, kind, span, name_span, path),
-        Resolved::Node(r) => {
+        Leads::AtPath => ctx.define_text(out, bytes, kind, span, name_span, path),
+        Leads::Node(r) => {
             let place = first_place(out, r);
             ctx.define_at(out, bytes, kind, span, name_span, place)
         }
-        Resolved::NoLabel => ctx,
-        Resolved::NoNode(_) => ctx,
-        Resolved::NoNodeBelow(_, _) => ctx,
     }
 }
 
@@ -166,12 +163,10 @@ pub fn collect_labels(
         (λ (p : List ℕ). labels_of p (chain_at input.entry.words.now input.entry.text.now parts)) }
 {
     let mut state = ctx;
-    let mut r = parts;
-    while r != 0 {
+    for r in input.chain(parts) {
         if kind_at(input.words, r) == LABEL {
             state = lower_label(input, r, place, out, bytes, state);
         }
-        r = next_at(input.words, r);
     }
     state
 }

@@ -5,15 +5,15 @@ ghost use Rattle.paths_numbers.specs.meaning.Lists.{any};
 ghost use Rattle.queries.specs.meaning.Labels.{has_label_at};
 ghost use Rattle.queries.specs.meaning.Live.{live};
 ghost use Rattle.paths_numbers.specs.meaning.Path.{joined};
-ghost use Rattle.definition_log.specs.meaning.ReadBack.{read_defs};
-ghost use Rattle.items.specs.machine.Unbinding.{base_of, goes_with, passes_at, Passes, Unbinds, UnbindsAll, bound_base, UnbindsOthers};
-ghost use Rattle.items.specs.machine.Unbinding.{UnlinksFirst};
+ghost use Rattle.definition_log.specs.meaning.ReadBack.{binding_at, read_defs};
+ghost use Rattle.items.specs.machine.Unbinding.{base_of, goes_with, text_of, stop_of, Passes, Unbinds, UnbindsAll, bound_base};
+ghost use Rattle.items.specs.machine.Unbinding.{UnbindsOthers, UnbindsBehind, UnlinksFirst};
 
-use definition_log::record::{first_text, log_count, next_of, second_text};
+use definition_log::chain::Walk;
+use definition_log::record::{first_text, second_text};
 use making::ctx::LowerCtx;
 use making::place::PathAt;
 use paths_numbers::text::equals;
-use queries::definition::goes_on;
 use queries::mir::unbinds;
 use queries::path::Joined;
 use resolving::resolve::first_with;
@@ -36,17 +36,17 @@ pub struct Unlinked {
     pub previous: u32,
 }
 
-// After several: the next one too, and how many records may be left from there on.
+// After several: the binding at which the walk stopped, where it did, and the walk behind it.
 #[derive(Clone, Copy)]
 pub struct Unbound {
     pub ctx: LowerCtx,
     pub previous: u32,
-    pub next: u32,
-    pub left: u32,
+    pub here: Option<u32>,
+    pub rest: Walk,
 }
 
-// Takes out bindings from record `first` on, before which `previous` stands; where `stops` is set, up
-// to the first with this label.
+// Takes out bindings along a walk, before which `before` stands, up to the first with the label `until`,
+// where there is one.
 pub fn unbind(
     ctx: LowerCtx,
     out: &mut [u32],
@@ -54,46 +54,45 @@ pub fn unbind(
     base: Base,
     name: &[u8],
     unit: &[u8],
-    stops: bool,
-    label: &[u8],
+    until: Option<&[u8]>,
     before: u32,
-    first: u32,
-    most: u32,
+    from: Walk,
 ) -> Unbound
-    ensures { Unbinds base name.now unit.now stops label.now ctx out.old
-        bytes.old out.new bytes.new before first most result }
+    ensures { Unbinds base name.now unit.now (text_of until.entry) ctx out.old
+        bytes.old out.new bytes.new before from result }
 {
     let mut d = ctx;
     let mut previous = before;
-    let mut r = first;
-    let mut left = most;
-    while passes(out, bytes, stops, label, r, left) {
-        let next = next_of(out, r);
+    let mut walk = from;
+    while let Some(r) = walk.step(out) {
+        if stops_at(out, bytes, until, r) {
+            return Unbound {
+                ctx: d,
+                previous,
+                here: Some(r),
+                rest: walk,
+            };
+        }
         let one = unbind_one(d, out, bytes, base, name, unit, previous, r);
         d = one.ctx;
         previous = one.previous;
-        r = next;
-        left -= 1;
     }
     Unbound {
         ctx: d,
         previous,
-        next: r,
-        left,
+        here: None,
+        rest: walk,
     }
 }
 
-// Whether a walk passes record r.
-fn passes(out: &[u32], bytes: &[u8], stops: bool, label: &[u8], r: u32, left: u32) -> bool
-    ensures { result ≡ passes_at out.now bytes.now stops label.now r left }
+// Whether a walk up to a label stops at record r.
+fn stops_at(out: &[u32], bytes: &[u8], until: Option<&[u8]>, r: u32) -> bool
+    ensures { result ≡ stop_of (text_of until.entry) (binding_at out.now bytes.now r) }
 {
-    if goes_on(out, r, left) {
-        if stops {
-            return !equals(first_text(out, bytes, r), label);
-        }
-        return true;
+    match until {
+        Some(label) => equals(first_text(out, bytes, r), label),
+        None => false,
     }
-    false
 }
 
 // Takes out one binding, before which `previous` stands, or leaves it.
@@ -204,9 +203,8 @@ pub fn unbind_all(
     ensures { UnbindsAll base name.now unit.now ctx result out.old bytes.old out.new
         bytes.new }
 {
-    let r = ctx.binds.first;
-    let most = log_count(out);
-    let all = unbind(ctx, out, bytes, base, name, unit, false, name, 0, r, most);
+    let binds = Walk::new(out, ctx.binds.first);
+    let all = unbind(ctx, out, bytes, base, name, unit, None, 0, binds);
     all.ctx
 }
 
@@ -234,33 +232,34 @@ pub fn unbind_others(
     ensures { UnbindsOthers below name.now unit.now label.now ctx result out.old
         bytes.old out.new bytes.new }
 {
-    let r = ctx.binds.first;
-    let Some(found) = first_with(out, bytes, r, label) else {
+    let Some(found) = first_with(out, bytes, ctx.binds.first, label) else {
         return ctx;
     };
-    let most = log_count(out);
     let base = bound_base(below, found.number);
-    let up = unbind(ctx, out, bytes, base, name, unit, true, label, 0, r, most);
-    let here = up.next;
-    let left = up.left;
-    if left == 0 {
-        return up.ctx;
+    let binds = Walk::new(out, ctx.binds.first);
+    let up = unbind(ctx, out, bytes, base, name, unit, Some(label), 0, binds);
+    unbind_behind(up, out, bytes, below, name, unit)
+}
+
+// The same behind the binding at which the walk stopped.
+fn unbind_behind(
+    up: Unbound,
+    out: &mut [u32],
+    bytes: &mut [u8],
+    below: bool,
+    name: &[u8],
+    unit: &[u8],
+) -> LowerCtx
+    ensures { UnbindsBehind below name.now unit.now up result out.old bytes.old out.new bytes.new }
+{
+    match up.here {
+        Some(r) => {
+            let base = bound_base(below, r);
+            let behind = unbind(up.ctx, out, bytes, base, name, unit, None, r, up.rest);
+            behind.ctx
+        }
+        None => up.ctx,
     }
-    let next = next_of(out, here);
-    let behind = unbind(
-        up.ctx,
-        out,
-        bytes,
-        bound_base(below, here),
-        name,
-        unit,
-        false,
-        label,
-        here,
-        next,
-        left - 1,
-    );
-    behind.ctx
 }
 
 // Takes out the label's first binding.

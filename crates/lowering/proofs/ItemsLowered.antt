@@ -9,69 +9,73 @@ use Rattle.making.specs.declared.ctx.LowerCtx.{LowerCtx}
 use Rattle.making.specs.declared.place.PathAt.{PathAt}
 use Rattle.making.specs.meaning.State.{State, emit}
 use Rattle.making.specs.machine.Represents.{with_place, Represents}
-use Rattle.input.specs.meaning.Tree.{Trees, more, node_kind, property_kind, directive_kind, preprocessor_kind}
+use Rattle.input.specs.meaning.Tree.{Trees, node_kind, property_kind, directive_kind, preprocessor_kind}
 use Rattle.input.specs.meaning.Report.{report}
 use Rattle.items.specs.meaning.Lower.{lower_node, lower_property, lower_directive, lower_item, lower_items}
-use Rattle.input.specs.meaning.Input.{kind_at, next_at, child_at, second_at, number_at, span_at, chain_at}
+use Rattle.input.specs.meaning.Input.{kind_at, child_at, second_at, number_at, span_at, chain_at}
 use Rattle.input.specs.machine.At.{record_at}
 use Rattle.input.specs.meaning.GoodName.{good_names, good_names_in}
 use Rattle.input.specs.machine.Linked.{Linked, ChainIn}
 use Rattle.resolving.specs.machine.Lowers.{Lowers, LowersAt}
 use Rattle.input.proofs.GoodNames.{good_parts, good_second}
-use Rattle.input.proofs.Input.{chain_none, chain_more}
-use Rattle.input.proofs.Read.{chain_next}
+use Rattle.input.specs.machine.ChainLeft.{numbers_from, trees_of}
+use Rattle.input.proofs.ChainLeft.{chain_is}
+use Rattle.items.proofs.ChainWalked.{RecordsIn, records_start, records_later}
 
--- the items before record r are lowered: with the rest's it is what the whole chain does
-pub record ItemsTo (level : ℕ) (parent : PathAt) (c d : LowerCtx) (words bytes w b input text : List ℕ) (first nesting r : ℕ) : Type 0 where
-  pub chain : ChainIn input text r nesting
-  pub good : good_names_in (chain_at input text r) ≡ true
+-- the items that were walked are lowered: with the rest's it is what the whole chain does
+pub record ItemsTo (level : ℕ) (parent : PathAt) (c d : LowerCtx) (words bytes w b input text : List ℕ) (first nesting : ℕ) (left : List ℕ)
+    : Type 0 where
+  pub chain : RecordsIn input text nesting left
+  pub good : good_names_in (trees_of input text left) ≡ true
   pub done : List ℕ → State → State
   pub lowers : LowersAt parent c d words bytes w b done
-  pub whole : (p : List ℕ) (s : State) → lower_items level (chain_at input text r) p (done p s)
+  pub whole : (p : List ℕ) (s : State) → lower_items level (trees_of input text left) p (done p s)
       ≡ lower_items level (chain_at input text first) p s
 
-pub items_start : (level : ℕ) {parent : PathAt} {c : LowerCtx} {words bytes : List ℕ} (input text : List ℕ) (first nesting : ℕ)
+pub items_start : (level : ℕ) {parent : PathAt} {c : LowerCtx} {words bytes : List ℕ} (input : List ℕ) → Linked input
+    → (text : List ℕ) (first nesting : ℕ)
     → ChainIn input text first nesting → good_names_in (chain_at input text first) ≡ true
-    → ItemsTo level parent c c words bytes words bytes input text first nesting first
-items_start level input text first nesting h g =
-    record { chain = h; good = g; done = λ p s. s; lowers = record { lowers = λ k p s r. r }; whole = λ p s. refl }
+    → ItemsTo level parent c c words bytes words bytes input text first nesting (numbers_from input first)
+items_start level input l text first nesting h g =
+    let e = chain_is input l text first h.at in
+    record {
+      chain = records_start input text l first nesting h;
+      good = rw e g;
+      done = λ p s. s;
+      lowers = record { lowers = λ k p s r. r };
+      whole = λ p s. ap (λ (ts : Trees). lower_items level ts p s) e;
+    }
 
-module _ {level : ℕ} {parent : PathAt} {c d : LowerCtx} {words bytes w b input text : List ℕ} {first nesting r : ℕ} (l : Linked input)
-    (h : ItemsTo level parent c d words bytes w b input text first nesting r) where
-  pub items_whole : r ≡ 0 → LowersAt parent c d words bytes w b (λ p s. lower_items level (chain_at input text first) p s)
+module _ {level : ℕ} {parent : PathAt} {c d : LowerCtx} {words bytes w b input text : List ℕ} {first nesting : ℕ} where
+  pub items_whole : ItemsTo level parent c d words bytes w b input text first nesting []
+      → LowersAt parent c d words bytes w b (λ p s. lower_items level (chain_at input text first) p s)
   unfolding lower_items
-  items_whole e =
+  items_whole h =
       record {
         lowers = λ k p s m.
-            subst (λ (u : State). Represents (with_place (record { at = parent; path = p }) k) d w b u)
-            (ap (λ (ts : Trees). lower_items level ts p (h.done p s)) (sym (chain_none input text) ∙ ap (chain_at input text) (sym e))
-            ∙ h.whole p s)
+            subst (λ (u : State). Represents (with_place (record { at = parent; path = p }) k) d w b u) (h.whole p s)
             (h.lowers.lowers k p s m);
       }
 
-  module _ (n : r ≡ 0 → ⊥) where
-    split : good_names_in (more (record_at input text r) (chain_at input text (next_at input r))) ≡ true
-    split = rw (sym (chain_more input l text r n (h.chain.at n))) h.good
-
+  module _ {r : ℕ} {later : List ℕ} (h : ItemsTo level parent c d words bytes w b input text first nesting (r ∷ later)) where
     pub item_good : good_names (record_at input text r) ≡ true
     unfolding good_names_in
-    item_good = (both (good_names (record_at input text r)) _ split).0
+    item_good = (both (good_names (record_at input text r)) _ h.good).0
 
-    rest_good : good_names_in (chain_at input text (next_at input r)) ≡ true
+    rest_good : good_names_in (trees_of input text later) ≡ true
     unfolding good_names_in
-    rest_good = (both (good_names (record_at input text r)) _ split).1
+    rest_good = (both (good_names (record_at input text r)) _ h.good).1
 
     pub items_more : {e : LowerCtx} {v u : List ℕ} → LowersAt parent d e w b v u (λ p s. lower_item level (record_at input text r) p s)
-        → ItemsTo level parent c e words bytes v u input text first nesting (next_at input r)
+        → ItemsTo level parent c e words bytes v u input text first nesting later
     unfolding lower_items
     items_more m =
         record {
-          chain = chain_next input text l r nesting h.chain n;
+          chain = records_later h.chain;
           good = rest_good;
           done = λ p s. lower_item level (record_at input text r) p (h.done p s);
           lowers = record { lowers = λ k p s x. m.lowers k p (h.done p s) (h.lowers.lowers k p s x) };
-          whole = λ p s. ap (λ (ts : Trees). lower_items level ts p (h.done p s)) (sym (chain_more input l text r n (h.chain.at n)))
-              ∙ h.whole p s;
+          whole = h.whole;
         }
 
 -- an item by its kind

@@ -12,7 +12,7 @@ ghost use Rattle.items.specs.machine.NodeLowered.{LowersApart};
 
 use input::kinds::{DIRECTIVE, NODE, PREPROCESSOR, PROPERTY};
 use input::linked::Input;
-use input::record::{kind_at, next_at, second_at};
+use input::record::{kind_at, second_at};
 use items::dt_node::{NodePlace, place_node, settle_aside};
 use items::dt_property::lower_dt_property;
 use items::item::handle_dts_directive;
@@ -39,10 +39,8 @@ pub fn lower_items(
         (λ p s. lower_items level (chain_at input.entry.words.now input.entry.text.now first) p s) }
 {
     let mut state = ctx;
-    let mut r = first;
-    while r != 0 {
+    for r in input.chain(first) {
         state = lower_item(input, r, parent, nesting, out, bytes, state, level);
-        r = next_at(input.words, r);
     }
     state
 }

@@ -41,8 +41,11 @@ use Rattle.post_checks.specs.meaning.Post.{check_references}
 use Rattle.resolving.specs.machine.Lowers.{Lowers}
 use Rattle.resolving.specs.machine.Leading.{resolution, Leads, target_label}
 use Rattle.post_checks.specs.machine.Checks.{Reports, ReportsLive, text_place, said, target_place}
-use Rattle.resolving.specs.declared.resolve.Resolved.{Resolved}
-use Rattle.resolving.specs.declared.resolve.Resolved.TheVariants as R
+use Rattle.resolving.specs.declared.resolve.Leads.{Leads as Led}
+use Rattle.resolving.specs.declared.resolve.Leads.TheVariants as R
+use Rattle.resolving.specs.declared.resolve.Missing.{Missing}
+use Rattle.resolving.specs.declared.resolve.Missing.TheVariants as M
+use Rattle.std.specs.Prelude.{Result, Ok, Err}
 use Rattle.post_checks.proofs.Checks.{all_first, all_at, chain_kept, reports_none, reports_one, reports_as, reports_under}
 use Rattle.post_checks.proofs.Checks.{reports_then, reports_lower}
 use Rattle.post_checks.proofs.Headers.{no_text}
@@ -210,23 +213,23 @@ label_read {c = c} {words} {bytes} {r} rep z h =
 abbrev on_target : LowerCtx → List ℕ → List ℕ → declared.Span → ℕ → List Diag
 on_target c words bytes span r = check_target (said c words bytes) (meant span) (target_at words bytes r)
 
-module _ {c : LowerCtx} {words bytes : List ℕ} (r : ℕ) (span : declared.Span) (v : Resolved)
+module _ {c : LowerCtx} {words bytes : List ℕ} (r : ℕ) (span : declared.Span) (v : Result Led Missing)
     (e : resolution words bytes (target_label words bytes r) (second_text words bytes r) v ≡ resolve (target_at words bytes r)
     (read_bindings words bytes c.binds.first) (read_defs words bytes c.defs.first)) where
   module _ {d : LowerCtx} {w b : List ℕ} (h : Keeps c d words bytes w b) where
-    pub target_label_lem : (at : PathAt) → v ≡ R.NoLabel → at ≡ target_place words r
+    pub target_label_lem : (at : PathAt) → v ≡ Err M.NoLabel → at ≡ target_place words r
         → Steps c d words bytes w b (emit (diag_made 3 (path_in c.bytes bytes at) span no_span ∷ []))
         → Reports c d words bytes w b (r ∷ []) (on_target c words bytes span r)
     unfolding said resolution
     target_label_lem at q p t = rw (← e, q) (reports_as (reports_one h t) (λ k s rep z a. rw (p, label_read rep z (all_first a)) refl))
 
-    pub target_node : (code : ℕ) (at : PathAt) → v ≡ R.NoNode code → at ≡ placed_in words r 4
+    pub target_node : (code : ℕ) (at : PathAt) → v ≡ Err (M.NoNode code) → at ≡ placed_in words r 4
         → Steps c d words bytes w b (emit (diag_made code (path_in c.bytes bytes at) span no_span ∷ []))
         → Reports c d words bytes w b (r ∷ []) (on_target c words bytes span r)
     unfolding said resolution
     target_node code at q p t = rw (← e, q) (reports_as (reports_one h t) (λ k s rep z a. rw (p, second_place_lem rep z (all_first a)) refl))
 
-    pub target_below_lem : (code x : ℕ) (base at : PathAt) → v ≡ R.NoNodeBelow code x → base ≡ placed_in words x 4 → at ≡ placed_in words r 4
+    pub target_below_lem : (code x : ℕ) (base at : PathAt) → v ≡ Err (M.NoNodeBelow code x) → base ≡ placed_in words x 4 → at ≡ placed_in words r 4
         → Leads words bytes c.binds.first c.defs.first (target_label words bytes r) (second_text words bytes r) v
         → Steps c d words bytes w b (emit (diag_made code (joined (path_in c.bytes bytes base) (path_in c.bytes bytes at) []) span no_span
         ∷ []))
@@ -237,21 +240,12 @@ module _ {c : LowerCtx} {words bytes : List ℕ} (r : ℕ) (span : declared.Span
         (reports_as (reports_one h t)
         (λ k s rep z a. rw (f, p, second_place_lem rep z (all_first a), below_text x (second_text words bytes r) rep z (rw q at i)) refl))
 
-  pub target_bound : (x : ℕ) → v ≡ R.Bound x → Reports c c words bytes words bytes (r ∷ []) (on_target c words bytes span r)
+  pub target_led : (to : Led) → v ≡ Ok to → Reports c c words bytes words bytes (r ∷ []) (on_target c words bytes span r)
   unfolding said resolution
-  target_bound x q = rw (← e, q) (reports_none c words bytes (r ∷ []))
-
-  pub target_under : (x : ℕ) → v ≡ R.BoundPath x → Reports c c words bytes words bytes (r ∷ []) (on_target c words bytes span r)
-  unfolding said resolution
-  target_under x q = rw (← e, q) (reports_none c words bytes (r ∷ []))
-
-  pub target_there : v ≡ R.AtPath → Reports c c words bytes words bytes (r ∷ []) (on_target c words bytes span r)
-  unfolding said resolution
-  target_there q = rw (← e, q) (reports_none c words bytes (r ∷ []))
-
-  pub target_named : (x : ℕ) → v ≡ R.Node x → Reports c c words bytes words bytes (r ∷ []) (on_target c words bytes span r)
-  unfolding said resolution
-  target_named x q = rw (← e, q) (reports_none c words bytes (r ∷ []))
+  target_led (R.Bound x) q = rw (← e, q) (reports_none c words bytes (r ∷ []))
+  target_led (R.BoundPath x) q = rw (← e, q) (reports_none c words bytes (r ∷ []))
+  target_led R.AtPath q = rw (← e, q) (reports_none c words bytes (r ∷ []))
+  target_led (R.Node x) q = rw (← e, q) (reports_none c words bytes (r ∷ []))
 
 -- the reports on a cell, a value and a definition, by their kinds
 module _ (c : LowerCtx) (words bytes : List ℕ) (s : State) (span : Span) (r n : ℕ) (e : n ≡ kind_of words r) where

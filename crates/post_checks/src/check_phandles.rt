@@ -22,7 +22,7 @@ use making::place::{PathAt, first_place, second_place};
 use paths_numbers::codes::LABEL_NOT_FOUND;
 use queries::live::live_list;
 use queries::mir::sets_overlay_in;
-use resolving::resolve::{Resolved, resolve_target};
+use resolving::resolve::{Missing, resolve_target};
 
 // Reports references of live properties that lead nowhere, unless the log is an overlay.
 pub fn check_phandles(out: &mut [u32], bytes: &mut [u8], ctx: LowerCtx) -> LowerCtx
@@ -158,15 +158,12 @@ fn check_phandle(out: &mut [u32], bytes: &mut [u8], ctx: LowerCtx, span: Span, r
     let label = target_place(out, r);
     let path = second_place(out, r);
     match resolve_target(out, bytes, ctx.binds.first, ctx.defs.first, r) {
-        Resolved::NoLabel => ctx.emit_copied(out, bytes, LABEL_NOT_FOUND, span, none, label),
-        Resolved::NoNode(code) => ctx.emit_copied(out, bytes, code, span, none, path),
-        Resolved::NoNodeBelow(code, b) => {
+        Ok(_) => ctx,
+        Err(Missing::NoLabel) => ctx.emit_copied(out, bytes, LABEL_NOT_FOUND, span, none, label),
+        Err(Missing::NoNode(code)) => ctx.emit_copied(out, bytes, code, span, none, path),
+        Err(Missing::NoNodeBelow(code, b)) => {
             ctx.emit_joined_at(out, bytes, code, span, second_place(out, b), path)
         }
-        Resolved::Bound(_) => ctx,
-        Resolved::BoundPath(_) => ctx,
-        Resolved::AtPath => ctx,
-        Resolved::Node(_) => ctx,
     }
 }
 

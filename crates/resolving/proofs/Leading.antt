@@ -26,7 +26,7 @@ use Rattle.queries.specs.declared.lookup.Lookup.{Lookup}
 use Rattle.queries.specs.declared.lookup.Lookup.TheVariants as L
 use Rattle.queries.proofs.LookedUp.{found_live}
 use Rattle.paths_numbers.specs.meaning.Reference.{Target, label, label_path, path}
-use Rattle.resolving.specs.meaning.Resolve.{first_binding, by_lookup, by_label, below_label, live_at, resolve, reaches}
+use Rattle.resolving.specs.meaning.Resolve.{first_binding, by_lookup, by_label, below_label, live_at, resolve}
 use Rattle.resolving.specs.meaning.Resolve.{missing}
 use Rattle.input.specs.machine.PhandleRead.{label_at, path_at, phandle_read}
 use Rattle.input.specs.declared.report.Report.{Report}
@@ -45,9 +45,11 @@ use Rattle.making.proofs.InHand.{represents_defs, binding_path as path_of_bindin
 use Rattle.queries.specs.meaning.Kind.{sets_overlay}
 use Rattle.input.specs.meaning.Report.{report}
 use Rattle.resolving.specs.declared.resolve.Found.{Found}
-use Rattle.resolving.specs.declared.resolve.Resolved.{Resolved}
 use Rattle.resolving.proofs.Under.{emit_none}
-use Rattle.resolving.specs.declared.resolve.Resolved.TheVariants as R
+use Rattle.resolving.specs.declared.resolve.Leads.{Leads as Led}
+use Rattle.resolving.specs.declared.resolve.Leads.TheVariants as R
+use Rattle.resolving.specs.declared.resolve.Missing.{Missing}
+use Rattle.resolving.specs.declared.resolve.Missing.TheVariants as M
 
 -- the last number of a list with one more
 pub last_snoc : (ns : List ℕ) (n : ℕ) → last_number (ns ++ n ∷ []) ≡ n
@@ -168,17 +170,17 @@ unfolding joined with_unit is_empty
 joined_plain parent name = refl
 
 -- where a reference leads by the look-up of its own path, and of the path below binding n's
-abbrev pub path_led : Lookup → Resolved
-path_led L.Exact = R.AtPath
-path_led L.NoNode = R.NoNode node_not_found
-path_led (L.Node r) = R.Node r
-path_led L.Several = R.NoNode node_ambiguous
+abbrev pub path_led : Lookup → Result Led Missing
+path_led L.Exact = Ok R.AtPath
+path_led L.NoNode = Err (M.NoNode node_not_found)
+path_led (L.Node r) = Ok (R.Node r)
+path_led L.Several = Err (M.NoNode node_ambiguous)
 
-abbrev pub below_led : ℕ → Lookup → Resolved
-below_led n L.Exact = R.BoundPath n
-below_led n L.NoNode = R.NoNodeBelow node_not_found n
-below_led n (L.Node r) = R.Node r
-below_led n L.Several = R.NoNodeBelow node_ambiguous n
+abbrev pub below_led : ℕ → Lookup → Result Led Missing
+below_led n L.Exact = Ok (R.BoundPath n)
+below_led n L.NoNode = Err (M.NoNodeBelow node_not_found n)
+below_led n (L.Node r) = Ok (R.Node r)
+below_led n L.Several = Err (M.NoNodeBelow node_ambiguous n)
 
 module _ (words bytes l p : List ℕ) where
   path_led_lem : (v : Lookup) → resolution words bytes l p (path_led v) ≡ by_lookup p (looked_up words bytes p v)
@@ -199,17 +201,17 @@ module _ (words bytes l p : List ℕ) where
 -- where a reference leads
 module _ (words bytes l p : List ℕ) where
   module _ (first : ℕ) (h : any (has_text words bytes l) (chain_of words first) ≡ false) where
-    pub no_label : resolution words bytes l p R.NoLabel ≡ by_label l (first_binding l (read_bindings words bytes first))
+    pub no_label : resolution words bytes l p (Err M.NoLabel) ≡ by_label l (first_binding l (read_bindings words bytes first))
     unfolding resolution
     no_label = rw (label_missing words bytes l first h) refl
 
-    pub no_label_below : (defs : List Def) → resolution words bytes l p R.NoLabel ≡ below_label l p
+    pub no_label_below : (defs : List Def) → resolution words bytes l p (Err M.NoLabel) ≡ below_label l p
         (first_binding l (read_bindings words bytes first)) defs
     unfolding resolution
     no_label_below defs = rw (label_missing words bytes l first h) refl
 
   module _ {first n previous : ℕ} (x : FirstAt words bytes first l n previous) where
-    pub leads_label : resolution words bytes l p (R.Bound n) ≡ by_label l (first_binding l (read_bindings words bytes first))
+    pub leads_label : resolution words bytes l p (Ok (R.Bound n)) ≡ by_label l (first_binding l (read_bindings words bytes first))
     unfolding resolution
     leads_label = rw (label_there words bytes l x) refl
 
@@ -273,7 +275,7 @@ node_there : (words : List ℕ) (first r : ℕ) → any (eqb r) (chain_of words 
 node_there words first r h = let i = number_in r (chain_of words first) h in record { before = i.0; after = i.1; chain = i.2 }
 
 module _ {words bytes : List ℕ} {binds defs : ℕ} {l p : List ℕ} where
-  bound_in : (v : Resolved) {n previous : ℕ} → FirstAt words bytes binds l n previous → bound_by v ≡ some n
+  bound_in : (v : Result Led Missing) {n previous : ℕ} → FirstAt words bytes binds l n previous → bound_by v ≡ some n
       → Leads words bytes binds defs l p v
   bound_in v {n} w e =
       record {
@@ -283,8 +285,8 @@ module _ {words bytes : List ℕ} {binds defs : ℕ} {l p : List ℕ} where
         named = λ r q. let i : none ≡ some n = sym (ap bound_by q) ∙ e in let x : ◌≡◌ {A = ℕ} 0 1 = cc in absurd (omega arith);
       }
 
-  none_in : (v : Resolved) → bound_by v ≡ none → (v ≡ R.AtPath → contains_node p (read_defs words bytes defs) ≡ true)
-      → ((r : ℕ) → v ≡ R.Node r → InChain words defs r) → Leads words bytes binds defs l p v
+  none_in : (v : Result Led Missing) → bound_by v ≡ none → (v ≡ Ok R.AtPath → contains_node p (read_defs words bytes defs) ≡ true)
+      → ((r : ℕ) → v ≡ Ok (R.Node r) → InChain words defs r) → Leads words bytes binds defs l p v
   none_in v e a n =
       record {
         there = λ r q. let z : ◌≡◌ {A = ℕ} 0 1 = cc in absurd (omega arith);
@@ -294,28 +296,28 @@ module _ {words bytes : List ℕ} {binds defs : ℕ} {l p : List ℕ} where
       }
 
   -- by the label's binding, and nowhere for its label
-  pub label_in_lem : {n previous : ℕ} → FirstAt words bytes binds l n previous → Leads words bytes binds defs l p (R.Bound n)
-  label_in_lem {n} w = bound_in (R.Bound n) w refl
+  pub label_in_lem : {n previous : ℕ} → FirstAt words bytes binds l n previous → Leads words bytes binds defs l p (Ok (R.Bound n))
+  label_in_lem {n} w = bound_in (Ok (R.Bound n)) w refl
 
-  pub no_label_in : Leads words bytes binds defs l p R.NoLabel
+  pub no_label_in : Leads words bytes binds defs l p (Err M.NoLabel)
   no_label_in =
-      none_in R.NoLabel refl (λ q. let z : ◌≡◌ {A = ℕ} 0 1 = cc in absurd (omega arith))
+      none_in (Err M.NoLabel) refl (λ q. let z : ◌≡◌ {A = ℕ} 0 1 = cc in absurd (omega arith))
       (λ r q. let z : ◌≡◌ {A = ℕ} 0 1 = cc in absurd (omega arith))
 
   -- by a definition, and nowhere for its path
-  node_in_lem : (n : ℕ) → any (eqb n) (chain_of words defs) ≡ true → Leads words bytes binds defs l p (R.Node n)
+  node_in_lem : (n : ℕ) → any (eqb n) (chain_of words defs) ≡ true → Leads words bytes binds defs l p (Ok (R.Node n))
   node_in_lem n h =
-      none_in (R.Node n) refl (λ q. let z : ◌≡◌ {A = ℕ} 0 1 = cc in absurd (omega arith))
+      none_in (Ok (R.Node n)) refl (λ q. let z : ◌≡◌ {A = ℕ} 0 1 = cc in absurd (omega arith))
       (λ r q. let i : n ≡ r = cc in rw (← i) (node_there words defs n h))
 
-  no_node_in : (code : ℕ) → Leads words bytes binds defs l p (R.NoNode code)
+  no_node_in : (code : ℕ) → Leads words bytes binds defs l p (Err (M.NoNode code))
   no_node_in code =
-      none_in (R.NoNode code) refl (λ q. let z : ◌≡◌ {A = ℕ} 0 1 = cc in absurd (omega arith))
+      none_in (Err (M.NoNode code)) refl (λ q. let z : ◌≡◌ {A = ℕ} 0 1 = cc in absurd (omega arith))
       (λ r q. let z : ◌≡◌ {A = ℕ} 0 1 = cc in absurd (omega arith))
 
   path_in_lem : (v : Lookup) → AnswersLookup words bytes defs p v → Leads words bytes binds defs l p (path_led v)
   path_in_lem L.Exact a =
-      none_in R.AtPath refl (λ q. found_live p (read_defs words bytes defs) p (sym a.0))
+      none_in (Ok R.AtPath) refl (λ q. found_live p (read_defs words bytes defs) p (sym a.0))
       (λ r q. let z : ◌≡◌ {A = ℕ} 0 1 = cc in absurd (omega arith))
   path_in_lem L.NoNode a = no_node_in node_not_found
   path_in_lem (L.Node n) a = node_in_lem n a.1
@@ -324,27 +326,27 @@ module _ {words bytes : List ℕ} {binds defs : ℕ} {l p : List ℕ} where
   below_in : {n previous : ℕ} → FirstAt words bytes binds l n previous → (v : Lookup) (q : List ℕ)
       → AnswersLookup words bytes defs q v
       → Leads words bytes binds defs l p (below_led n v)
-  below_in {n} w L.Exact q a = bound_in (R.BoundPath n) w refl
-  below_in {n} w L.NoNode q a = bound_in (R.NoNodeBelow node_not_found n) w refl
+  below_in {n} w L.Exact q a = bound_in (Ok (R.BoundPath n)) w refl
+  below_in {n} w L.NoNode q a = bound_in (Err (M.NoNodeBelow node_not_found n)) w refl
   below_in w (L.Node m) q a = node_in_lem m a.1
-  below_in {n} w L.Several q a = bound_in (R.NoNodeBelow node_ambiguous n) w refl
+  below_in {n} w L.Several q a = bound_in (Err (M.NoNodeBelow node_ambiguous n)) w refl
 
 -- what the look-ups answer
-pub answers_path : {words bytes : List ℕ} {defs : ℕ} {p : List ℕ} (v : Lookup) (o : Resolved) → o ≡ path_led v
+pub answers_path : {words bytes : List ℕ} {defs : ℕ} {p : List ℕ} (v : Lookup) (o : Result Led Missing) → o ≡ path_led v
     → AnswersLookup words bytes defs p v → AnswersPath words bytes defs p o
 answers_path {words} {bytes} {defs} {p} v o e a =
     rw e ((λ l. leads_path words bytes l p (read_defs words bytes defs) v a.0), (λ l k. path_in_lem v a))
 
 pub answers_below : {words bytes : List ℕ} {binds defs : ℕ} {l p : List ℕ} {n previous : ℕ} → FirstAt words bytes binds l n previous
-    → (v : Lookup) (o : Resolved) → o ≡ below_led n v
+    → (v : Lookup) (o : Result Led Missing) → o ≡ below_led n v
     → AnswersLookup words bytes defs (joined (second_text words bytes n) p []) v → AnswersBelow words bytes binds defs l p o
 answers_below {words} {bytes} {defs = defs} {l} {p} w v o e a =
     rw e (leads_below words bytes l p w (read_defs words bytes defs) v a.0, below_in w v _ a)
 
 -- what a reference that leads nowhere reports
-pub reports_overlay : {v : Resolved} {l p : List ℕ} {span : Span} {c : LowerCtx} {words bytes : List ℕ}
+pub reports_overlay : {m : Missing} {l p : List ℕ} {span : Span} {c : LowerCtx} {words bytes : List ℕ}
     → sets_overlay (read_defs words bytes c.defs.first) ≡ true
-    → ReportsMissing v l p span c c words bytes words bytes
+    → ReportsMissing m l p span c c words bytes words bytes
 reports_overlay o =
     record {
       reports = λ k s code text h n i e.
@@ -352,12 +354,12 @@ reports_overlay o =
           rw (t, emit_none s) h;
     }
 
-module _ {v : Resolved} {l p : List ℕ} {span : Span} {c d : LowerCtx} {words bytes w b : List ℕ} where
+module _ {m : Missing} {l p : List ℕ} {span : Span} {c d : LowerCtx} {words bytes w b : List ℕ} where
   module _ (o : sets_overlay (read_defs words bytes c.defs.first) ≡ false) where
-    pub reports_one : (code : ℕ) (text told : List ℕ) → resolution words bytes l p v ≡ missing code text
+    pub reports_one : (code : ℕ) (text told : List ℕ) → resolution words bytes l p (Err m) ≡ missing code text
         → ((k : Context) (s : State) → Represents k c words bytes s → c.short ≡ false
-        → Leads words bytes c.binds.first c.defs.first l p v → told ≡ text)
-        → Steps c d words bytes w b (emit (report code told span ∷ [])) → ReportsMissing v l p span c d words bytes w b
+        → Leads words bytes c.binds.first c.defs.first l p (Err m) → told ≡ text)
+        → Steps c d words bytes w b (emit (report code told span ∷ [])) → ReportsMissing m l p span c d words bytes w b
     reports_one code text told r g f =
         record {
           reports = λ k s code' text' h n i e.
@@ -367,53 +369,34 @@ module _ {v : Resolved} {l p : List ℕ} {span : Span} {c d : LowerCtx} {words b
               rw (t, ← x, ← y, ← g k s h n i) (f.steps k s h n);
         }
 
-  pub reports_never : (q : List ℕ) → resolution words bytes l p v ≡ reaches q → ReportsMissing v l p span c d words bytes w b
-  reports_never q r = record { reports = λ k s code text h n i e. let z : ◌≡◌ {A = ℕ} 0 1 = cc in absurd (omega arith) }
-
 -- the text of a path below a binding's
 pub below_text : {k : Context} {c : LowerCtx} {words bytes : List ℕ} {s : State} (r : ℕ) {l : List ℕ} (p : List ℕ)
     → Represents k c words bytes s → c.short ≡ false
-    → {code : ℕ} → Leads words bytes c.binds.first c.defs.first l p (R.NoNodeBelow code r)
+    → {code : ℕ} → Leads words bytes c.binds.first c.defs.first l p (Err (M.NoNodeBelow code r))
     → joined (path_in c.bytes bytes (placed_in words r 4)) p [] ≡ joined (second_text words bytes r) p []
 below_text r p h n i =
     let x = i.there r refl in
     ap (λ (q : List ℕ). joined q p []) (path_of_binding h n x.before x.after r x.chain)
 
 -- a report by what was not found
-module _ {v : Resolved} {l p : List ℕ} {span : LogSpan} {c d : LowerCtx} {words bytes w b : List ℕ} where
-  pub missing_label : v ≡ R.NoLabel → sets_overlay (read_defs words bytes c.defs.first) ≡ false
+module _ {m : Missing} {l p : List ℕ} {span : LogSpan} {c d : LowerCtx} {words bytes w b : List ℕ} where
+  pub missing_label : m ≡ M.NoLabel → sets_overlay (read_defs words bytes c.defs.first) ≡ false
       → Steps c d words bytes w b (emit (diag_made 3 l span no_span ∷ []))
-      → ReportsMissing v l p (meant span) c d words bytes w b
+      → ReportsMissing m l p (meant span) c d words bytes w b
   unfolding resolution
   missing_label e o f = rw e (reports_one o 3 l l refl (λ k s h n i. refl) f)
 
-  pub missing_node : (code : ℕ) → v ≡ R.NoNode code → sets_overlay (read_defs words bytes c.defs.first) ≡ false
+  pub missing_node : (code : ℕ) → m ≡ M.NoNode code → sets_overlay (read_defs words bytes c.defs.first) ≡ false
       → Steps c d words bytes w b (emit (diag_made code p span no_span ∷ []))
-      → ReportsMissing v l p (meant span) c d words bytes w b
+      → ReportsMissing m l p (meant span) c d words bytes w b
   unfolding resolution
   missing_node code e o f = rw e (reports_one o code p p refl (λ k s h n i. refl) f)
 
-  pub missing_below : (code r : ℕ) {place : PathAt} {unit : List ℕ} → v ≡ R.NoNodeBelow code r → place ≡ placed_in words r 4 → unit ≡ []
+  pub missing_below : (code r : ℕ) {place : PathAt} {unit : List ℕ} → m ≡ M.NoNodeBelow code r → place ≡ placed_in words r 4 → unit ≡ []
       → sets_overlay (read_defs words bytes c.defs.first) ≡ false
       → Steps c d words bytes w b (emit (diag_made code (joined (path_in c.bytes bytes place) p unit) span no_span ∷ []))
-      → ReportsMissing v l p (meant span) c d words bytes w b
+      → ReportsMissing m l p (meant span) c d words bytes w b
   unfolding resolution
   missing_below code r e x y o f =
       rw e (reports_one o code (joined (second_text words bytes r) p []) (joined (path_in c.bytes bytes (placed_in words r 4)) p []) refl
       (λ k s h n i. below_text r p h n i) (rw (x, y) at f))
-
-  pub never_bound : {r : ℕ} → v ≡ R.Bound r → ReportsMissing v l p (meant span) c d words bytes w b
-  unfolding resolution
-  never_bound {r} e = rw e (reports_never (second_text words bytes r) refl)
-
-  pub never_below : {r : ℕ} → v ≡ R.BoundPath r → ReportsMissing v l p (meant span) c d words bytes w b
-  unfolding resolution
-  never_below {r} e = rw e (reports_never (joined (second_text words bytes r) p []) refl)
-
-  pub never_path : v ≡ R.AtPath → ReportsMissing v l p (meant span) c d words bytes w b
-  unfolding resolution
-  never_path e = rw e (reports_never p refl)
-
-  pub never_node : {r : ℕ} → v ≡ R.Node r → ReportsMissing v l p (meant span) c d words bytes w b
-  unfolding resolution
-  never_node {r} e = rw e (reports_never (first_text words bytes r) refl)

@@ -3,18 +3,20 @@ use Prim.Native.Nat.{ℕ}
 use mathlib.Core.Path.{◌≡◌, refl, sym, ◌∙◌}
 use mathlib.Core.List.{List, []}
 use borrow.Author.Tests.{ne_eqb}
+use Rattle.std.specs.Prelude.{Result, Err}
 use Rattle.definition_log.specs.meaning.Contents.{Def, Binding}
 use Rattle.definition_log.specs.meaning.Record.{n_of, first_text, second_text}
 use Rattle.definition_log.specs.meaning.ReadBack.{target_at, read_defs, read_bindings}
 use Rattle.resolving.specs.meaning.Resolve.{first_binding, by_label, below_label, live_at, resolve}
 use Rattle.resolving.specs.machine.Leading.{resolution, target_label, Leads, AnswersTarget}
-use Rattle.resolving.specs.declared.resolve.Resolved.{Resolved}
-use Rattle.resolving.specs.declared.resolve.Resolved.TheVariants as R
+use Rattle.resolving.specs.declared.resolve.Leads.{Leads as Led}
+use Rattle.resolving.specs.declared.resolve.Missing.{Missing}
+use Rattle.resolving.specs.declared.resolve.Missing.TheVariants as M
 use Rattle.resolving.proofs.Leading.{no_label_in}
 
 -- with a label, with a label and a path, with a path, or with none of them
 module _ (words bytes : List ℕ) (r n : ℕ) (e : n ≡ n_of words r) where
-  module _ (binds defs : ℕ) (v : Resolved) where
+  module _ (binds defs : ℕ) (v : Result Led Missing) where
     abbrev bs : List Binding
     bs = read_bindings words bytes binds
 
@@ -42,7 +44,7 @@ module _ (words bytes : List ℕ) (r n : ℕ) (e : n ≡ n_of words r) where
     unfolding target_label target_at resolve
     answers_path h x y = let q : n_of words r ≡ 3 = sym e ∙ h in rw q (x [], y [] binds)
 
-  pub answers_none : (binds defs : ℕ) → (n ≡ 1 → ⊥) → (n ≡ 2 → ⊥) → (n ≡ 3 → ⊥) → Answers binds defs R.NoLabel
+  pub answers_none : (binds defs : ℕ) → (n ≡ 1 → ⊥) → (n ≡ 2 → ⊥) → (n ≡ 3 → ⊥) → Answers binds defs (Err M.NoLabel)
   unfolding target_label target_at resolve resolution
   answers_none binds defs f g h =
       let a = ne_eqb (n_of words r) 1 (λ q. f (e ∙ q)) in

@@ -20,14 +20,18 @@ use queries::lookup::{Lookup, lookup_in, lookup_path};
 use queries::mir::sets_overlay_in;
 
 // Where a reference leads: to the path of a binding, to its own path below that, to its own path, or to the
-// path of a definition; or nowhere, for its label, or with a code for its own path or the path below a
-// binding's.
-#[derive(Clone, Copy)]
-pub enum Resolved {
+// path of a definition.
+#[derive(Clone, Copy, Debug, PartialEq, Eq)]
+pub enum Leads {
     Bound(u32),
     BoundPath(u32),
     AtPath,
     Node(u32),
+}
+
+// One that leads nowhere: for its label, or with a code for its own path or the path below a binding's.
+#[derive(Clone, Copy, Debug, PartialEq, Eq)]
+pub enum Missing {
     NoLabel,
     NoNode(u32),
     NoNodeBelow(u32, u32),
@@ -50,11 +54,11 @@ pub fn resolve_phandle(
     bytes: &[u8],
     binds: u32,
     defs: u32,
-) -> Resolved
+) -> Result<Leads, Missing>
     ensures { AnswersPhandle words.now text.now r read out.now bytes.now binds defs result }
 {
     let Ok(kind) = read else {
-        return Resolved::NoLabel;
+        return Err(Missing::NoLabel);
     };
     let label = phandle_label_at(words, text, r);
     let path = phandle_path_at(words, text, r);
@@ -66,7 +70,7 @@ pub fn resolve_phandle(
 }
 
 // Where a reference of a log leads, by its record.
-pub fn resolve_target(out: &[u32], bytes: &[u8], binds: u32, defs: u32, r: u32) -> Resolved
+pub fn resolve_target(out: &[u32], bytes: &[u8], binds: u32, defs: u32, r: u32) -> Result<Leads, Missing>
     ensures { AnswersTarget out.now bytes.now binds defs r result }
 {
     let n = out_field(out, r, layout::N);
@@ -81,17 +85,17 @@ pub fn resolve_target(out: &[u32], bytes: &[u8], binds: u32, defs: u32, r: u32) 
     if n == 3 {
         return resolve_path(out, bytes, defs, path);
     }
-    Resolved::NoLabel
+    Err(Missing::NoLabel)
 }
 
 // Where a label leads.
-pub fn resolve_label(out: &[u32], bytes: &[u8], binds: u32, label: &[u8]) -> Resolved
+pub fn resolve_label(out: &[u32], bytes: &[u8], binds: u32, label: &[u8]) -> Result<Leads, Missing>
     ensures { AnswersLabel out.now bytes.now binds label.now result }
 {
     let Some(found) = first_with(out, bytes, binds, label) else {
-        return Resolved::NoLabel;
+        return Err(Missing::NoLabel);
     };
-    Resolved::Bound(found.number)
+    Ok(Leads::Bound(found.number))
 }
 
 // Where a path below a label leads.
@@ -102,31 +106,31 @@ pub fn resolve_below(
     defs: u32,
     label: &[u8],
     path: &[u8],
-) -> Resolved
+) -> Result<Leads, Missing>
     ensures { AnswersBelow out.now bytes.now binds defs label.now path.now result }
 {
     let Some(found) = first_with(out, bytes, binds, label) else {
-        return Resolved::NoLabel;
+        return Err(Missing::NoLabel);
     };
     let number = found.number;
     let base = second_text(out, bytes, number);
     match lookup_path(out, bytes, defs, base, path) {
-        Lookup::Exact => Resolved::BoundPath(number),
-        Lookup::Node(node) => Resolved::Node(node),
-        Lookup::NoNode => Resolved::NoNodeBelow(NODE_NOT_FOUND, number),
-        Lookup::Several => Resolved::NoNodeBelow(NODE_AMBIGUOUS, number),
+        Lookup::Exact => Ok(Leads::BoundPath(number)),
+        Lookup::Node(node) => Ok(Leads::Node(node)),
+        Lookup::NoNode => Err(Missing::NoNodeBelow(NODE_NOT_FOUND, number)),
+        Lookup::Several => Err(Missing::NoNodeBelow(NODE_AMBIGUOUS, number)),
     }
 }
 
 // Where a path leads.
-pub fn resolve_path(out: &[u32], bytes: &[u8], defs: u32, path: &[u8]) -> Resolved
+pub fn resolve_path(out: &[u32], bytes: &[u8], defs: u32, path: &[u8]) -> Result<Leads, Missing>
     ensures { AnswersPath out.now bytes.now defs path.now result }
 {
     match lookup_in(out, bytes, defs, path) {
-        Lookup::Exact => Resolved::AtPath,
-        Lookup::Node(r) => Resolved::Node(r),
-        Lookup::NoNode => Resolved::NoNode(NODE_NOT_FOUND),
-        Lookup::Several => Resolved::NoNode(NODE_AMBIGUOUS),
+        Lookup::Exact => Ok(Leads::AtPath),
+        Lookup::Node(r) => Ok(Leads::Node(r)),
+        Lookup::NoNode => Err(Missing::NoNode(NODE_NOT_FOUND)),
+        Lookup::Several => Err(Missing::NoNode(NODE_AMBIGUOUS)),
     }
 }
 
@@ -152,22 +156,22 @@ pub fn report_unresolved(
     ctx: LowerCtx,
     out: &mut [u32],
     bytes: &mut [u8],
-    v: Resolved,
+    missing: Missing,
     label: &[u8],
     path: &[u8],
     span: Span,
 ) -> LowerCtx
-    ensures { ReportsMissing v label.now path.now (meant span) ctx result out.old bytes.old
+    ensures { ReportsMissing missing label.now path.now (meant span) ctx result out.old bytes.old
         out.new bytes.new }
 {
     if sets_overlay_in(out, ctx.defs.first) {
         return ctx;
     }
     let none = Span { from: 0, to: 0 };
-    match v {
-        Resolved::NoLabel => ctx.emit(out, bytes, LABEL_NOT_FOUND, label, span, none),
-        Resolved::NoNode(code) => ctx.emit(out, bytes, code, path, span, none),
-        Resolved::NoNodeBelow(code, b) => ctx.emit_joined(
+    match missing {
+        Missing::NoLabel => ctx.emit(out, bytes, LABEL_NOT_FOUND, label, span, none),
+        Missing::NoNode(code) => ctx.emit(out, bytes, code, path, span, none),
+        Missing::NoNodeBelow(code, b) => ctx.emit_joined(
             out,
             bytes,
             code,
@@ -176,9 +180,5 @@ pub fn report_unresolved(
             path,
             no_text(path),
         ),
-        Resolved::Bound(_) => ctx,
-        Resolved::BoundPath(_) => ctx,
-        Resolved::AtPath => ctx,
-        Resolved::Node(_) => ctx,
     }
 }

@@ -1,18 +1,21 @@
 -- The removal of bindings as it goes along their chain.
-use Rattle.std.specs.Prelude.{ℕ, ◌+◌, ◌≤◌, ◌≡◌, Bool, true, false, not, cond, List, [], ◌∷◌, ◌++◌, length}
+use Rattle.std.specs.Prelude.{ℕ, ◌+◌, ◌≤◌, ◌≡◌, Bool, true, false, cond, List, [], ◌∷◌, ◌++◌, length}
+use Rattle.std.specs.Prelude.{Option as Maybe, Some, None, MatchOption}
+use Rattle.std.specs.Borrow.{Bor}
 use Rattle.paths_numbers.specs.meaning.Text.{same}
 use Rattle.paths_numbers.specs.meaning.Path.{joined}
 use Rattle.making.specs.declared.ctx.LowerCtx.{LowerCtx}
 use Rattle.making.specs.declared.place.PathAt.{PathAt}
 use Rattle.definition_log.specs.meaning.Contents.{Binding}
-use Rattle.definition_log.specs.meaning.Record.{one_of, first_text, second_text, log_count}
+use Rattle.definition_log.specs.meaning.Record.{one_of, second_text, log_count}
 use Rattle.definition_log.specs.meaning.ReadBack.{chain_from, chain_of, binding_at, read_defs}
 use Rattle.making.specs.machine.PathPlaces.{path_in}
 use Rattle.making.specs.meaning.State.{State}
 use Rattle.making.specs.machine.Represents.{Context, with_place, Represents, last_number, Unlinks}
 use Rattle.paths_numbers.specs.meaning.Lists.{any}
 use Rattle.queries.specs.meaning.Live.{live}
-use Rattle.queries.specs.machine.Pass.{goes_on}
+use Rattle.definition_log.specs.machine.ChainLeft.{Stopped, Stepped}
+use Rattle.definition_log.specs.declared.chain.Walk.{Walk as Cursor}
 use Rattle.items.specs.meaning.Unbind.{binds_label_of, without, unbind}
 use Rattle.items.specs.declared.unbind.Base.{Base}
 use Rattle.items.specs.declared.unbind.Base.TheVariants.{Named, There, Given, Bound, BoundPath}
@@ -30,9 +33,15 @@ base_of used words bytes name unit (BoundPath r) = joined (second_text words byt
 unfoldable pub goes_with : List ℕ → List ℕ → ℕ → List ℕ → ℕ → Bool
 goes_with words bytes defs base r = any (binds_label_of (binding_at words bytes r)) (live base (read_defs words bytes defs))
 
--- a walk passes a record that is left, but for one with the label at which it stops
-unfoldable pub passes_at : List ℕ → List ℕ → Bool → List ℕ → ℕ → ℕ → Bool
-passes_at words bytes stops label r left = cond (goes_on words r left) (cond stops (not (same (first_text words bytes r) label)) true) false
+-- a label that is lent, where one is
+abbrev pub text_of : Maybe (Bor (List ℕ)) → Maybe (List ℕ)
+text_of None = None
+text_of (Some l) = Some l.now
+
+-- a walk stops at a binding with this label, where there is one
+abbrev pub stop_of : Maybe (List ℕ) → Binding → Bool
+stop_of None x = false
+stop_of (Some l) x = same x.label l
 
 -- a state with other bindings
 abbrev pub with_binds : State → List Binding → State
@@ -45,25 +54,25 @@ pub data Passes (c d : LowerCtx) (words bytes w b : List ℕ) (p : List ℕ) (pr
   leaves : goes_with words bytes c.defs.first p r ≡ false → d ≡ c → w ≡ words → b ≡ bytes → Passes c d words bytes w b p previous r r
 
 -- a binding that is not taken out: it was passed, or the walk stops at its label
-pub data Stays (w b : List ℕ) (stops : Bool) (label : List ℕ) (r : ℕ) (ns ms : List ℕ) : Type 0 where
-  passed : one_of r ns ≡ true → Stays w b stops label r ns ms
-  ahead : one_of r ms ≡ true → stops ≡ true → same (first_text w b r) label ≡ true → Stays w b stops label r ns ms
+pub data Stays (w b : List ℕ) (until : Maybe (List ℕ)) (r : ℕ) (ns ms : List ℕ) : Type 0 where
+  passed : one_of r ns ≡ true → Stays w b until r ns ms
+  ahead : one_of r ms ≡ true → stop_of until (binding_at w b r) ≡ true → Stays w b until r ns ms
 
 -- what is read as the base is this path, and stays so
-pub data BaseAt (k : Context) (w b name unit : List ℕ) (stops : Bool) (label : List ℕ) (ns ms : List ℕ) (p : List ℕ) : Base → Type 0 where
+pub data BaseAt (k : Context) (w b name unit : List ℕ) (until : Maybe (List ℕ)) (ns ms : List ℕ) (p : List ℕ) : Base → Type 0 where
   at_named : (place : PathAt) (parent : List ℕ) (k' : Context) → k ≡ with_place (record { at = place; path = parent }) k'
       → p ≡ joined parent name unit
-      → BaseAt k w b name unit stops label ns ms p (Named place)
+      → BaseAt k w b name unit until ns ms p (Named place)
   at_there : (place : PathAt) (k' : Context) → k ≡ with_place (record { at = place; path = p }) k'
-      → BaseAt k w b name unit stops label ns ms p (There place)
-  at_given : p ≡ name → BaseAt k w b name unit stops label ns ms p Given
-  at_bound : (r : ℕ) → Stays w b stops label r ns ms → p ≡ second_text w b r → BaseAt k w b name unit stops label ns ms p (Bound r)
-  at_below : (r : ℕ) → Stays w b stops label r ns ms → p ≡ joined (second_text w b r) name unit
-      → BaseAt k w b name unit stops label ns ms p (BoundPath r)
+      → BaseAt k w b name unit until ns ms p (There place)
+  at_given : p ≡ name → BaseAt k w b name unit until ns ms p Given
+  at_bound : (r : ℕ) → Stays w b until r ns ms → p ≡ second_text w b r → BaseAt k w b name unit until ns ms p (Bound r)
+  at_below : (r : ℕ) → Stays w b until r ns ms → p ≡ joined (second_text w b r) name unit
+      → BaseAt k w b name unit until ns ms p (BoundPath r)
 
 -- a walk along the bindings of what the log said at first, of which those in `front` are left alone: `previous` and r are the last record
 -- passed and the next, of which so many may be left
-pub record Walk (base : Base) (name unit : List ℕ) (stops : Bool) (label : List ℕ) (k : Context) (s : State) (front : List Binding)
+pub record Walk (base : Base) (name unit : List ℕ) (until : Maybe (List ℕ)) (k : Context) (s : State) (front : List Binding)
     (p : List ℕ) (d : LowerCtx) (w b : List ℕ) (previous r left : ℕ) : Type 0 where
   pub done : List Binding
   pub todo : List Binding
@@ -75,21 +84,22 @@ pub record Walk (base : Base) (name unit : List ℕ) (stops : Bool) (label : Lis
   pub sized : length ns ≡ length (front ++ without (live p s.defs) done)
   pub last_is : previous ≡ last_number ns
   pub room : left + length ns ≤ log_count w
-  pub at : BaseAt k w b name unit stops label ns (chain_from left w r) p base
-  pub unlabelled : stops ≡ true → any (λ (x : Binding). same x.label label) done ≡ false
+  pub at : BaseAt k w b name unit until ns (chain_from left w r) p base
+  pub unlabelled : any (stop_of until) done ≡ false
 
--- a walk to its end
-pub record Unbinds (base : Base) (name unit : List ℕ) (stops : Bool) (label : List ℕ) (c : LowerCtx) (words bytes w b : List ℕ)
-    (previous r left : ℕ) (u : Unbound) : Type 0 where
+-- a walk to its end, or to the binding at which it stops
+pub record Unbinds (base : Base) (name unit : List ℕ) (until : Maybe (List ℕ)) (c : LowerCtx) (words bytes w b : List ℕ)
+    (previous : ℕ) (from : Cursor) (u : Unbound) : Type 0 where
+  pub last : Cursor
   pub walks : (k : Context) (s : State) (front : List Binding) (p : List ℕ)
-      → Walk base name unit stops label k s front p c words bytes previous r left
-      → Walk base name unit stops label k s front p u.ctx w b u.previous u.next u.left
-  pub ends : passes_at w b stops label u.next u.left ≡ false
+      → Walk base name unit until k s front p c words bytes previous from.next from.left
+      → Walk base name unit until k s front p u.ctx w b u.previous last.next last.left
+  pub ends : MatchOption u.here (Stopped w last u.rest) (λ r. Stepped w last u.rest r × (stop_of until (binding_at w b r) ≡ true))
 
 -- all bindings of the live nodes at or under a base
 pub record UnbindsAll (base : Base) (name unit : List ℕ) (c d : LowerCtx) (words bytes w b : List ℕ) : Type 0 where
   pub unbinds : (k : Context) (s : State) (p : List ℕ) → Represents k c words bytes s → c.short ≡ false
-      → BaseAt k words bytes name unit false name [] (chain_of words c.binds.first) p base
+      → BaseAt k words bytes name unit None [] (chain_of words c.binds.first) p base
       → Represents k d w b (unbind p s) × (d.short ≡ false)
 
 -- a path by a binding
@@ -112,6 +122,12 @@ pub record UnbindsOthers (below : Bool) (name unit label : List ℕ) (c d : Lowe
       → c.short ≡ false → FirstOfLabel label s xs x ys
       → Represents k d w b (with_binds s (without (live (bound_path below x.path name unit) s.defs) xs ++ x
       ∷ without (live (bound_path below x.path name unit) s.defs) ys)) × (d.short ≡ false)
+
+-- those behind the one at which a walk stopped
+pub record UnbindsBehind (below : Bool) (name unit : List ℕ) (up : Unbound) (d : LowerCtx) (words bytes w b : List ℕ) : Type 0 where
+  pub none_here : up.here ≡ None → (d ≡ up.ctx) × (w ≡ words) × (b ≡ bytes)
+  pub some_here : (r : ℕ) → up.here ≡ Some r
+      → (behind : Unbound) × (Unbinds (bound_base below r) name unit None up.ctx words bytes w b r up.rest behind) × (d ≡ behind.ctx)
 
 -- and that one
 pub record UnlinksFirst (label : List ℕ) (c d : LowerCtx) (words bytes w b : List ℕ) : Type 0 where

@@ -1,5 +1,5 @@
 -- What the search for where a reference leads answers, as the resolution that it stands for.
-use Rattle.std.specs.Prelude.{ℕ, ◌≡◌, Bool, true, false, cond, List, [], ◌∷◌, ◌++◌, eqb, Option as Maybe, Result, MatchOption}
+use Rattle.std.specs.Prelude.{ℕ, ◌≡◌, Bool, true, false, cond, List, [], ◌∷◌, ◌++◌, eqb, Option as Maybe, Result, Ok, Err, MatchOption}
 use Rattle.std.proofs.Math.Option.{Option, some, none}
 use Rattle.paths_numbers.specs.meaning.Text.{same}
 use Rattle.paths_numbers.specs.meaning.Path.{joined}
@@ -19,18 +19,20 @@ use Rattle.input.specs.declared.report.Report.{Report}
 use Rattle.paths_numbers.specs.declared.phandle.MirPhandleTarget.{MirPhandleTarget}
 use Rattle.resolving.specs.meaning.Resolve.{first_binding, Resolution, reaches, missing, live_at, by_label, below_label, resolve}
 use Rattle.resolving.specs.declared.resolve.Found.{Found}
-use Rattle.resolving.specs.declared.resolve.Resolved.{Resolved}
-use Rattle.resolving.specs.declared.resolve.Resolved.TheVariants as R
+use Rattle.resolving.specs.declared.resolve.Leads.{Leads as Led}
+use Rattle.resolving.specs.declared.resolve.Leads.TheVariants as R
+use Rattle.resolving.specs.declared.resolve.Missing.{Missing}
+use Rattle.resolving.specs.declared.resolve.Missing.TheVariants as M
 
 -- where a reference with this label and this path leads
-unfoldable pub resolution : List ℕ → List ℕ → List ℕ → List ℕ → Resolved → Resolution
-resolution words bytes l p (R.Bound r) = reaches (second_text words bytes r)
-resolution words bytes l p (R.BoundPath r) = reaches (joined (second_text words bytes r) p [])
-resolution words bytes l p R.AtPath = reaches p
-resolution words bytes l p (R.Node r) = reaches (first_text words bytes r)
-resolution words bytes l p R.NoLabel = missing 3 l
-resolution words bytes l p (R.NoNode code) = missing code p
-resolution words bytes l p (R.NoNodeBelow code r) = missing code (joined (second_text words bytes r) p [])
+unfoldable pub resolution : List ℕ → List ℕ → List ℕ → List ℕ → Result Led Missing → Resolution
+resolution words bytes l p (Ok (R.Bound r)) = reaches (second_text words bytes r)
+resolution words bytes l p (Ok (R.BoundPath r)) = reaches (joined (second_text words bytes r) p [])
+resolution words bytes l p (Ok R.AtPath) = reaches p
+resolution words bytes l p (Ok (R.Node r)) = reaches (first_text words bytes r)
+resolution words bytes l p (Err M.NoLabel) = missing 3 l
+resolution words bytes l p (Err (M.NoNode code)) = missing code p
+resolution words bytes l p (Err (M.NoNodeBelow code r)) = missing code (joined (second_text words bytes r) p [])
 
 -- the label that a reference of a log names, empty where it names none
 unfoldable pub target_label : List ℕ → List ℕ → ℕ → List ℕ
@@ -61,53 +63,53 @@ pub record InChain (words : List ℕ) (first r : ℕ) : Type 0 where
   pub chain : chain_of words first ≡ before ++ r ∷ after
 
 -- the binding by which a reference leads or would lead
-abbrev pub bound_by : Resolved → Option ℕ
-bound_by (R.Bound r) = some r
-bound_by (R.BoundPath r) = some r
-bound_by R.AtPath = none
-bound_by (R.Node r) = none
-bound_by R.NoLabel = none
-bound_by (R.NoNode code) = none
-bound_by (R.NoNodeBelow code r) = some r
+abbrev pub bound_by : Result Led Missing → Option ℕ
+bound_by (Ok (R.Bound r)) = some r
+bound_by (Ok (R.BoundPath r)) = some r
+bound_by (Ok R.AtPath) = none
+bound_by (Ok (R.Node r)) = none
+bound_by (Err M.NoLabel) = none
+bound_by (Err (M.NoNode code)) = none
+bound_by (Err (M.NoNodeBelow code r)) = some r
 
 -- is one of the log's, the label's first; and at the path by which a reference leads there is a live node, which a definition of the log
 -- names where it is another path than the reference's
-pub record Leads (words bytes : List ℕ) (binds defs : ℕ) (l p : List ℕ) (v : Resolved) : Type 0 where
+pub record Leads (words bytes : List ℕ) (binds defs : ℕ) (l p : List ℕ) (v : Result Led Missing) : Type 0 where
   pub there : (r : ℕ) → bound_by v ≡ some r → InChain words binds r
   pub first : (r : ℕ) → bound_by v ≡ some r → first_binding l (read_bindings words bytes binds) ≡ some (second_text words bytes r)
-  pub alive : v ≡ R.AtPath → contains_node p (read_defs words bytes defs) ≡ true
-  pub named : (r : ℕ) → v ≡ R.Node r → InChain words defs r
+  pub alive : v ≡ Ok R.AtPath → contains_node p (read_defs words bytes defs) ≡ true
+  pub named : (r : ℕ) → v ≡ Ok (R.Node r) → InChain words defs r
 
 -- What the functions of resolve.rt answer of a log, by the heads of its chains of bindings and definitions: v stands for where the
 -- reference leads, and leads there as above.
 
 -- of a label, whatever path stands beside it
-abbrev pub AnswersLabel : List ℕ → List ℕ → ℕ → List ℕ → Resolved → Type 0
+abbrev pub AnswersLabel : List ℕ → List ℕ → ℕ → List ℕ → Result Led Missing → Type 0
 AnswersLabel words bytes binds l v =
     ((p : List ℕ) → resolution words bytes l p v ≡ by_label l (first_binding l (read_bindings words bytes binds)))
     × ((p : List ℕ) (defs : ℕ) → Leads words bytes binds defs l p v)
 
 -- of a path below a label
-abbrev pub AnswersBelow : List ℕ → List ℕ → ℕ → ℕ → List ℕ → List ℕ → Resolved → Type 0
+abbrev pub AnswersBelow : List ℕ → List ℕ → ℕ → ℕ → List ℕ → List ℕ → Result Led Missing → Type 0
 AnswersBelow words bytes binds defs l p v =
     (resolution words bytes l p v ≡ below_label l p (first_binding l (read_bindings words bytes binds)) (read_defs words bytes defs))
     × Leads words bytes binds defs l p v
 
 -- of a path, whatever label stands beside it
-abbrev pub AnswersPath : List ℕ → List ℕ → ℕ → List ℕ → Resolved → Type 0
+abbrev pub AnswersPath : List ℕ → List ℕ → ℕ → List ℕ → Result Led Missing → Type 0
 AnswersPath words bytes defs p v =
     ((l : List ℕ) → resolution words bytes l p v ≡ live_at p (read_defs words bytes defs))
     × ((l : List ℕ) (binds : ℕ) → Leads words bytes binds defs l p v)
 
 -- of the log's reference r
-abbrev pub AnswersTarget : List ℕ → List ℕ → ℕ → ℕ → ℕ → Resolved → Type 0
+abbrev pub AnswersTarget : List ℕ → List ℕ → ℕ → ℕ → ℕ → Result Led Missing → Type 0
 AnswersTarget words bytes binds defs r v =
     (resolution words bytes (target_label words bytes r) (second_text words bytes r) v
     ≡ resolve (target_at words bytes r) (read_bindings words bytes binds) (read_defs words bytes defs))
     × Leads words bytes binds defs (target_label words bytes r) (second_text words bytes r) v
 
 -- of the input's reference r, if it can be read
-abbrev pub AnswersPhandle : List ℕ → List ℕ → ℕ → Result MirPhandleTarget Report → List ℕ → List ℕ → ℕ → ℕ → Resolved → Type 0
+abbrev pub AnswersPhandle : List ℕ → List ℕ → ℕ → Result MirPhandleTarget Report → List ℕ → List ℕ → ℕ → ℕ → Result Led Missing → Type 0
 AnswersPhandle input text r read words bytes binds defs v =
     ((t : Target) → (phandle_read input text r read).result ≡ some t
     → resolution words bytes (label_at input text r) (path_at input text r) v
@@ -115,8 +117,8 @@ AnswersPhandle input text r read words bytes binds defs v =
     × Leads words bytes binds defs (label_at input text r) (path_at input text r) v
 
 -- a reference that leads nowhere reported, but in an overlay
-pub record ReportsMissing (v : Resolved) (l p : List ℕ) (span : Span) (c d : LowerCtx) (words bytes w b : List ℕ) : Type 0 where
+pub record ReportsMissing (m : Missing) (l p : List ℕ) (span : Span) (c d : LowerCtx) (words bytes w b : List ℕ) : Type 0 where
   pub reports : (k : Context) (s : State) (code : ℕ) (text : List ℕ) → Represents k c words bytes s → c.short ≡ false
-      → Leads words bytes c.binds.first c.defs.first l p v
-      → resolution words bytes l p v ≡ missing code text → Represents k d w b
+      → Leads words bytes c.binds.first c.defs.first l p (Err m)
+      → resolution words bytes l p (Err m) ≡ missing code text → Represents k d w b
       (emit (cond (sets_overlay s.defs) [] (report code text span ∷ [])) s)

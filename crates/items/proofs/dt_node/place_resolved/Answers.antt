@@ -1,33 +1,30 @@
 -- By where the reference leads (NodeReferenced).
-use mathlib.Core.Path.{refl, sym, ◌∙◌}
+use mathlib.Core.Path.{refl}
 use Rattle.items.proofs.NodeReferenced.{place_found, place_missing}
 use Rattle.input.specs.machine.At.{record_at}
 use Rattle.items.proofs.dt_node.place_resolved.Goals as goal
 
-pub returns-then-leads_on : goal.returns-then-leads_on
-returns-then-leads_on c =
+pub returns-in-Ok : goal.returns-in-Ok
+returns-in-Ok c =
     let s = c in
     let a = s.args in
     λ parent.
     rw c.placed_at.ensures (place_found a.ctx a.out.now a.bytes.now _ _ _
     c.resolve_phandle-leads.result c.resolve_phandle-leads.ensures.1 (c.resolve_phandle-leads.ensures.0 _ refl)
     (record_at a.input.words.now a.input.text.now a.reference)
-    (sym c.leads_on.ensures
-    ∙ c.if-leads_on.true)
+    c.in-Ok.to c.in-Ok.is
     c.define_leading-made.ensures
     (rw c.child_at.ensures at
     c.open_node.ensures))
 
-pub returns : goal.returns
-returns c =
+pub returns-in-Err : goal.returns-in-Err
+returns-in-Err c =
     let s = c in
     let a = s.args in
     λ parent.
     place_missing a.ctx a.out.now a.bytes.now
-    c.resolve_phandle-leads.result a.input.words.now a.input.text.now a.reference a.kind c.resolve_phandle-leads.ensures.1
-    (c.resolve_phandle-leads.ensures.0 _ refl)
-    (sym c.leads_on.ensures
-    ∙ c.if-leads_on.false)
+    c.resolve_phandle-leads.result c.in-Err.missing a.input.words.now a.input.text.now a.reference a.kind c.resolve_phandle-leads.ensures.1 (c.resolve_phandle-leads.ensures.0 _ refl)
+    c.in-Err.is
     (c.sets_overlay_in-keeps.ensures a.bytes.now)
     (rw (
       c.phandle_label_at-label.ensures,

@@ -1,32 +1,41 @@
-use Rattle.input.proofs.ValueRead.{values_end, values_more}
+use mathlib.Core.Path.{refl, ap, ◌∙◌}
+use mathlib.Core.List.{List}
+use Prim.Native.Nat.{ℕ}
+use Rattle.input.specs.meaning.Property.{lower_values}
+use Rattle.input.specs.machine.ChainLeft.{trees_of, chain_left}
+use Rattle.input.proofs.ChainLeft.{chain_is}
+use Rattle.items.proofs.ChainWalked.{records_start, record_here, records_later}
 use Rattle.items.proofs.Filled.{adding_values, fills_none, fills_then, same_fills}
-use Rattle.input.proofs.Read.{rank_less, chain_first, chain_next}
-use mathlib.Core.Path.{◌∙◌}
 use Rattle.items.proofs.dt_property.lower_prop_values.Goals as goal
 
-pub lower_prop_value-next-requires : goal.lower_prop_value-next-requires
-lower_prop_value-next-requires c = let s = c in let l = c.loop-r in record {
-  record_in = chain_first s.args.input.words.now s.args.input.text.now s.args.input.linked l.r s.args.nesting l.invariant.0
-      c.loop-r-test.true;
-}
+pub loop-r-init : goal.loop-r-init
+loop-r-init c =
+    let a = c.args in
+    let i = a.input in
+    let h = c.requires.chain_in in
+    let e = ap chain_left c.into_iter-r-iterator.ensures.into_iter_gives ∙ c.chain-r-items.ensures in (
+      rw e (records_start i.words.now i.text.now i.linked a.first a.nesting h),
+      refl,
+      refl,
+      λ d w b f. same_fills (ap (λ (l : List ℕ). lower_values a.level (trees_of i.words.now i.text.now l)) e
+          ∙ ap (lower_values a.level) (chain_is i.words.now i.linked i.text.now a.first h.at)) f,
+    )
 
-pub loop-r-smaller : goal.loop-r-smaller
-loop-r-smaller c = let s = c in let l = c.loop-r in let n = c.loop-r-test.true in
-    rw c.next_at-r.ensures
-    (rank_less s.args.input.words.now l.r _ n (l.invariant.0.at n) (s.args.input.linked.all l.r (l.invariant.0.at n)).next)
+pub lower_prop_value-next-requires : goal.lower_prop_value-next-requires
+lower_prop_value-next-requires c = record { record_in = record_here (rw c.in-Some.ensures.steps at c.loop-r.invariant.0) }
 
 pub loop-r-preserved : goal.loop-r-preserved
-loop-r-preserved c = let s = c in let l = c.loop-r in let n = c.loop-r-test.true in
-    rw c.next_at-r.ensures (
-      chain_next s.args.input.words.now s.args.input.text.now s.args.input.linked l.r s.args.nesting l.invariant.0 n,
-      c.lower_prop_value-next.auto.out ∙ l.invariant.1,
-      c.lower_prop_value-next.auto.bytes ∙ l.invariant.2,
-      λ d w b h. l.invariant.3 d w b
-          (same_fills (values_more s.args.input.words.now s.args.input.text.now l.r s.args.input.linked n (l.invariant.0.at n) s.args.level)
-          (fills_then adding_values s.args.keep _ _ c.lower_prop_value-next.ensures h)),
+unfolding lower_values
+loop-r-preserved c =
+    let inv = rw c.in-Some.ensures.steps at c.loop-r.invariant in (
+      records_later inv.0,
+      c.lower_prop_value-next.auto.out ∙ inv.1,
+      c.lower_prop_value-next.auto.bytes ∙ inv.2,
+      λ d w b f. inv.3 d w b (fills_then adding_values c.args.keep _ _ c.lower_prop_value-next.ensures f),
     )
 
 pub returns : goal.returns
-returns c = let s = c in let l = c.loop-r in
-    l.invariant.3 _ _ _ (same_fills (values_end s.args.input.words.now s.args.input.text.now l.r s.args.level c.loop-r-test.false)
-    (fills_none adding_values s.args.keep))
+unfolding lower_values
+returns c =
+    let inv = rw c.in-None.ensures.steps.0 at c.loop-r.invariant in
+    inv.3 _ _ _ (fills_none adding_values c.args.keep)

@@ -1,37 +1,29 @@
-use mathlib.Core.Path.{refl, sym, ◌∙◌}
-use Rattle.input.proofs.Read.{rank_less}
+use mathlib.Core.Path.{refl, sym, ap, ◌∙◌}
+use Rattle.input.specs.machine.ChainLeft.{chain_left}
 use Rattle.items.proofs.Labels.{labels_start, labels_whole, labels_other, labels_more}
 use Rattle.items.proofs.open_node.collect_labels.Goals as goal
-use Rattle.items.proofs.open_node.collect_labels.Goals.{then-kind_at-eq-LABEL, else-kind_at-eq-LABEL}
 
 pub loop-r-init : goal.loop-r-init
 loop-r-init c =
-    let s = c in
-    (refl, refl, labels_start s.args.input.words.now s.args.input.text.now s.args.parts s.requires.at)
+    let i = c.args.input in
+    let e = ap chain_left c.into_iter-r-iterator.ensures.into_iter_gives ∙ c.chain-r-items.ensures in
+    (refl, refl, rw e (labels_start i.words.now i.linked i.text.now c.args.parts c.requires.at))
 
-pub loop-r-smaller : goal.loop-r-smaller
-loop-r-smaller c =
-    let s = c in
-    let l = c.loop-r in
-    let n = c.loop-r-test.true in
-    rw c.next_at-r.ensures
-    (rank_less s.args.input.words.now l.r _ n (l.invariant.2.at n) (s.args.input.linked.all l.r (l.invariant.2.at n)).next)
+pub lower_label-state-requires : goal.lower_label-state-requires
+lower_label-state-requires c = record { r_bound = (rw c.in-Some.ensures.steps at c.loop-r.invariant).2.at.0.1 }
+
+pub loop-r-preserved-then-kind_at-eq-LABEL : goal.loop-r-preserved-then-kind_at-eq-LABEL
+loop-r-preserved-then-kind_at-eq-LABEL c =
+    let inv = rw c.in-Some.ensures.steps at c.loop-r.invariant in (
+      c.lower_label-state.auto.out ∙ inv.0,
+      c.lower_label-state.auto.bytes ∙ inv.1,
+      labels_more inv.2 (sym c.kind_at.ensures ∙ c.if-kind_at-eq-LABEL.true) c.lower_label-state.ensures,
+    )
 
 pub loop-r-preserved : goal.loop-r-preserved
 loop-r-preserved c =
-    let s = c in
-    let l = c.loop-r in
-    let n = c.loop-r-test.true in
-    let k = c.kind_at.ensures in
-    rw c.next_at-r.ensures (elim c.if-kind_at-eq-LABEL.branch [
-      | then-kind_at-eq-LABEL w ↦
-          let m = labels_more s.args.input.linked l.invariant.2 n (sym k ∙ w.if-kind_at-eq-LABEL.true) w.lower_label-state.ensures in
-          rw (w.out-is, w.bytes-is, w.state-is)
-          (w.lower_label-state.auto.out ∙ l.invariant.0, w.lower_label-state.auto.bytes ∙ l.invariant.1, m)
-      | else-kind_at-eq-LABEL w ↦
-          let m = labels_other s.args.input.linked l.invariant.2 n (λ e. w.if-kind_at-eq-LABEL.false (k ∙ e)) in
-          rw (w.out-is, w.bytes-is, w.state-is) (l.invariant.0, l.invariant.1, m)
-    ])
+    let inv = rw c.in-Some.ensures.steps at c.loop-r.invariant in
+    (inv.0, inv.1, labels_other inv.2 (λ e. c.if-kind_at-eq-LABEL.false (c.kind_at.ensures ∙ e)))
 
 pub returns : goal.returns
-returns c = labels_whole c.args.input.linked c.loop-r.invariant.2 c.loop-r-test.false
+returns c = labels_whole (rw c.in-None.ensures.steps.0 at c.loop-r.invariant).2

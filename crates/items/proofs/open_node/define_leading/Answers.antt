@@ -3,8 +3,7 @@ use mathlib.Core.Path.{refl, ap, ◌∙◌}
 use Rattle.making.specs.machine.PathPlaces.{path_in}
 use Rattle.input.specs.meaning.Input.{span_at}
 use Rattle.input.specs.machine.PhandleRead.{label_at, path_at}
-use Rattle.items.specs.machine.NodePlaced.{leads_on}
-use Rattle.items.proofs.NodeReferenced.{defines_bound, defines_below, defines_path, defines_named, defines_none}
+use Rattle.items.proofs.NodeReferenced.{defines_bound, defines_below, defines_path, defines_named}
 use Rattle.items.proofs.open_node.define_leading.Goals as goal
 
 pub returns-in-Bound : goal.returns-in-Bound
@@ -94,15 +93,3 @@ returns-in-Node c =
     refl)
     _ c.in-Node.is
     (ap (path_in a.ctx.bytes a.bytes.now) c.first_place-place.ensures)
-
-pub returns-in-NoLabel : goal.returns-in-NoLabel
-returns-in-NoLabel c = let a = c.args in defines_none
-    a.leads _ _ (ap leads_on c.in-NoLabel.is)
-
-pub returns-in-NoNode : goal.returns-in-NoNode
-returns-in-NoNode c = let a = c.args in defines_none
-    a.leads _ _ (ap leads_on c.in-NoNode.is)
-
-pub returns-in-NoNodeBelow : goal.returns-in-NoNodeBelow
-returns-in-NoNodeBelow c = let a = c.args in defines_none
-    a.leads _ _ (ap leads_on c.in-NoNodeBelow.is)

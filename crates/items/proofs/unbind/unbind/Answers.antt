@@ -1,30 +1,31 @@
 use borrow.Author.Rules.{rules}
-use mathlib.Core.Path.{sym, ◌∙◌}
-use native.Mathlib.Omega.{arith}
-use Rattle.items.proofs.Unbinding.{walk_on, count_same, passes_left}
+use mathlib.Core.Path.{refl, sym, ◌∙◌}
+use Rattle.definition_log.proofs.ChainLeft.{step_nearer}
+use Rattle.items.proofs.Unbinding.{walk_step, count_same}
 use Rattle.items.proofs.unbind.unbind.Goals as goal
 
-pub overflow_sub-left : goal.overflow_sub-left
-overflow_sub-left c = passes_left _ _ _ _ _ _ (sym
-    c.passes.ensures
-    ∙ c.loop-base-test.true)
+pub loop-r-init : goal.loop-r-init
+loop-r-init c = (refl, refl, λ k s front p o. o)
 
-pub loop-base-smaller : goal.loop-base-smaller
-loop-base-smaller c = omega (
-  arith,
-  passes_left _ _ _ _ _ _ (sym
-      c.passes.ensures
-      ∙ c.loop-base-test.true),
-)
+pub loop-r-smaller : goal.loop-r-smaller
+loop-r-smaller c = step_nearer c.in-Some.ensures
 
-pub loop-base-preserved : goal.loop-base-preserved
-loop-base-preserved c =
-    let l = c.loop-base in (
+pub loop-r-preserved : goal.loop-r-preserved
+loop-r-preserved c =
+    let l = c.loop-r in (
       search rules,
       search rules,
-      λ k s front p o. walk_on (l.invariant.2 k s front p o)
-          (sym c.passes.ensures
-          ∙ c.loop-base-test.true)
-          c.unbind_one-one.ensures (count_same _ _ (search rules)) _
-          c.next_of-next.ensures,
+      λ k s front p o. walk_step c.in-Some.ensures (l.invariant.2 k s front p o)
+          (sym c.stops_at.ensures ∙ c.if-stops_at.false)
+          c.unbind_one-one.ensures (count_same _ _ (search rules)),
     )
+
+pub returns-then-stops_at : goal.returns-then-stops_at
+returns-then-stops_at c =
+    let l = c.loop-r in
+    record { last = l.walk; walks = l.invariant.2; ends = (c.in-Some.ensures, sym c.stops_at.ensures ∙ c.if-stops_at.true) }
+
+pub returns : goal.returns
+returns c =
+    let l = c.loop-r in
+    record { last = l.walk; walks = l.invariant.2; ends = c.in_default.ensures }

@@ -1,8 +1,11 @@
-use mathlib.Core.Path.{refl, sym, ◌∙◌}
+use Prim.Native.Nat.{◌+◌, ◌*◌}
+use mathlib.Core.Path.{◌≡◌, refl, sym, ap, ◌∙◌}
 use native.Mathlib.Omega.{arith}
 use Rattle.input.specs.meaning.Input.{second_at, chain_at}
 use Rattle.items.specs.meaning.Lower.{lower_items}
-use Rattle.input.proofs.Read.{rank_less, chain_first, some_nesting, second_in}
+use Rattle.input.specs.machine.ChainLeft.{chain_left}
+use Rattle.input.proofs.Read.{some_nesting, second_in}
+use Rattle.items.proofs.ChainWalked.{record_here}
 use Rattle.lowering.proofs.CountsGrow.{node_grows}
 use Rattle.items.proofs.Short.{short_lowers}
 use Rattle.items.proofs.NodeLowered.{enters_apart, node_at_lem, node_aside, node_discarded, node_nowhere}
@@ -116,32 +119,27 @@ lower_item-returns-in_default t c = let a = c.args in
     is_other a.level a.input.words.now a.input.text.now a.r (λ e. omega arith) (λ e. omega arith) (λ e. omega arith) (λ e. omega arith)
 
 pub lower_items-loop-r-init : goal.lower_items-loop-r-init
-lower_items-loop-r-init t c = let s = c in (
-  refl,
-  refl,
-  items_start s.args.level s.args.input.words.now
-      s.args.input.text.now s.args.first s.args.nesting s.requires.chain_in s.requires.first_value,
-)
+lower_items-loop-r-init t c =
+    let a = c.args in
+    let i = a.input in
+    let e = ap chain_left c.into_iter-r-iterator.ensures.into_iter_gives ∙ c.chain-r-items.ensures in (
+      refl,
+      refl,
+      rw e (items_start a.level i.words.now i.linked i.text.now a.first a.nesting c.requires.chain_in c.requires.first_value),
+    )
 
 pub lower_items-lower_item-state-requires : goal.lower_items-lower_item-state-requires
-lower_items-lower_item-state-requires t c = let s = c in let l = c.loop-r in let n = c.loop-r-test.true in (
-  omega arith,
-  (chain_first _ _ s.args.input.linked _ _ l.invariant.2.chain n, item_good s.args.input.linked l.invariant.2 n),
-)
-
-pub lower_items-loop-r-smaller : goal.lower_items-loop-r-smaller
-lower_items-loop-r-smaller t c = let s = c in let l = c.loop-r in let n = c.loop-r-test.true in rw c.next_at-r.ensures
-    (rank_less s.args.input.words.now l.r _ n (l.invariant.2.chain.at n) (s.args.input.linked.all l.r (l.invariant.2.chain.at n)).next)
+lower_items-lower_item-state-requires t c =
+    let inv = rw c.in-Some.ensures.steps at c.loop-r.invariant in
+    (omega arith, (record_here inv.2.chain, item_good inv.2))
 
 pub lower_items-loop-r-preserved : goal.lower_items-loop-r-preserved
-lower_items-loop-r-preserved t c = let s = c in let l = c.loop-r in let n = c.loop-r-test.true in rw c.next_at-r.ensures (
-  c.lower_item-state.auto.out
-      ∙ l.invariant.0,
-  c.lower_item-state.auto.bytes
-      ∙ l.invariant.1,
-  items_more s.args.input.linked l.invariant.2 n c.lower_item-state.ensures,
-)
+lower_items-loop-r-preserved t c =
+    let inv = rw c.in-Some.ensures.steps at c.loop-r.invariant in (
+      c.lower_item-state.auto.out ∙ inv.0,
+      c.lower_item-state.auto.bytes ∙ inv.1,
+      items_more inv.2 c.lower_item-state.ensures,
+    )
 
 pub lower_items-returns : goal.lower_items-returns
-lower_items-returns t c = items_whole c.args.input.linked c.loop-r.invariant.2
-    c.loop-r-test.false
+lower_items-returns t c = items_whole (rw c.in-None.ensures.steps.0 at c.loop-r.invariant).2

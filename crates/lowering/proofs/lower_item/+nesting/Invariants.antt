@@ -3,7 +3,7 @@
 use Prim.Native.Nat.{◌+◌, ◌*◌}
 use mathlib.Core.Path.{◌≡◌}
 use lib.ListN.{length}
-use Rattle.input.proofs.Read.{rank}
+use Rattle.input.specs.machine.ChainLeft.{chain_left}
 use Rattle.lowering.proofs.ItemsLowered.{ItemsTo}
 use Rattle.lowering.proofs.lower_item.+nesting.Given as goal
 
@@ -22,8 +22,5 @@ decreases-lower_items l = l.nesting * 4 + 2
 abbrev pub invariant-lower_items-loop-r : goal.invariant-lower_items-loop-r
 invariant-lower_items-loop-r l =
     (length l.out ≡ length l.initial.out) × (length l.bytes ≡ length l.initial.bytes)
-    × ItemsTo l.level l.parent l.initial.state l.state l.initial.out l.initial.bytes l.out l.bytes l.input.words.now l.input.text.now
-    l.first l.nesting l.r
-
-abbrev pub decreases-lower_items-loop-r : goal.decreases-lower_items-loop-r
-decreases-lower_items-loop-r l = rank l.input.words.now l.r
+    × ItemsTo l.level l.parent l.initial.state l.state l.initial.out l.initial.bytes l.out l.bytes l.input.words.now l.input.text.now l.first l.nesting
+    (chain_left l.r-iterator)

@@ -1,7 +1,6 @@
 -- By whether the log in hand is an overlay, and by what was not found (Leading).
 use mathlib.Core.Path.{sym, ◌∙◌}
-use Rattle.resolving.proofs.Leading.{reports_overlay, missing_label, missing_node, missing_below, never_bound, never_below}
-use Rattle.resolving.proofs.Leading.{never_path, never_node}
+use Rattle.resolving.proofs.Leading.{reports_overlay, missing_label, missing_node, missing_below}
 use Rattle.resolving.proofs.resolve.report_unresolved.Goals as goal
 
 pub returns-then-sets_overlay_in : goal.returns-then-sets_overlay_in
@@ -22,15 +21,3 @@ returns-in-NoNodeBelow c = missing_below _ _ c.in-NoNodeBelow.is
     c.second_place.ensures c.no_text.ensures
     (sym (c.sets_overlay_in.ensures _) ∙ c.if-sets_overlay_in.false)
     c.emit_joined.ensures
-
-pub returns-in-Bound : goal.returns-in-Bound
-returns-in-Bound c = never_bound c.in-Bound.is
-
-pub returns-in-BoundPath : goal.returns-in-BoundPath
-returns-in-BoundPath c = never_below c.in-BoundPath.is
-
-pub returns-in-AtPath : goal.returns-in-AtPath
-returns-in-AtPath c = never_path c.in-AtPath.is
-
-pub returns-in-Node : goal.returns-in-Node
-returns-in-Node c = never_node c.in-Node.is
