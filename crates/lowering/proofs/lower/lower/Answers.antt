@@ -1,8 +1,7 @@
 -- No level, or rows 1 to 6 refuse, and all is left; or the accepted input is lowered. That words are below 2^32 is what is known of every
 -- lent slice.
-use mathlib.Core.Path.{refl, sym, ap, ◌∙◌}
+use mathlib.Core.Path.{refl, sym, ◌∙◌}
 use Rattle.std.proofs.lemmas.Result.{err_from_is_err_and}
-use Rattle.input.specs.meaning.RowsAnswer.{told}
 use Rattle.input.proofs.Rows.{accepted_linked}
 use Rattle.lowering.specs.meaning.Lowered.{no_level, turned_down}
 use borrow.Author.Tests.{not-true, not-false}

@@ -1,8 +1,5 @@
-use Prim.Native.Nat.{◌+◌, ◌*◌}
-use mathlib.Core.Path.{◌≡◌, refl, sym, ap, ◌∙◌}
+use mathlib.Core.Path.{refl, sym, ap, ◌∙◌}
 use native.Mathlib.Omega.{arith}
-use borrow.Author.Rules.{rules}
-use lib.ListN.{length}
 use Rattle.input.specs.meaning.Input.{second_at, chain_at}
 use Rattle.items.specs.meaning.Lower.{lower_items}
 use Rattle.input.specs.machine.ChainLeft.{chain_left}
@@ -11,9 +8,8 @@ use Rattle.items.proofs.ChainWalked.{record_here}
 use Rattle.lowering.proofs.CountsGrow.{node_grows}
 use Rattle.items.proofs.Short.{short_lowers}
 use Rattle.items.proofs.NodeLowered.{enters_apart, node_at_lem, node_aside, node_discarded, node_nowhere}
-use Rattle.lowering.proofs.ItemsLowered.{ItemsTo, items_start, items_whole, item_good, items_more, is_node_lem, is_property_lem}
+use Rattle.lowering.proofs.ItemsLowered.{items_start, items_whole, item_good, items_more, is_node_lem, is_property_lem}
 use Rattle.lowering.proofs.ItemsLowered.{is_directive_lem, is_preprocessor, is_other, parts_good, body_good}
-use Prim.Native.Nat.{ℕ, ◌<◌}
 use Rattle.lowering.proofs.lower_item.+nesting.Goals as goal
 
 pub lower_apart-lower_items-requires : goal.lower_apart-lower_items-requires
