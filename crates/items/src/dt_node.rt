@@ -21,7 +21,6 @@ ghost use Rattle.items.specs.machine.AtRecord.{node_name_at, named_at};
 use crate::dt_property::is_top;
 use crate::open_node::{Opened, define_below, define_leading, define_there, open_node};
 use crate::report::{NO_SPAN, emit_name, emit_report};
-use paths_numbers::phandle::MirPhandleTarget;
 use input::kinds::{REFERENCE, SLASH};
 use input::linked::Input;
 use input::name::{FullName, is_named};
@@ -30,6 +29,7 @@ use input::record::{child_at, span_at};
 use making::ctx::LowerCtx;
 use making::place::PathAt;
 use paths_numbers::codes::{ROOT_INSIDE, SUBNODE_OUTSIDE};
+use paths_numbers::phandle::MirPhandleTarget;
 use queries::mir::sets_overlay_in;
 use resolving::resolve::{report_unresolved, resolve_phandle};
 

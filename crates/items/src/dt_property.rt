@@ -20,7 +20,6 @@ ghost use Rattle.items.specs.machine.PropertyMade.{is_top, property_at};
 ghost use Rattle.items.specs.machine.AtRecord.{named_at};
 
 use crate::report::{emit_code, emit_name, emit_report};
-use paths_numbers::phandle::MirPhandleTarget;
 use input::linked::Input;
 use input::name::{FullName, is_named, name_text, unit_text};
 use input::phandle::{phandle_label_at, phandle_path_at};
@@ -31,6 +30,7 @@ use making::place::PathAt;
 use making::recs::DefKind;
 use paths_numbers::codes::PROPERTY_OUTSIDE;
 use paths_numbers::dt_property::BitsSize;
+use paths_numbers::phandle::MirPhandleTarget;
 
 // Lowers a property under a path. A state that ran short stays as it is.
 pub fn lower_dt_property(

@@ -20,7 +20,6 @@ use crate::directive::{DELETE_NODE, DELETE_PROPERTY, INCLUDE, PLUGIN, VERSION};
 use crate::report::{NO_SPAN, emit_name, emit_report};
 use crate::unbind::{Base, bound_base, goes_with, unbind_all, unbind_others, unlink_first};
 use definition_log::parts::Span;
-use paths_numbers::phandle::MirPhandleTarget;
 use input::kinds::{NAME, REFERENCE};
 use input::linked::Input;
 use input::name::{is_named, name_text, unit_text};
@@ -30,6 +29,7 @@ use making::ctx::LowerCtx;
 use making::place::{PathAt, first_place, second_place};
 use making::recs::DefKind;
 use paths_numbers::codes;
+use paths_numbers::phandle::MirPhandleTarget;
 use resolving::resolve::{Leads, first_with, report_unresolved, resolve_phandle};
 
 // Lowers a directive.

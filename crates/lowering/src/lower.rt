@@ -104,5 +104,14 @@ fn lower_top(input: Input<'_>, level: u32, out: &mut [u32], bytes: &mut [u8]) ->
 {
     let ctx = start(out, bytes);
     let first = child_at(input.words, 0);
-    lower_items(input, first, PathAt::EMPTY, MOST_LINKS, out, bytes, ctx, level)
+    lower_items(
+        input,
+        first,
+        PathAt::EMPTY,
+        MOST_LINKS,
+        out,
+        bytes,
+        ctx,
+        level,
+    )
 }

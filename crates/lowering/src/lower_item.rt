@@ -142,5 +142,14 @@ fn lower_apart(
 {
     let inner = ctx.enter(keeps);
     let first = second_at(input.words, r);
-    lower_items(input, first, PathAt::Root, nesting, out, bytes, inner, level)
+    lower_items(
+        input,
+        first,
+        PathAt::Root,
+        nesting,
+        out,
+        bytes,
+        inner,
+        level,
+    )
 }

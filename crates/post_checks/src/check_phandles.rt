@@ -15,9 +15,7 @@ use definition_log::kinds::{CELL_LIST, PROPERTY, REFERENCE};
 use definition_log::layout;
 use definition_log::limits::{FEW_RECORDS, LEAST_RECORDS, MOST_RECORDS};
 use definition_log::parts::{Span, name_span_of};
-use definition_log::record::{
-    child_of, kind_of, log_count, out_field,
-};
+use definition_log::record::{child_of, kind_of, log_count, out_field};
 use input::record::no_text;
 use making::ctx::LowerCtx;
 use making::place::{PathAt, first_place, second_place};

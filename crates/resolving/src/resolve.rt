@@ -7,7 +7,6 @@ ghost use Rattle.resolving.specs.machine.Leading.{FirstWith, ReportsMissing};
 use definition_log::chain::chain;
 use definition_log::layout;
 use definition_log::parts::Span;
-use paths_numbers::phandle::MirPhandleTarget;
 use definition_log::record::{first_text, out_field, second_text};
 use input::phandle::{phandle_label_at, phandle_path_at};
 use input::record::no_text;
@@ -15,6 +14,7 @@ use input::report::Report;
 use making::ctx::LowerCtx;
 use making::place::second_place;
 use paths_numbers::codes::{LABEL_NOT_FOUND, NODE_AMBIGUOUS, NODE_NOT_FOUND};
+use paths_numbers::phandle::MirPhandleTarget;
 use paths_numbers::text::equals;
 use queries::lookup::{Lookup, lookup_in, lookup_path};
 use queries::mir::sets_overlay_in;
@@ -70,7 +70,13 @@ pub fn resolve_phandle(
 }
 
 // Where a reference of a log leads, by its record.
-pub fn resolve_target(out: &[u32], bytes: &[u8], binds: u32, defs: u32, r: u32) -> Result<Leads, Missing>
+pub fn resolve_target(
+    out: &[u32],
+    bytes: &[u8],
+    binds: u32,
+    defs: u32,
+    r: u32,
+) -> Result<Leads, Missing>
     ensures { AnswersTarget out.now bytes.now binds defs r result }
 {
     let n = out_field(out, r, layout::N);

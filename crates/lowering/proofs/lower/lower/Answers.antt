@@ -24,13 +24,13 @@ lower_accepted-requires c = record {
 
 pub returns-in_err-check_input : goal.returns-in_err-check_input
 returns-in_err-check_input c =
-  let p = err_from_is_err_and c.from_residual.result c.from_residual.ensures.1 in
-  record {
-    lowered = rw (p.1, p.2) (turned_down
-        (sym c.is_level.ensures ∙ not-false _ c.if-not-is_level.false-raw)
-        (sym c.in_err-check_input.ensures) refl refl refl);
-    words32 = record { below = λ i. (c.type_inv.out i).fits };
-  }
+    let p = err_from_is_err_and c.from_residual.result c.from_residual.ensures.1 in
+    record {
+      lowered = rw (p.1, p.2) (turned_down
+          (sym c.is_level.ensures ∙ not-false _ c.if-not-is_level.false-raw)
+          (sym c.in_err-check_input.ensures) refl refl refl);
+      words32 = record { below = λ i. (c.type_inv.out i).fits };
+    }
 
 pub returns : goal.returns
 returns c = record { lowered = c.lower_accepted.ensures; words32 = record { below = λ i. (c.type_inv.out i).fits } }
