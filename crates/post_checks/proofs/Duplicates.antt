@@ -10,7 +10,7 @@ use Rattle.paths_numbers.proofs.Texts.{by_test, same_true, same_refl, same_ne, s
 use Rattle.making.specs.declared.ctx.LowerCtx.{LowerCtx}
 use Rattle.making.specs.declared.place.PathAt.{PathAt}
 use Rattle.definition_log.specs.declared.parts.Span as declared
-use Rattle.definition_log.specs.meaning.Contents.{Span, Binding}
+use Rattle.definition_log.specs.meaning.Contents.{Binding}
 use Rattle.definition_log.specs.meaning.Record.{next_of, span_start, span_end, text_start, text_length, first_text, second_text, log_count}
 use Rattle.definition_log.specs.meaning.ReadBack.{chain_from, chain_of, span_at, binding_at, read_bindings}
 use Rattle.making.specs.machine.PathPlaces.{path_in}

@@ -1,7 +1,7 @@
 -- Walks through a chain of values or of cells: the steps of check_values and check_cells.
 use Prim.Native.Nat.{ℕ, ◌-◌}
 use mathlib.Core.Path.{◌≡◌, refl, ◌∙◌}
-use mathlib.Core.Bool.{true, false}
+use mathlib.Core.Bool.{false}
 use mathlib.Core.List.{List, [], ◌∷◌, ◌++◌, map}
 use lib.ListN.{length}
 use Rattle.making.specs.declared.ctx.LowerCtx.{LowerCtx}
@@ -13,7 +13,7 @@ use Rattle.making.specs.machine.Represents.{Context, Represents}
 use Rattle.making.specs.machine.Kept.{Still, all_none, all_more, Kept}
 use Rattle.making.proofs.Keeping.{still_kept}
 use Rattle.definition_log.specs.declared.chain.Walk.{Walk}
-use Rattle.definition_log.specs.machine.ChainLeft.{Stopped, Stepped, walk_left}
+use Rattle.definition_log.specs.machine.ChainLeft.{Stopped, Stepped}
 use Rattle.post_checks.specs.machine.Checks.{Reports, said}
 use Rattle.post_checks.proofs.Checks.{Walks, walks_start, walks_stepped, walks_stopped}
 

@@ -70,7 +70,13 @@ pub fn resolve_phandle(
 }
 
 // Where a reference of a log leads, by its record.
-pub fn resolve_target(out: &[u32], bytes: &[u8], binds: u32, defs: u32, r: u32) -> Result<Leads, Missing>
+pub fn resolve_target(
+    out: &[u32],
+    bytes: &[u8],
+    binds: u32,
+    defs: u32,
+    r: u32,
+) -> Result<Leads, Missing>
     ensures { AnswersTarget out.now bytes.now binds defs r result }
 {
     let n = out_field(out, r, layout::N);

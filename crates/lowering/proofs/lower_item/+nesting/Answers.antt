@@ -1,5 +1,4 @@
-use Prim.Native.Nat.{◌+◌, ◌*◌}
-use mathlib.Core.Path.{◌≡◌, refl, sym, ap, ◌∙◌}
+use mathlib.Core.Path.{refl, sym, ap, ◌∙◌}
 use native.Mathlib.Omega.{arith}
 use Rattle.input.specs.meaning.Input.{second_at, chain_at}
 use Rattle.items.specs.meaning.Lower.{lower_items}

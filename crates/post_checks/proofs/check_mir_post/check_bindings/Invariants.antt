@@ -3,7 +3,7 @@ use Prim.Native.Nat.{ℕ, ◌+◌}
 use mathlib.Core.Path.{◌≡◌}
 use mathlib.Core.List.{List, [], ◌∷◌, map}
 use lib.ListN.{length}
-use Rattle.definition_log.specs.meaning.ReadBack.{chain_from, binding_at}
+use Rattle.definition_log.specs.meaning.ReadBack.{binding_at}
 use Rattle.definition_log.specs.machine.ChainLeft.{walk_left}
 use Rattle.post_checks.specs.meaning.Post.{duplicates_of}
 use Rattle.post_checks.proofs.Checks.{Walks}

@@ -1,6 +1,5 @@
 -- By whether the log is an overlay (References).
 use mathlib.Core.Path.{sym, ◌∙◌}
-use native.Mathlib.Omega.{arith}
 use Rattle.queries.proofs.Chain.{count_most}
 use Rattle.post_checks.proofs.References.{phandles_lower, phandles_none}
 use Rattle.post_checks.proofs.check_phandles.check_phandles.Goals as goal

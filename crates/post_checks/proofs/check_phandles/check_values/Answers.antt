@@ -1,5 +1,4 @@
 use mathlib.Core.Path.{refl, ap}
-use native.Mathlib.Omega.{arith}
 use Rattle.definition_log.specs.declared.chain.Walk.{Walk}
 use Rattle.definition_log.specs.meaning.ReadBack.{value_at, read_values}
 use Rattle.definition_log.specs.machine.Parts.{meant}
