@@ -1,6 +1,6 @@
 -- Directives: what names report, deletions by reference, and a directive by its W.
 use Prim.Native.Nat.{ℕ, ◌≤◌}
-use mathlib.Core.Path.{◌≡◌, refl, sym, ap, subst, ◌∙◌}
+use mathlib.Core.Path.{◌≡◌, refl, sym, ap, ◌∙◌}
 use mathlib.Core.Bool.{true, false}
 use mathlib.Core.List.{List, [], ◌∷◌}
 use mathlib.Core.Option.{Option, some, none}
@@ -134,14 +134,13 @@ module _ (t : Target) (rec : Tree) (span : Span) (c : LowerCtx) {out bytes l p :
 
     target_missing : {d : LowerCtx} {w b : List ℕ} (m : Missing) (code : ℕ) (text : List ℕ) → v ≡ Err m
         → resolution out bytes l p (Err m) ≡ missing code text → {at : Span}
-        → at ≡ span_of rec → ReportsMissing m l p at c d out bytes w b → Deletes t rec span c d out bytes w b
+        → at ≡ span_of rec → ReportsMissing v l p at c d out bytes w b → Deletes t rec span c d out bytes w b
     target_missing m code text f q e x =
-        let there : Leads out bytes c.binds.first c.defs.first l p (Err m) =
-        subst (λ (y : Result Led Missing). Leads out bytes c.binds.first c.defs.first l p y) f i in
-        record { lowers = λ k s h. rw (resolved h ∙ ap (resolution out bytes l p) f ∙ q, ← e) (x.reports k s code text h n there q) }
+        let r = ap (resolution out bytes l p) f ∙ q in
+        record { lowers = λ k s h. rw (resolved h ∙ r, ← e) (x.reports k s code text h n i r) }
 
     pub target_nowhere : {d : LowerCtx} {w b : List ℕ} {at : Span} (m : Missing) → v ≡ Err m → at ≡ span_of rec
-        → ReportsMissing m l p at c d out bytes w b → Deletes t rec span c d out bytes w b
+        → ReportsMissing v l p at c d out bytes w b → Deletes t rec span c d out bytes w b
     unfolding resolution
     target_nowhere M.NoLabel q e x = target_missing M.NoLabel 3 l q refl e x
     target_nowhere (M.NoNode code) q e x = target_missing (M.NoNode code) code p q refl e x

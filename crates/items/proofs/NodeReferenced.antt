@@ -74,12 +74,12 @@ module _ (words bytes l path : List ℕ) where
   leads_nowhere (M.NoNodeBelow code r) = (code, joined (second_text words bytes r) path [], refl)
 
 -- the definition there
-module _ {c d : LowerCtx} {words bytes w b : List ℕ} {parts : Trees} (v : Led) (l path : List ℕ) (kind : DefKind)
+module _ {c d : LowerCtx} {words bytes w b : List ℕ} {parts : Trees} (v : Result Led Missing) (l path : List ℕ) (kind : DefKind)
     (span name_span : SpanRead) (found : Span) (q : List ℕ) (made : Steps c d words bytes w b (define (bare_def kind span name_span q)))
     (value_is : bare_value kind ≡ node [] (has omit_kind parts)) (span_is : meant span ≡ found)
     (name_span_is : meant name_span ≡ node_name_span parts found) where
   defines_at : ((k : Context) (s : State) (p : List ℕ) → Represents k c words bytes s → c.short ≡ false
-      → Leads words bytes c.binds.first c.defs.first l path (Ok v) → resolution words bytes l path (Ok v) ≡ reaches p → q ≡ p)
+      → Leads words bytes c.binds.first c.defs.first l path v → resolution words bytes l path v ≡ reaches p → q ≡ p)
       → DefinesLeading v l path c d words bytes w b parts found
   defines_at e =
       record {
@@ -88,7 +88,7 @@ module _ {c d : LowerCtx} {words bytes w b : List ℕ} {parts : Trees} (v : Led)
             (bare_node_lem kind span name_span q p parts found (e k s p r z i h) value_is span_is name_span_is) (made.steps k s r z);
       }
 
-  pub defines_bound : (n : ℕ) → v ≡ R.Bound n → q ≡ path_in c.bytes bytes (placed_in words n 4)
+  pub defines_bound : (n : ℕ) → v ≡ Ok (R.Bound n) → q ≡ path_in c.bytes bytes (placed_in words n 4)
       → DefinesLeading v l path c d words bytes w b parts found
   unfolding resolution
   defines_bound n e g =
@@ -96,7 +96,7 @@ module _ {c d : LowerCtx} {words bytes w b : List ℕ} {parts : Trees} (v : Led)
       let x = i.there n (rw e refl) in
       g ∙ binding_path r z x.before x.after n x.chain ∙ same_path_lem (rw e at h))
 
-  pub defines_below : (n : ℕ) → v ≡ R.BoundPath n → q ≡ joined (path_in c.bytes bytes (placed_in words n 4)) path []
+  pub defines_below : (n : ℕ) → v ≡ Ok (R.BoundPath n) → q ≡ joined (path_in c.bytes bytes (placed_in words n 4)) path []
       → DefinesLeading v l path c d words bytes w b parts found
   unfolding resolution
   defines_below n e g =
@@ -104,17 +104,24 @@ module _ {c d : LowerCtx} {words bytes w b : List ℕ} {parts : Trees} (v : Led)
       let x = i.there n (rw e refl) in
       g ∙ ap (λ (y : List ℕ). joined y path []) (binding_path r z x.before x.after n x.chain) ∙ same_path_lem (rw e at h))
 
-  pub defines_path : v ≡ R.AtPath → q ≡ path → DefinesLeading v l path c d words bytes w b parts found
+  pub defines_path : v ≡ Ok R.AtPath → q ≡ path → DefinesLeading v l path c d words bytes w b parts found
   unfolding resolution
   defines_path e g = defines_at (λ k s p r z i h. g ∙ same_path_lem (rw e at h))
 
-  pub defines_named : (n : ℕ) → v ≡ R.Node n → q ≡ path_in c.bytes bytes (placed_in words n 2)
+  pub defines_named : (n : ℕ) → v ≡ Ok (R.Node n) → q ≡ path_in c.bytes bytes (placed_in words n 2)
       → DefinesLeading v l path c d words bytes w b parts found
   unfolding resolution
   defines_named n e g =
       defines_at (λ k s p r z i h.
-      let x = i.named n (ap Ok e) in
+      let x = i.named n e in
       g ∙ def_path r z x.before x.after n x.chain ∙ same_path_lem (rw e at h))
+
+-- none where it leads nowhere
+pub defines_none : {c : LowerCtx} {words bytes : List ℕ} {parts : Trees} {span : Span} (v : Result Led Missing) (l path : List ℕ) (m : Missing)
+    → v ≡ Err m → DefinesLeading v l path c c words bytes words bytes parts span
+defines_none {words = words} {bytes} v l path m e =
+    let x = leads_nowhere words bytes l path m in
+    record { defines = λ k s p r z i h. never_reached (sym (ap (resolution words bytes l path) e ∙ x.2) ∙ h) }
 
 -- the node placed
 module _ (c : LowerCtx) (words bytes : List ℕ) (target : Target) (l path : List ℕ) (v : Result Led Missing)
@@ -130,24 +137,23 @@ module _ (c : LowerCtx) (words bytes : List ℕ) (target : Target) (l path : Lis
 
   pub place_found : {parent : PathAt} {d : LowerCtx} {w₁ b₁ w b input text : List ℕ} {parts : Trees} {span : Span} {o : Opened} (t : Tree)
       (to : Led) → v ≡ Ok to
-      → DefinesLeading to l path c d words bytes w₁ b₁ parts span → Opens d w₁ b₁ w b parts o
+      → DefinesLeading v l path c d words bytes w₁ b₁ parts span → Opens d w₁ b₁ w b parts o
       → PlacesIn parent c words bytes w b input text parts span
       (λ p s. by_resolution t target s.defs (resolve target s.binds s.defs)) (record { node = N.At o.place; ctx = o.ctx })
   place_found {parent} {w = w} {b} {parts = parts} {span} {o} t to on de op =
       let x = leads_to words bytes l path to in
-      let there : Leads words bytes c.binds.first c.defs.first l path (Ok to) =
-      subst (λ (y : Result Led Missing). Leads words bytes c.binds.first c.defs.first l path y) on bound in
+      let e₁ = ap (resolution words bytes l path) on ∙ x.1 in
       record {
         places = λ k p s z r.
             let e : by_resolution t target s.defs (resolve target s.binds s.defs) ≡ record { place = at x.0; reports = [] } =
-            rw (in_hand (with_place (record { at = parent; path = p }) k) s r z, on, x.1) refl in (
+            rw (in_hand (with_place (record { at = parent; path = p }) k) s r z, e₁) refl in (
               x.0,
               ap (λ (y : Placed). y.place) e,
               subst (λ (u : State). Represents (with_place (record { at = o.place; path = x.0 })
                   (with_place (record { at = parent; path = p }) k)) o.ctx w b (opened x.0 parts span u))
                   (sym (emit_none s) ∙ ap (λ (y : Placed). emit y.reports s) (sym e))
                   (op.opens (with_place (record { at = parent; path = p }) k) x.0 span s
-                  (de.defines (with_place (record { at = parent; path = p }) k) s x.0 r z there x.1)),
+                  (de.defines (with_place (record { at = parent; path = p }) k) s x.0 r z bound e₁)),
             );
       }
 
@@ -160,7 +166,7 @@ pub place_missing : (c : LowerCtx) (words bytes : List ℕ) (v : Result Led Miss
     (target_made kind (label_at input text reference) (path_at input text reference)) (read_bindings words bytes c.binds.first)
     (read_defs words bytes c.defs.first)
     → v ≡ Err m → keeps ≡ sets_overlay (read_defs words bytes c.defs.first)
-    → ReportsMissing m (label_at input text reference) (path_at input text reference) (span_at input reference) c d words bytes w b
+    → ReportsMissing v (label_at input text reference) (path_at input text reference) (span_at input reference) c d words bytes w b
     → PlacesIn parent c words bytes w b input text parts span
     (λ p s. by_resolution (record_at input text reference) (target_made kind (label_at input text reference) (path_at input text reference))
     s.defs (resolve (target_made kind (label_at input text reference) (path_at input text reference)) s.binds s.defs))
@@ -170,17 +176,15 @@ place_missing c words bytes v m {parent} input text reference kind bound g on ke
     let l = label_at input text reference in
     let path = path_at input text reference in
     let x = leads_nowhere words bytes l path m in
-    let there : Leads words bytes c.binds.first c.defs.first l path (Err m) =
-    subst (λ (y : Result Led Missing). Leads words bytes c.binds.first c.defs.first l path y) on bound in
+    let e₁ = ap (resolution words bytes l path) on ∙ x.2 in
     record {
       places = λ k p s z r.
-          let e = in_hand c words bytes (target_made kind l path) l path v bound g (with_place (record { at = parent; path = p }) k) s r z
-          ∙ ap (resolution words bytes l path) on ∙ x.2 in
+          let e = in_hand c words bytes (target_made kind l path) l path v bound g (with_place (record { at = parent; path = p }) k) s r z ∙ e₁ in
           rw e (
             refl,
             keep ∙ ap sets_overlay (represents_defs r z),
             re.reports (with_place (record { at = parent; path = p }) k) s x.0
-                x.1 r z there x.2,
+                x.1 r z bound e₁,
           );
     }
 

@@ -132,16 +132,16 @@ fn place_resolved(
         defs,
     );
     match leads {
-        Ok(to) => {
-            let made = define_leading(input, r, reference, to, out, bytes, ctx);
+        Ok(_) => {
+            let made = define_leading(input, r, reference, leads, out, bytes, ctx);
             placed_at(open_node(input, child_at(input.words, r), out, bytes, made))
         }
-        Err(missing) => {
+        Err(_) => {
             let keeps = sets_overlay_in(out, defs);
             let label = phandle_label_at(input.words, input.text, reference);
             let path = phandle_path_at(input.words, input.text, reference);
             let span = span_at(input.words, reference);
-            let told = report_unresolved(ctx, out, bytes, missing, label, path, span);
+            let told = report_unresolved(ctx, out, bytes, leads, label, path, span);
             PlacedNode {
                 node: NodePlace::Aside(reference, kind, keeps),
                 ctx: told,

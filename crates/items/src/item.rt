@@ -179,7 +179,7 @@ fn delete_target(
         Ok(Leads::BoundPath(_)) => delete_bound(ctx, out, bytes, true, label, path, span),
         Ok(Leads::AtPath) => delete_at(ctx, out, bytes, path, span),
         Ok(Leads::Node(n)) => delete_there(ctx, out, bytes, n, span),
-        Err(missing) => report_unresolved(ctx, out, bytes, missing, label, path, at),
+        Err(_) => report_unresolved(ctx, out, bytes, leads, label, path, at),
     }
 }
 

@@ -24,7 +24,7 @@ use input::record::{child_at, kind_at, no_text, span_at, text_at};
 use making::ctx::LowerCtx;
 use making::place::{PathAt, first_place, second_place};
 use making::recs::DefKind;
-use resolving::resolve::Leads;
+use resolving::resolve::{Leads, Missing};
 
 // A node whose definition is made: where its path stands.
 #[derive(Clone, Copy)]
@@ -85,7 +85,7 @@ pub fn define_leading(
     input: Input<'_>,
     r: u32,
     reference: u32,
-    leads: Leads,
+    leads: Result<Leads, Missing>,
     out: &mut [u32],
     bytes: &mut [u8],
     ctx: LowerCtx,
@@ -95,12 +95,15 @@ pub fn define_leading(
         (path_at input.entry.words.now input.entry.text.now reference) ctx result out.old bytes.old out.new
         bytes.new (parts_at input.entry.words.now input.entry.text.now r) (span_at input.entry.words.now r) }
 {
+    let Ok(to) = leads else {
+        return ctx;
+    };
     let parts = child_at(input.words, r);
     let kind = node_kind(input, parts);
     let span = span_at(input.words, r);
     let name_span = input.node_name_span(parts, span);
     let path = phandle_path_at(input.words, input.text, reference);
-    match leads {
+    match to {
         Leads::Bound(b) => {
             let place = second_place(out, b);
             ctx.define_at(out, bytes, kind, span, name_span, place)

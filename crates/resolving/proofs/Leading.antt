@@ -27,7 +27,7 @@ use Rattle.queries.specs.declared.lookup.Lookup.TheVariants as L
 use Rattle.queries.proofs.LookedUp.{found_live}
 use Rattle.paths_numbers.specs.meaning.Reference.{Target, label, label_path, path}
 use Rattle.resolving.specs.meaning.Resolve.{first_binding, by_lookup, by_label, below_label, live_at, resolve}
-use Rattle.resolving.specs.meaning.Resolve.{missing}
+use Rattle.resolving.specs.meaning.Resolve.{missing, reaches}
 use Rattle.input.specs.machine.PhandleRead.{label_at, path_at, phandle_read}
 use Rattle.input.specs.declared.report.Report.{Report}
 use Rattle.paths_numbers.specs.declared.phandle.MirPhandleTarget.{MirPhandleTarget}
@@ -344,9 +344,9 @@ answers_below {words} {bytes} {defs = defs} {l} {p} w v o e a =
     rw e (leads_below words bytes l p w (read_defs words bytes defs) v a.0, below_in w v _ a)
 
 -- what a reference that leads nowhere reports
-pub reports_overlay : {m : Missing} {l p : List ℕ} {span : Span} {c : LowerCtx} {words bytes : List ℕ}
+pub reports_overlay : {v : Result Led Missing} {l p : List ℕ} {span : Span} {c : LowerCtx} {words bytes : List ℕ}
     → sets_overlay (read_defs words bytes c.defs.first) ≡ true
-    → ReportsMissing m l p span c c words bytes words bytes
+    → ReportsMissing v l p span c c words bytes words bytes
 reports_overlay o =
     record {
       reports = λ k s code text h n i e.
@@ -354,12 +354,12 @@ reports_overlay o =
           rw (t, emit_none s) h;
     }
 
-module _ {m : Missing} {l p : List ℕ} {span : Span} {c d : LowerCtx} {words bytes w b : List ℕ} where
+module _ {v : Result Led Missing} {l p : List ℕ} {span : Span} {c d : LowerCtx} {words bytes w b : List ℕ} where
   module _ (o : sets_overlay (read_defs words bytes c.defs.first) ≡ false) where
-    pub reports_one : (code : ℕ) (text told : List ℕ) → resolution words bytes l p (Err m) ≡ missing code text
+    pub reports_one : (code : ℕ) (text told : List ℕ) → resolution words bytes l p v ≡ missing code text
         → ((k : Context) (s : State) → Represents k c words bytes s → c.short ≡ false
-        → Leads words bytes c.binds.first c.defs.first l p (Err m) → told ≡ text)
-        → Steps c d words bytes w b (emit (report code told span ∷ [])) → ReportsMissing m l p span c d words bytes w b
+        → Leads words bytes c.binds.first c.defs.first l p v → told ≡ text)
+        → Steps c d words bytes w b (emit (report code told span ∷ [])) → ReportsMissing v l p span c d words bytes w b
     reports_one code text told r g f =
         record {
           reports = λ k s code' text' h n i e.
@@ -368,6 +368,11 @@ module _ {m : Missing} {l p : List ℕ} {span : Span} {c d : LowerCtx} {words by
               let y : text ≡ text' = cc in
               rw (t, ← x, ← y, ← g k s h n i) (f.steps k s h n);
         }
+
+-- no report is asked of one that leads somewhere
+reports_never : {v : Result Led Missing} {l p : List ℕ} {span : Span} {c : LowerCtx} {words bytes q : List ℕ}
+    → resolution words bytes l p v ≡ reaches q → ReportsMissing v l p span c c words bytes words bytes
+reports_never r = record { reports = λ k s code text h n i e. let z : ◌≡◌ {A = ℕ} 0 1 = cc in absurd (omega arith) }
 
 -- the text of a path below a binding's
 pub below_text : {k : Context} {c : LowerCtx} {words bytes : List ℕ} {s : State} (r : ℕ) {l : List ℕ} (p : List ℕ)
@@ -379,24 +384,33 @@ below_text r p h n i =
     ap (λ (q : List ℕ). joined q p []) (path_of_binding h n x.before x.after r x.chain)
 
 -- a report by what was not found
-module _ {m : Missing} {l p : List ℕ} {span : LogSpan} {c d : LowerCtx} {words bytes w b : List ℕ} where
-  pub missing_label : m ≡ M.NoLabel → sets_overlay (read_defs words bytes c.defs.first) ≡ false
+module _ {v : Result Led Missing} {l p : List ℕ} {span : LogSpan} {c d : LowerCtx} {words bytes w b : List ℕ} where
+  pub missing_label : v ≡ Err M.NoLabel → sets_overlay (read_defs words bytes c.defs.first) ≡ false
       → Steps c d words bytes w b (emit (diag_made 3 l span no_span ∷ []))
-      → ReportsMissing m l p (meant span) c d words bytes w b
+      → ReportsMissing v l p (meant span) c d words bytes w b
   unfolding resolution
   missing_label e o f = rw e (reports_one o 3 l l refl (λ k s h n i. refl) f)
 
-  pub missing_node : (code : ℕ) → m ≡ M.NoNode code → sets_overlay (read_defs words bytes c.defs.first) ≡ false
+  pub missing_node : (code : ℕ) → v ≡ Err (M.NoNode code) → sets_overlay (read_defs words bytes c.defs.first) ≡ false
       → Steps c d words bytes w b (emit (diag_made code p span no_span ∷ []))
-      → ReportsMissing m l p (meant span) c d words bytes w b
+      → ReportsMissing v l p (meant span) c d words bytes w b
   unfolding resolution
   missing_node code e o f = rw e (reports_one o code p p refl (λ k s h n i. refl) f)
 
-  pub missing_below : (code r : ℕ) {place : PathAt} {unit : List ℕ} → m ≡ M.NoNodeBelow code r → place ≡ placed_in words r 4 → unit ≡ []
+  pub missing_below : (code r : ℕ) {place : PathAt} {unit : List ℕ} → v ≡ Err (M.NoNodeBelow code r) → place ≡ placed_in words r 4 → unit ≡ []
       → sets_overlay (read_defs words bytes c.defs.first) ≡ false
       → Steps c d words bytes w b (emit (diag_made code (joined (path_in c.bytes bytes place) p unit) span no_span ∷ []))
-      → ReportsMissing m l p (meant span) c d words bytes w b
+      → ReportsMissing v l p (meant span) c d words bytes w b
   unfolding resolution
   missing_below code r e x y o f =
       rw e (reports_one o code (joined (second_text words bytes r) p []) (joined (path_in c.bytes bytes (placed_in words r 4)) p []) refl
       (λ k s h n i. below_text r p h n i) (rw (x, y) at f))
+
+-- or none, where it leads somewhere
+module _ {v : Result Led Missing} {l p : List ℕ} {span : Span} {c : LowerCtx} {words bytes : List ℕ} where
+  pub missing_none : (to : Led) → v ≡ Ok to → ReportsMissing v l p span c c words bytes words bytes
+  unfolding resolution
+  missing_none (R.Bound r) e = rw e (reports_never refl)
+  missing_none (R.BoundPath r) e = rw e (reports_never refl)
+  missing_none R.AtPath e = rw e (reports_never refl)
+  missing_none (R.Node r) e = rw e (reports_never refl)

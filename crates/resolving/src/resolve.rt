@@ -162,14 +162,17 @@ pub fn report_unresolved(
     ctx: LowerCtx,
     out: &mut [u32],
     bytes: &mut [u8],
-    missing: Missing,
+    leads: Result<Leads, Missing>,
     label: &[u8],
     path: &[u8],
     span: Span,
 ) -> LowerCtx
-    ensures { ReportsMissing missing label.now path.now (meant span) ctx result out.old bytes.old
+    ensures { ReportsMissing leads label.now path.now (meant span) ctx result out.old bytes.old
         out.new bytes.new }
 {
+    let Err(missing) = leads else {
+        return ctx;
+    };
     if sets_overlay_in(out, ctx.defs.first) {
         return ctx;
     }

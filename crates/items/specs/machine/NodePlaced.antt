@@ -1,5 +1,5 @@
 -- Where the code puts a node before its body is lowered, and what the log says then.
-use Rattle.std.specs.Prelude.{ℕ, ◌≡◌, false, List, Ok}
+use Rattle.std.specs.Prelude.{ℕ, ◌≡◌, false, List, Result}
 use Rattle.paths_numbers.specs.meaning.Text.{is_empty}
 use Rattle.making.specs.declared.ctx.LowerCtx.{LowerCtx}
 use Rattle.making.specs.declared.place.PathAt.{PathAt}
@@ -17,6 +17,7 @@ use Rattle.resolving.specs.machine.Leading.{resolution, Leads}
 use Rattle.items.specs.machine.Opened.{bare_node}
 use Rattle.items.specs.machine.PropertyMade.{is_top}
 use Rattle.resolving.specs.declared.resolve.Leads.{Leads as Led}
+use Rattle.resolving.specs.declared.resolve.Missing.{Missing}
 use Rattle.items.specs.declared.dt_node.NodePlace.{NodePlace}
 use Rattle.items.specs.declared.dt_node.NodePlace.TheVariants as N
 use Rattle.items.specs.declared.dt_node.PlacedNode.{PlacedNode}
@@ -65,8 +66,8 @@ PlacesInAt parent c words bytes w b input text r l v =
     PlacesIn parent c words bytes w b input text (parts_at input text r) (span_at input r) l v
 
 -- the definition of a node where its reference leads
-pub record DefinesLeading (v : Led) (l path : List ℕ) (c d : LowerCtx) (words bytes w b : List ℕ) (parts : Trees) (span : Span) : Type
+pub record DefinesLeading (v : Result Led Missing) (l path : List ℕ) (c d : LowerCtx) (words bytes w b : List ℕ) (parts : Trees) (span : Span) : Type
     0 where
   pub defines : (k : Context) (s : State) (p : List ℕ) → Represents k c words bytes s → c.short ≡ false
-      → Leads words bytes c.binds.first c.defs.first l path (Ok v) → resolution words bytes l path (Ok v) ≡ reaches p
+      → Leads words bytes c.binds.first c.defs.first l path v → resolution words bytes l path v ≡ reaches p
       → Represents k d w b (define (bare_node p parts span) s)

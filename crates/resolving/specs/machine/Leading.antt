@@ -117,8 +117,8 @@ AnswersPhandle input text r read words bytes binds defs v =
     × Leads words bytes binds defs (label_at input text r) (path_at input text r) v
 
 -- a reference that leads nowhere reported, but in an overlay
-pub record ReportsMissing (m : Missing) (l p : List ℕ) (span : Span) (c d : LowerCtx) (words bytes w b : List ℕ) : Type 0 where
+pub record ReportsMissing (v : Result Led Missing) (l p : List ℕ) (span : Span) (c d : LowerCtx) (words bytes w b : List ℕ) : Type 0 where
   pub reports : (k : Context) (s : State) (code : ℕ) (text : List ℕ) → Represents k c words bytes s → c.short ≡ false
-      → Leads words bytes c.binds.first c.defs.first l p (Err m)
-      → resolution words bytes l p (Err m) ≡ missing code text → Represents k d w b
+      → Leads words bytes c.binds.first c.defs.first l p v
+      → resolution words bytes l p v ≡ missing code text → Represents k d w b
       (emit (cond (sets_overlay s.defs) [] (report code text span ∷ [])) s)

@@ -12,7 +12,7 @@ returns-in-Ok c =
     rw c.placed_at.ensures (place_found a.ctx a.out.now a.bytes.now _ _ _
     c.resolve_phandle-leads.result c.resolve_phandle-leads.ensures.1 (c.resolve_phandle-leads.ensures.0 _ refl)
     (record_at a.input.words.now a.input.text.now a.reference)
-    c.in-Ok.to c.in-Ok.is
+    c.in-Ok.field-0 c.in-Ok.is
     c.define_leading-made.ensures
     (rw c.child_at.ensures at
     c.open_node.ensures))
@@ -23,7 +23,7 @@ returns-in-Err c =
     let a = s.args in
     λ parent.
     place_missing a.ctx a.out.now a.bytes.now
-    c.resolve_phandle-leads.result c.in-Err.missing a.input.words.now a.input.text.now a.reference a.kind c.resolve_phandle-leads.ensures.1 (c.resolve_phandle-leads.ensures.0 _ refl)
+    c.resolve_phandle-leads.result c.in-Err.field-0 a.input.words.now a.input.text.now a.reference a.kind c.resolve_phandle-leads.ensures.1 (c.resolve_phandle-leads.ensures.0 _ refl)
     c.in-Err.is
     (c.sets_overlay_in-keeps.ensures a.bytes.now)
     (rw (

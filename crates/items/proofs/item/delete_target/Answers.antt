@@ -64,6 +64,6 @@ returns-in-Err c =
     c.requires
     (c.resolve_phandle-leads.ensures.0 _ refl)
     c.resolve_phandle-leads.ensures.1
-    c.in-Err.missing c.in-Err.is
+    c.in-Err.field-0 c.in-Err.is
     c.span_at-at.ensures
     (rw (c.phandle_label_at-label.ensures, c.phandle_path_at-path.ensures) at c.report_unresolved.ensures)

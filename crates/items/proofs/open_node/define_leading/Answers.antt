@@ -1,10 +1,17 @@
 -- By where the reference leads (NodeReferenced).
 use mathlib.Core.Path.{refl, ap, ◌∙◌}
+use Rattle.std.specs.Prelude.{Ok}
 use Rattle.making.specs.machine.PathPlaces.{path_in}
 use Rattle.input.specs.meaning.Input.{span_at}
 use Rattle.input.specs.machine.PhandleRead.{label_at, path_at}
-use Rattle.items.proofs.NodeReferenced.{defines_bound, defines_below, defines_path, defines_named}
+use Rattle.items.proofs.NodeReferenced.{defines_bound, defines_below, defines_path, defines_named, defines_none}
 use Rattle.items.proofs.open_node.define_leading.Goals as goal
+
+pub returns-in_default : goal.returns-in_default
+returns-in_default c =
+    let a = c.args in
+    defines_none a.leads (label_at a.input.words.now a.input.text.now a.reference) (path_at a.input.words.now a.input.text.now a.reference) _
+    c.in_default.is
 
 pub returns-in-Bound : goal.returns-in-Bound
 returns-in-Bound c =
@@ -26,7 +33,7 @@ returns-in-Bound c =
       c.span_at-span.ensures,
     )
     refl)
-    _ c.in-Bound.is
+    _ (c.in-Ok.is ∙ ap Ok c.in-Bound.is)
     (ap (path_in a.ctx.bytes a.bytes.now) c.second_place-place.ensures)
 
 pub returns-in-BoundPath : goal.returns-in-BoundPath
@@ -45,7 +52,7 @@ returns-in-BoundPath c =
       part,
       c.span_at-span.ensures,
     ) refl)
-    _ c.in-BoundPath.is
+    _ (c.in-Ok.is ∙ ap Ok c.in-BoundPath.is)
     (rw (
       c.second_place-place-in-BoundPath.ensures,
       c.phandle_path_at-path.ensures,
@@ -68,7 +75,7 @@ returns-in-AtPath c =
     text)) c.span_at-span.ensures
     (c.node_name_span-name_span.ensures text
     ∙ rw (part, c.span_at-span.ensures) refl)
-    c.in-AtPath.is
+    (c.in-Ok.is ∙ ap Ok c.in-AtPath.is)
     c.phandle_path_at-path.ensures
 
 pub returns-in-Node : goal.returns-in-Node
@@ -91,5 +98,5 @@ returns-in-Node c =
       c.span_at-span.ensures,
     )
     refl)
-    _ c.in-Node.is
+    _ (c.in-Ok.is ∙ ap Ok c.in-Node.is)
     (ap (path_in a.ctx.bytes a.bytes.now) c.first_place-place.ensures)
