@@ -16,11 +16,11 @@ use judge::{
 };
 use paths_numbers::{
     dt_node,
-    dt_property::{self, BitsSize, CellError, MissingDigit, SizeError},
+    dt_property::{self, BitsSize, BytesError, CellError, MissingDigit, SizeError},
     expr_eval::{self, IntErrorKind},
     mir,
     operators::{self, EvalError},
-    phandle::{self, MirPhandleTarget},
+    phandle,
 };
 use slashes::slash;
 
@@ -77,23 +77,19 @@ fn ours() -> Leaves {
         cell: Some(|bits, value| cell(dt_property::expr_cell(value, size(bits)))),
         character: Some(|bits, point| cell(dt_property::char_cell(point, size(bits)))),
         bytes: Some(|text| match dt_property::bytestring_len(text) {
-            Err(MissingDigit) => Err(11),
+            Err(MissingDigit) => Err(missing_digit(text)),
             Ok(length) => Ok(in_room(length, &|out| dt_property::lower_bytestring(text, out, 2).ok())),
         }),
         prefix: Some(|op, operand| evaluated(operators::eval_prefix(op, operand))),
         infix: Some(|op, left, right| evaluated(operators::eval_infix(op, left, right))),
         conditional: Some(operators::eval_conditional),
         reference: Some(|raw| {
-            let target = |form, label: &[u8], path: &[u8]| {
-                Some(Target { form, label: label.to_vec(), path: path.to_vec() })
-            };
-            match phandle::lower_phandle(raw)? {
-                MirPhandleTarget::Label => target(1, phandle::phandle_label(raw), b""),
-                MirPhandleTarget::LabelPath => {
-                    target(2, phandle::phandle_label(raw), phandle::phandle_path(raw))
-                }
-                MirPhandleTarget::Path => target(3, b"", phandle::phandle_path(raw)),
-            }
+            let read = phandle::lower_phandle(raw);
+            read.map(|_| Target {
+                form: phandle::target_number(read),
+                label: phandle::phandle_label(raw).to_vec(),
+                path: phandle::phandle_path(raw).to_vec(),
+            })
         }),
     }
 }
@@ -124,6 +120,14 @@ fn int(kind: Int, text: &[u8]) -> Result<i128, u32> {
         Int::U32 => unsigned(BitsSize::Bits32),
         Int::U64 => unsigned(BitsSize::Bits64),
         Int::I64 => expr_eval::parse_int_tok_i64(text).map(i128::from).map_err(code),
+    }
+}
+
+/// The code of a missing digit, where writing the bytestring finds it too, though there is room.
+fn missing_digit(text: &[u8]) -> u32 {
+    match dt_property::lower_bytestring(text, &mut vec![7; text.len()], 0) {
+        Err(BytesError::MissingDigit) => 11,
+        _ => u32::MAX,
     }
 }
 

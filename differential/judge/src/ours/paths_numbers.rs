@@ -130,7 +130,12 @@ pub fn leaves() -> Leaves {
         bytes: Some(|text| {
             let length = unsafe { pn_bytestring_len(text.as_ptr(), text.len()) };
             if length.number != 0 {
-                return Err(length.number);
+                // Writing it says the same, though there is room.
+                let mut room = vec![7; text.len()];
+                let written = unsafe {
+                    pn_lower_bytestring(text.as_ptr(), text.len(), room.as_mut_ptr(), room.len(), 0)
+                };
+                return Err(if written.number == length.number { length.number } else { u32::MAX });
             }
             Ok(in_room(length.len, &|out| unsafe {
                 pn_lower_bytestring(text.as_ptr(), text.len(), out.as_mut_ptr(), out.len(), 2).read()
