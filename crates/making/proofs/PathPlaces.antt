@@ -74,34 +74,44 @@ unfolding path_of
 path_bytes used bytes p start size e = ap (path_of bytes) e
 
 -- bytes that are as they were below a place
-pub part_same : (o d : List ℕ) (from size at : ℕ) → from + size ≤ at → at ≤ length d → length o ≡ length d
+pub part_same : (o d : List ℕ) (from size at : ℕ) → from + size ≤ at → at ≤ length o → at ≤ length d
     → ((k : ℕ) → k < at → get_or o k 0 ≡ get_or d k 0)
     → part o from size ≡ part d from size
-part_same o d from size at h l n same =
+part_same o d from size at h m l same =
     let e = part_length o from size (omega arith) in
     let f = part_length d from size (omega arith) in
     ext_get_or 0 (part o from size) (part d from size) (e ∙ sym f)
     (λ i k. part_at o from size i (omega arith) ∙ same (from + i) (omega arith) ∙ sym (part_at d from size i (omega arith)))
 
 -- and so a path that is read there
-pub path_same : (o d : List ℕ) (used at : ℕ) (p : PathAt) → used ≤ at → at ≤ length d → length o ≡ length d
+pub path_same : (o d : List ℕ) (used at : ℕ) (p : PathAt) → used ≤ at → at ≤ length o → at ≤ length d
     → ((k : ℕ) → k < at → get_or o k 0 ≡ get_or d k 0)
     → path_in used o p ≡ path_in used d p
 unfolding path_of settled stands
-path_same o d used at P.Root h l n same = refl
-path_same o d used at (P.Bytes start size) h l n same =
+path_same o d used at P.Root h m l same = refl
+path_same o d used at (P.Bytes start size) h m l same =
     by_test (leb (start + size) used)
     (λ t.
-    by_test (leb (start + size) (length d))
-    (λ u. rw (n, t, u) (part_same o d start size at (omega (arith, leb-true _ _ t)) l n same))
-    (λ u. rw (n, t, u) refl))
+    let k = leb-true _ _ t in
+    rw (t, le-leb (start + size) (length o) (omega arith), le-leb (start + size) (length d) (omega arith))
+    (part_same o d start size at (omega arith) m l same))
     (λ t. rw t refl)
 
-pub piece_same : (o d : List ℕ) (used at : ℕ) (p : Piece) → used ≤ at → at ≤ length d → length o ≡ length d
+pub piece_same : (o d : List ℕ) (used at : ℕ) (p : Piece) → used ≤ at → at ≤ length o → at ≤ length d
     → ((k : ℕ) → k < at → get_or o k 0 ≡ get_or d k 0)
     → piece_in used o p ≡ piece_in used d p
-piece_same o d used at (C.Given text) h l n same = refl
-piece_same o d used at (C.At p) h l n same = path_same o d used at p h l n same
+piece_same o d used at (C.Given text) h m l same = refl
+piece_same o d used at (C.At p) h m l same = path_same o d used at p h m l same
+
+-- in the front of the bytes they are the same
+front_same : (d : List ℕ) (at : ℕ) → (k : ℕ) → k < at → get_or (take at d) k 0 ≡ get_or d k 0
+front_same d at k h = get_or-take at d k 0 h
+
+pub path_front : (d : List ℕ) (used at : ℕ) (p : PathAt) → used ≤ at → at ≤ length d → path_in used (take at d) p ≡ path_in used d p
+path_front d used at p h l = path_same (take at d) d used at p h (omega (arith, length-take-le at d l)) l (front_same d at)
+
+pub piece_front : (d : List ℕ) (used at : ℕ) (p : Piece) → used ≤ at → at ≤ length d → piece_in used (take at d) p ≡ piece_in used d p
+piece_front d used at p h l = piece_same (take at d) d used at p h (omega (arith, length-take-le at d l)) l (front_same d at)
 
 -- what is written behind them leaves them
 pub written_below : (d : List ℕ) (at : ℕ) (x : List ℕ) (k : ℕ) → k < at → at ≤ length d → get_or (written d at x) k 0 ≡ get_or d k 0
@@ -112,17 +122,17 @@ written_below d at x k h l =
 
 pub part_written : (d : List ℕ) (at : ℕ) (x : List ℕ) (from size : ℕ) → from + size ≤ at → at + length x ≤ length d
     → part (written d at x) from size ≡ part d from size
-part_written d at x from size h l = part_same (written d at x) d from size at h (omega arith) (written_length d at x l)
+part_written d at x from size h l = part_same (written d at x) d from size at h (omega (arith, written_length d at x l)) (omega arith)
     (λ k j. written_below d at x k j (omega arith))
 
 pub text_written : (d : List ℕ) (used at : ℕ) (x : List ℕ) (t : Text) → used ≤ at → at + length x ≤ length d
     → text_said used (written d at x) t ≡ text_said used d t
 text_written d used at x (T.Whole p) h l =
-    piece_same (written d at x) d used at p h (omega arith) (written_length d at x l) (λ k j. written_below d at x k j (omega arith))
+    piece_same (written d at x) d used at p h (omega (arith, written_length d at x l)) (omega arith) (λ k j. written_below d at x k j (omega arith))
 text_written d used at x (T.Joined p name unit) h l =
-    let n = written_length d at x l in
+    let n : at ≤ length (written d at x) = omega (arith, written_length d at x l) in
     let same : (k : ℕ) → k < at → get_or (written d at x) k 0 ≡ get_or d k 0 = λ k j. written_below d at x k j (omega arith) in
-    rw (path_same (written d at x) d used at p h (omega arith) n same, piece_same (written d at x) d used at name h (omega arith) n same) refl
+    rw (path_same (written d at x) d used at p h n (omega arith) same, piece_same (written d at x) d used at name h n (omega arith) same) refl
 
 -- one byte written
 pub written_one : (d : List ℕ) (at b : ℕ) → at < length d → set d at b ≡ written d at (b ∷ [])

@@ -1,16 +1,11 @@
 -- What the library's writes into a part of a buffer come to.
 use Rattle.std.proofs.Common.{◌≡◌, ℕ, ◌+◌, ◌≤◌, List, ◌++◌, length, take, drop, replicate, refl, sym, ◌∙◌, arith}
-use Rattle.std.proofs.lemmas.Slice.{put_mid-paste}
 use borrow.Rule.Slice.PartMut.{put_mid}
 use lib.ListN.{length-replicate}
-use lib.Seq.{paste, take_all}
+use lib.Seq.{paste}
 use Rattle.paths_numbers.specs.meaning.Text.{written}
+use Rattle.paths_numbers.proofs.Written.{put_written}
 use Rattle.definition_log.proofs.Texts.{part, part_length}
-
--- a part of its length
-pub put_written : (d : List ℕ) (at k : ℕ) (ys s : List ℕ) → ys ≡ s → k ≡ length s → put_mid at k d ys ≡ written d at s
-unfolding written
-put_written d at k ys s e n = put_mid-paste at k d ys s (length s) e (sym n) refl ∙ rw (take_all (length s) s (omega arith)) refl
 
 -- a part of the buffer itself
 pub pasted : (d : List ℕ) (at from size n : ℕ) → n ≡ size → from + size ≤ length d → paste d at (drop from d) n ≡ written d at (part d from size)

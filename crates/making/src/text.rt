@@ -6,7 +6,7 @@ ghost use Rattle.making.specs.machine.PathPlaces.{path_in};
 ghost use Rattle.making.specs.machine.Texts.{piece_in, text_said};
 
 use crate::place::PathAt;
-use paths_numbers::dt_node::{path_byte, path_len};
+use paths_numbers::dt_node::{build_path, path_len};
 
 // Bytes that are given, or the path of a place.
 #[derive(Clone, Copy)]
@@ -87,8 +87,8 @@ fn write_joined(used: u32, bytes: &mut [u8], at: usize, path: PathAt, name: Piec
     ensures { bytes.new ≡ written bytes.old at
         (joined (path_in used bytes.old path) (piece_in used bytes.old name.entry) unit.now) }
 {
-    for i in 0..path_len(path.text(used, bytes), name.bytes(used, bytes), unit) {
-        let b = path_byte(path.text(used, bytes), name.bytes(used, bytes), unit, i);
-        bytes[at + i] = b;
-    }
+    let (front, back) = bytes.split_at_mut(at);
+    let parent = path.text(used, front);
+    let below = name.bytes(used, front);
+    let _ = build_path(parent, below, unit, back, 0); // there is room
 }

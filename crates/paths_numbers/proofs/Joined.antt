@@ -1,7 +1,7 @@
 -- What joining a parent and a name comes to, byte by byte and in length.
-use Rattle.std.proofs.Common.{◌≡◌, ℕ, suc, ◌+◌, ◌-◌, ◌<◌, ◌≤◌, Bool, true, false, cond, eqb, List, [], ◌∷◌, ◌++◌, length, get_or, sym, refl, ap, ◌∙◌, arith, length-append, get_or-append-add, ne_eqb}
+use Rattle.std.proofs.Common.{◌≡◌, ℕ, suc, ◌+◌, ◌-◌, ◌<◌, ◌≤◌, Bool, true, false, cond, eqb, List, [], ◌∷◌, ◌++◌, length, get_or, take, sym, refl, ap, ◌∙◌, arith, length-append, get_or-append-add, ne_eqb}
 use lib.ListN.{get_or-append, get_or-eq_default}
-use lib.Seq.{get_or_at}
+use lib.Seq.{get_or_at, take_all}
 use Rattle.paths_numbers.specs.meaning.Byte.{slash, at_sign}
 use Rattle.paths_numbers.specs.meaning.Text.{same, is_empty}
 use Rattle.paths_numbers.specs.meaning.Path.{root, join, joined, with_unit}
@@ -27,6 +27,12 @@ unit_some name unit n = rw (not_empty unit n) refl
 -- a name with a unit address is longer by it and the "@"
 pub unit_length : (name unit : List ℕ) → (length unit ≡ 0 → ⊥) → length (with_unit name unit) ≡ length name + 1 + length unit
 unit_length name unit n = rw (unit_some name unit n) (omega (arith, length-append name (at_sign ∷ unit)))
+
+-- a name is no longer than with its unit address
+pub name_within : (name unit : List ℕ) → length name ≤ length (with_unit name unit)
+unfolding with_unit
+name_within name unit =
+    by_test (is_empty unit) (λ e. rw e (omega arith)) (λ e. rw e (omega (arith, length-append name (at_sign ∷ unit))))
 
 -- a name with a unit address is not "/"
 pub unit_not_root : (name unit : List ℕ) → (length unit ≡ 0 → ⊥) → same (with_unit name unit) root ≡ false
@@ -62,6 +68,14 @@ stem_of false parent i h = refl
 -- a stem that has bytes is the parent
 pub stem_is : (parent : List ℕ) (i : ℕ) → i < length (stem parent) → stem parent ≡ parent
 stem_is parent i h = stem_of (same parent root) parent i h
+
+-- a stem is the front of the parent
+stem_front : (t : Bool) (parent : List ℕ) → take (length (cond t [] parent)) parent ≡ cond t [] parent
+stem_front true parent = refl
+stem_front false parent = take_all (length parent) parent (omega arith)
+
+pub stem_taken : (parent : List ℕ) → take (length (stem parent)) parent ≡ stem parent
+stem_taken parent = stem_front (same parent root) parent
 
 -- by whether the parent is "/"
 stem_join : (t : Bool) (parent name : List ℕ) → cond t (slash ∷ name) (parent ++ slash ∷ name) ≡ cond t [] parent ++ slash ∷ name

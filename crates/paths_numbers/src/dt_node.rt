@@ -101,20 +101,45 @@ pub fn build_path(
     if room < n {
         return None;
     }
-    write_path(parent, name, unit, out, at, n);
+    write_path(parent, name, unit, out, at);
     Some(n)
 }
 
-// Writes the first `n` bytes of the path of a parent and a name.
-fn write_path(parent: &[u8], name: &[u8], unit: &[u8], out: &mut [u8], at: usize, n: usize)
-    requires n_in_bounds { at + n ≤ length out.old }
-    requires n_value { n ≡ length (joined parent.now name.now unit.now) }
-    ensures { out.new ≡ written out.old at
-        (joined parent.now name.now unit.now) }
+// Writes the path of a parent and a name.
+fn write_path(parent: &[u8], name: &[u8], unit: &[u8], out: &mut [u8], at: usize)
+    requires { at + length (joined parent.now name.now unit.now) ≤ length out.old }
+    ensures { out.new ≡ written out.old at (joined parent.now name.now unit.now) }
 {
-    for i in 0..n {
-        out[at + i] = path_byte(parent, name, unit, i);
+    if name_is_root(name, unit) {
+        put(b"/", out, at);
+        return;
     }
+    let k = before_slash(parent);
+    put(&parent[..k], out, at);
+    put(b"/", out, at + k);
+    write_name(name, unit, out, at + k + 1);
+}
+
+// Writes a name with its unit address.
+fn write_name(name: &[u8], unit: &[u8], out: &mut [u8], at: usize)
+    requires { at + length (with_unit name.now unit.now) ≤ length out.old }
+    ensures { out.new ≡ written out.old at (with_unit name.now unit.now) }
+{
+    put(name, out, at);
+    if unit.is_empty() {
+        return;
+    }
+    let sign = at + name.len();
+    put(b"@", out, sign);
+    put(unit, out, sign + 1);
+}
+
+// Writes a text.
+fn put(text: &[u8], out: &mut [u8], at: usize)
+    requires { at + length text.now ≤ length out.old }
+    ensures { out.new ≡ written out.old at text.now }
+{
+    out[at..at + text.len()].copy_from_slice(text);
 }
 
 // Whether a path is that of a parent and a name.

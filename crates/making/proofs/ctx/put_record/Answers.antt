@@ -1,6 +1,6 @@
 -- The sixteen words are written, then the link is set (Records).
 use Rattle.std.proofs.Common.{arith}
-use Rattle.making.proofs.Puts.{put_written}
+use Rattle.paths_numbers.proofs.Written.{put_written}
 use Rattle.making.proofs.Records.{record_linked, record_alone}
 use Rattle.making.proofs.ctx.put_record.Goals as goal
 

@@ -23,7 +23,7 @@ pub write_path-requires : goal.write_path-requires
 write_path-requires c =
     let a = c.args in
     let p = joined a.parent.now a.name.now a.unit.now in
-    record { n_in_bounds = omega arith; n_value = uncut largest_usize (length p) _ c.path_len-n.ensures (omega arith) }
+    omega (arith, uncut largest_usize (length p) _ c.path_len-n.ensures (omega arith))
 
 pub returns : goal.returns
 returns c =

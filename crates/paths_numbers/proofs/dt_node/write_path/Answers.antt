@@ -1,19 +1,52 @@
-use Rattle.std.proofs.Common.{refl, add-zero, arith}
-use Rattle.paths_numbers.specs.meaning.Path.{joined}
-use Rattle.paths_numbers.proofs.Written.{written_byte, written_all}
+-- The stem of the parent, "/" and the name are written one behind another (Joined: joined_root, joined_plain; Written: written_joined).
+use Rattle.std.proofs.Common.{◌+◌, [], ◌∷◌, length, sym, ap, ◌∙◌, arith}
+use Rattle.paths_numbers.specs.meaning.Byte.{slash}
+use Rattle.paths_numbers.specs.meaning.Text.{written}
+use Rattle.paths_numbers.specs.meaning.Path.{with_unit}
+use Rattle.paths_numbers.specs.machine.Limits.{stem}
+use Rattle.paths_numbers.proofs.Written.{written_joined, written_length}
+use Rattle.paths_numbers.proofs.Joined.{joined_root, joined_plain, joined_length, stem_taken}
 use Rattle.paths_numbers.proofs.dt_node.write_path.Goals as goal
 
-pub loop-i-init : goal.loop-i-init
-loop-i-init c = rw add-zero refl
-
-pub loop-i-preserved : goal.loop-i-preserved
-loop-i-preserved c =
+pub put-requires : goal.put-requires
+put-requires c =
     let a = c.args in
-    let l = c.loop-i in
-    written_byte l.out a.at (joined a.parent.now a.name.now a.unit.now) l.i _ _ l.invariant (omega arith) (omega arith) c.path_byte.ensures
+    let e = joined_root a.parent.now a.name.now a.unit.now (sym c.if-name_is_root.ensures) in
+    rw e at c.requires
+
+pub returns-then-name_is_root : goal.returns-then-name_is_root
+returns-then-name_is_root c =
+    let a = c.args in
+    c.put.ensures ∙ ap (written a.out.now a.at) (sym (joined_root a.parent.now a.name.now a.unit.now (sym c.if-name_is_root.ensures)))
+
+pub put-requires-2 : goal.put-requires-2
+put-requires-2 c =
+    let a = c.args in
+    let n = joined_length a.parent.now a.name.now a.unit.now (sym c.if-name_is_root.ensures) in
+    rw (c.before_slash-k.ensures, stem_taken a.parent.now) (omega (arith, c.requires, n))
+
+pub put-requires-3 : goal.put-requires-3
+put-requires-3 c =
+    let a = c.args in
+    let n = joined_length a.parent.now a.name.now a.unit.now (sym c.if-name_is_root.ensures) in
+    let k = written_length a.out.now a.at (stem a.parent.now) (omega (arith, c.requires, n)) in
+    rw (c.put-2.ensures, c.before_slash-k.ensures, stem_taken a.parent.now) (omega (arith, c.requires, n, k))
+
+pub write_name-requires : goal.write_name-requires
+write_name-requires c =
+    let a = c.args in
+    let p = stem a.parent.now in
+    let n = joined_length a.parent.now a.name.now a.unit.now (sym c.if-name_is_root.ensures) in
+    let k = written_length a.out.now a.at p (omega (arith, c.requires, n)) in
+    let m = written_length (written a.out.now a.at p) (a.at + length p) (slash ∷ []) (omega (arith, c.requires, n, k)) in
+    rw (c.put-3.ensures, c.put-2.ensures, c.before_slash-k.ensures, stem_taken a.parent.now) (omega (arith, c.requires, n, k, m))
 
 pub returns : goal.returns
 returns c =
     let a = c.args in
-    let l = c.loop-i in
-    written_all l.out a.at (joined a.parent.now a.name.now a.unit.now) l.i _ l.invariant (omega arith)
+    let p = stem a.parent.now in
+    let e = sym c.if-name_is_root.ensures in
+    let n = joined_length a.parent.now a.name.now a.unit.now e in
+    rw (c.write_name.ensures, c.put-3.ensures, c.put-2.ensures, c.before_slash-k.ensures, stem_taken a.parent.now)
+    (written_joined a.out.now a.at p slash (with_unit a.name.now a.unit.now) (omega (arith, c.requires, n))
+    ∙ ap (written a.out.now a.at) (sym (joined_plain a.parent.now a.name.now a.unit.now e)))

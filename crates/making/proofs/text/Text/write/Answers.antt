@@ -2,7 +2,7 @@
 use Rattle.std.proofs.Common.{rules, ◌≡◌, ap, ◌∙◌, arith}
 use Rattle.paths_numbers.specs.meaning.Text.{written}
 use Rattle.making.specs.machine.Texts.{text_said}
-use Rattle.making.proofs.Puts.{put_written}
+use Rattle.paths_numbers.proofs.Written.{put_written}
 use Rattle.making.proofs.text.Text.write.Goals as goal
 
 pub returns-in-Whole-Given : goal.returns-in-Whole-Given
