@@ -1,5 +1,5 @@
 use Rattle.std.proofs.Common.{refl, add-zero, arith}
-use Rattle.paths_numbers.specs.meaning.Path.{joined}
+use Rattle.paths_numbers.specs.meaning.Path.{joined_path}
 use Rattle.paths_numbers.proofs.Written.{written_byte, written_all}
 use Rattle.paths_numbers.proofs.dt_node.write_path.Goals as goal
 
@@ -10,10 +10,10 @@ pub loop-i-preserved : goal.loop-i-preserved
 loop-i-preserved c =
     let a = c.args in
     let l = c.loop-i in
-    written_byte l.out a.at (joined a.parent.now a.name.now a.unit.now) l.i _ _ l.invariant (omega arith) (omega arith) c.path_byte.ensures
+    written_byte l.out a.at (joined_path a.path) l.i _ _ l.invariant (omega arith) (omega arith) c.path_byte.ensures
 
 pub returns : goal.returns
 returns c =
     let a = c.args in
     let l = c.loop-i in
-    written_all l.out a.at (joined a.parent.now a.name.now a.unit.now) l.i _ l.invariant (omega arith)
+    written_all l.out a.at (joined_path a.path) l.i _ l.invariant (omega arith)
