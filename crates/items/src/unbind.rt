@@ -13,9 +13,9 @@ use definition_log::chain::Walk;
 use definition_log::record::{first_text, second_text};
 use making::ctx::LowerCtx;
 use making::place::PathAt;
+use paths_numbers::dt_node::Joined;
 use paths_numbers::text::equals;
 use queries::mir::unbinds;
-use queries::path::Joined;
 use resolving::resolve::first_with;
 
 // The path of a deletion: of a name below a place, that of a place, the name itself, a binding's path, or of

@@ -1,12 +1,12 @@
 // A text of a record that is made: bytes that are given, or a path that the bytes of the log have.
 ghost use Rattle.std.specs.Prelude.{◌≡◌, ◌+◌, ◌≤◌, length};
 ghost use Rattle.paths_numbers.specs.meaning.Text.{written};
-ghost use Rattle.paths_numbers.specs.meaning.Path.{joined, at_most, largest_usize};
+ghost use Rattle.paths_numbers.specs.meaning.Path.{joined, joined_path, at_most, largest_usize};
 ghost use Rattle.making.specs.machine.PathPlaces.{path_in};
 ghost use Rattle.making.specs.machine.Texts.{piece_in, text_said};
 
 use crate::place::PathAt;
-use paths_numbers::dt_node::{build_path, path_len};
+use paths_numbers::dt_node::{Joined, build_path, path_len};
 
 // Bytes that are given, or the path of a place.
 #[derive(Clone, Copy)]
@@ -48,9 +48,7 @@ impl<'a> Text<'a> {
     {
         match self {
             Text::Whole(piece) => piece.bytes(used, bytes).len(),
-            Text::Joined { path, name, unit } => {
-                path_len(path.text(used, bytes), name.bytes(used, bytes), unit)
-            }
+            Text::Joined { path, name, unit } => path_len(joined_in(used, bytes, path, name, unit)),
         }
     }
 
@@ -88,7 +86,22 @@ fn write_joined(used: u32, bytes: &mut [u8], at: usize, path: PathAt, name: Piec
         (joined (path_in used bytes.old path) (piece_in used bytes.old name.entry) unit.now) }
 {
     let (front, back) = bytes.split_at_mut(at);
-    let parent = path.text(used, front);
-    let below = name.bytes(used, front);
-    let _ = build_path(parent, below, unit, back, 0); // there is room
+    let _ = build_path(joined_in(used, front, path, name, unit), back, 0); // there is room
+}
+
+// The path of a name under a path, in its parts.
+fn joined_in<'a>(
+    used: u32,
+    bytes: &'a [u8],
+    path: PathAt,
+    name: Piece<'a>,
+    unit: &'a [u8],
+) -> Joined<'a>
+    ensures { joined_path result ≡ joined (path_in used bytes.now path) (piece_in used bytes.now name.entry) unit.now }
+{
+    Joined {
+        parent: path.text(used, bytes),
+        name: name.bytes(used, bytes),
+        unit,
+    }
 }

@@ -16,7 +16,9 @@ ghost use Rattle.paths_numbers_c.specs.meaning.Told.{width_told, int_at, expr_at
 ghost use Rattle.slashes.specs.meaning.Slash.{next_slash};
 
 use paths_numbers::codes::Code;
-use paths_numbers::dt_node::{build_path, is_path, lies_under_path, path_len, path_lies_under};
+use paths_numbers::dt_node::{
+    Joined, build_path, is_path, lies_under_path, path_len, path_lies_under,
+};
 use paths_numbers::dt_property::{
     BitsSize, BytesError, MissingDigit, SizeError, bytestring_len, char_cell, expr_cell,
     lower_bytestring,
@@ -114,7 +116,7 @@ pub extern "C" fn pn_next_slash(path: &[u8], from: usize) -> PnPlace
 pub extern "C" fn pn_path_len(parent: &[u8], name: &[u8], unit: &[u8]) -> usize
     ensures { result ≡ joined_len parent.now name.now unit.now }
 {
-    path_len(parent, name, unit)
+    path_len(Joined { parent, name, unit })
 }
 
 // Writes the path of a parent and a name into `out` from `at` on.
@@ -131,7 +133,7 @@ pub extern "C" fn pn_build_path(
     ensures out_after { out.new ≡ built_out (joined parent.now name.now unit.now) out.old
         at }
 {
-    told_built(build_path(parent, name, unit, out, at))
+    told_built(build_path(Joined { parent, name, unit }, out, at))
 }
 
 // Whether a path is that of a parent and a name.
@@ -139,7 +141,7 @@ pub extern "C" fn pn_build_path(
 pub extern "C" fn pn_is_path(this: &[u8], parent: &[u8], name: &[u8], unit: &[u8]) -> u32
     ensures { result ≡ truth (same this.now (joined parent.now name.now unit.now)) }
 {
-    u32::from(is_path(this, parent, name, unit))
+    u32::from(is_path(this, Joined { parent, name, unit }))
 }
 
 // Whether a path lies at or under that of a parent and a name.
@@ -147,7 +149,7 @@ pub extern "C" fn pn_is_path(this: &[u8], parent: &[u8], name: &[u8], unit: &[u8
 pub extern "C" fn pn_lies_under_path(this: &[u8], parent: &[u8], name: &[u8], unit: &[u8]) -> u32
     ensures { result ≡ truth (at_or_under this.now (joined parent.now name.now unit.now)) }
 {
-    u32::from(lies_under_path(this, parent, name, unit))
+    u32::from(lies_under_path(this, Joined { parent, name, unit }))
 }
 
 // Whether the path of a parent and a name lies at or under another.
@@ -155,7 +157,7 @@ pub extern "C" fn pn_lies_under_path(this: &[u8], parent: &[u8], name: &[u8], un
 pub extern "C" fn pn_path_lies_under(parent: &[u8], name: &[u8], unit: &[u8], base: &[u8]) -> u32
     ensures { result ≡ truth (at_or_under (joined parent.now name.now unit.now) base.now) }
 {
-    u32::from(path_lies_under(parent, name, unit, base))
+    u32::from(path_lies_under(Joined { parent, name, unit }, base))
 }
 
 // An unsigned number's text, read at a width of 8, 16, 32 or 64 bits.

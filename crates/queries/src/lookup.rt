@@ -9,10 +9,10 @@ ghost use Rattle.definition_log.specs.meaning.ReadBack.{def_at, read_defs};
 ghost use Rattle.queries.specs.machine.Looked.{AnswersLookup, AnswersShort, another, elsewhere};
 
 use crate::mir::contains_node_in;
-use crate::path::Joined;
 use definition_log::chain::chain;
 use definition_log::kinds::NODE;
 use definition_log::record::{first_text, kind_of};
+use paths_numbers::dt_node::Joined;
 use paths_numbers::mir::lies_under;
 use paths_numbers::text::equals;
 use short_paths::short::{has_components, may_mean};

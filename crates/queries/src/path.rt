@@ -1,9 +1,9 @@
 // A path as it is given: whole, or by a parent's path, a name and a unit address.
 ghost use Rattle.std.specs.Prelude.{◌≡◌, List, ℕ};
 ghost use Rattle.paths_numbers.specs.meaning.Text.{same};
-ghost use Rattle.paths_numbers.specs.meaning.Path.{joined, at_or_under};
+ghost use Rattle.paths_numbers.specs.meaning.Path.{joined_path, at_or_under};
 
-use paths_numbers::dt_node::{is_path, lies_under_path, path_lies_under};
+use paths_numbers::dt_node::{Joined, is_path, lies_under_path, path_lies_under};
 use paths_numbers::mir::lies_under;
 use paths_numbers::text::equals;
 
@@ -41,26 +41,18 @@ impl PathLike for &[u8] {
     }
 }
 
-// The path of a parent and a name. The unit address is empty where there is none.
-#[derive(Clone, Copy)]
-pub struct Joined<'a> {
-    pub parent: &'a [u8],
-    pub name: &'a [u8],
-    pub unit: &'a [u8],
-}
-
 impl PathLike for Joined<'_> {
-    ghost path = { λ p. joined p.parent.now p.name.now p.unit.now };
+    ghost path = { joined_path };
 
     fn is(self, text: &[u8]) -> bool {
-        is_path(text, self.parent, self.name, self.unit)
+        is_path(text, self)
     }
 
     fn lies_under(self, base: &[u8]) -> bool {
-        path_lies_under(self.parent, self.name, self.unit, base)
+        path_lies_under(self, base)
     }
 
     fn holds(self, this: &[u8]) -> bool {
-        lies_under_path(this, self.parent, self.name, self.unit)
+        lies_under_path(this, self)
     }
 }

@@ -2,10 +2,11 @@
 use crate::field::{FIELD, first};
 use boxes::box_number::{read_box, write_box};
 use paths_numbers::codes::Code;
+use paths_numbers::dt_node::{self, Joined};
 use paths_numbers::dt_property::{BitsSize, BytesError, MissingDigit};
 use paths_numbers::operators::EvalError;
 use paths_numbers::phandle::MirPhandleTarget;
-use paths_numbers::{dt_node, dt_property, expr_eval, mir, operators, phandle};
+use paths_numbers::{dt_property, expr_eval, mir, operators, phandle};
 use slashes::slash::next_slash;
 use std::fmt::Display;
 use std::io;
@@ -56,7 +57,12 @@ fn slash<W: Write>(out: &mut W, path: &[u8], from: u32) -> io::Result<()> {
 // The path of a parent and a name.
 fn join<W: Write>(out: &mut W, parent: &[u8], name: &[u8]) -> io::Result<()> {
     let mut room = [0u8; 2 * FIELD + 1];
-    let Some(n) = dt_node::build_path(parent, name, b"", &mut room, 0) else {
+    let path = Joined {
+        parent,
+        name,
+        unit: b"",
+    };
+    let Some(n) = dt_node::build_path(path, &mut room, 0) else {
         return Ok(());
     };
     out.write_all(b"=")?;

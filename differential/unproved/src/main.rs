@@ -15,7 +15,7 @@ use judge::{
     panics, parts,
 };
 use paths_numbers::{
-    dt_node,
+    dt_node::{self, Joined},
     dt_property::{self, BitsSize, BytesError, CellError, MissingDigit, SizeError},
     expr_eval::{self, IntErrorKind},
     mir,
@@ -56,14 +56,15 @@ fn ours() -> Leaves {
             mir::lies_under(path, base).then(|| path.len() - mir::strip_base(path, base).len())
         }),
         join: Some(|parent, name, unit| {
-            let length = dt_node::path_len(parent, name, unit);
-            in_room(length, &|out| dt_node::build_path(parent, name, unit, out, 2))
+            let path = Joined { parent, name, unit };
+            in_room(dt_node::path_len(path), &|out| dt_node::build_path(path, out, 2))
         }),
-        against_joined: Some(|path, parent, name, unit| {
+        against_joined: Some(|this, parent, name, unit| {
+            let path = Joined { parent, name, unit };
             [
-                dt_node::is_path(path, parent, name, unit),
-                dt_node::lies_under_path(path, parent, name, unit),
-                dt_node::path_lies_under(parent, name, unit, path),
+                dt_node::is_path(this, path),
+                dt_node::lies_under_path(this, path),
+                dt_node::path_lies_under(path, this),
             ]
         }),
         is_path: Some(mir::good_path),

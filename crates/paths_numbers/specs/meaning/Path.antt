@@ -2,6 +2,7 @@
 use Rattle.std.specs.Prelude.{ℕ, ◌+◌, ◌-◌, ◌^◌, Bool, true, false, cond, not, List, [], ◌∷◌, ◌++◌, length, drop, ◌==◌, nat_le, Option, Some, None}
 use Rattle.paths_numbers.specs.meaning.Byte.{slash, at_sign}
 use Rattle.paths_numbers.specs.meaning.Text.{begins, same, is_empty, starts_with, written}
+use Rattle.paths_numbers.specs.declared.dt_node.Joined.{Joined}
 
 -- the path "/"
 abbrev pub root : List ℕ
@@ -60,6 +61,10 @@ with_unit name unit = cond (is_empty unit) name (name ++ at_sign ∷ unit)
 -- the path of what has this name and unit address under this parent
 unfoldable pub joined : List ℕ → List ℕ → List ℕ → List ℕ
 joined parent name unit = join parent (with_unit name unit)
+
+-- the path of the parts that a `Joined` of the code holds
+abbrev pub joined_path : Joined → List ℕ
+joined_path p = joined p.parent.now p.name.now p.unit.now
 
 -- its length, or the largest usize where it is longer
 abbrev pub joined_len : List ℕ → List ℕ → List ℕ → ℕ

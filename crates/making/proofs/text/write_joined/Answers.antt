@@ -10,4 +10,4 @@ returns c =
     let p = path_front a.bytes.now a.used a.at a.path (omega arith) (omega arith) in
     let q = piece_front a.bytes.now a.used a.at a.name (omega arith) (omega arith) in
     let cut = c.split_at_mut-front.ensures in
-    rw (c.build_path.ensures.out_after, c.text-parent.ensures, c.bytes-below.ensures, cut.front, cut.back, p, q) (built_behind _ a.bytes.now a.at c.requires.1)
+    rw (c.build_path.ensures.out_after, c.joined_in.ensures, cut.front, cut.back, p, q) (built_behind _ a.bytes.now a.at c.requires.1)

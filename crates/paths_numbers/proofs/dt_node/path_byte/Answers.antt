@@ -9,33 +9,33 @@ pub returns-then-i-eq0 : goal.returns-then-i-eq0
 returns-then-i-eq0 c =
     let a = c.args in
     rw (
-      joined_root a.parent.now a.name.now a.unit.now (sym c.name_is_root.ensures ∙ c.if-name_is_root.true),
+      joined_root a.path.parent.now a.path.name.now a.path.unit.now (sym c.name_is_root.ensures ∙ c.if-name_is_root.true),
       c.if-i-eq0.true,
     ) refl
 
 pub returns-else-i-eq0 : goal.returns-else-i-eq0
 returns-else-i-eq0 c =
     let a = c.args in
-    rw (joined_root a.parent.now a.name.now a.unit.now (sym c.name_is_root.ensures ∙ c.if-name_is_root.true))
+    rw (joined_root a.path.parent.now a.path.name.now a.path.unit.now (sym c.name_is_root.ensures ∙ c.if-name_is_root.true))
     (sym (get_or-eq_default root 0 {n = a.i} (omega arith)))
 
-pub bounds-parent-i : goal.bounds-parent-i
-bounds-parent-i c =
+pub bounds-path-i : goal.bounds-path-i
+bounds-path-i c =
     let a = c.args in
     let k = c.before_slash-k.ensures in
-    omega (arith, k, ap length (stem_is a.parent.now a.i (omega (arith, k))))
+    omega (arith, k, ap length (stem_is a.path.parent.now a.i (omega (arith, k))))
 
 pub returns-then-i-k : goal.returns-then-i-k
 returns-then-i-k c =
     let a = c.args in
     let e = sym c.name_is_root.ensures ∙ c.if-name_is_root.false in
-    joined_first a.parent.now a.name.now a.unit.now e a.i (omega (arith, c.before_slash-k.ensures))
+    joined_first a.path.parent.now a.path.name.now a.path.unit.now e a.i (omega (arith, c.before_slash-k.ensures))
 
 pub returns-then-i-k-2 : goal.returns-then-i-k-2
 returns-then-i-k-2 c =
     let a = c.args in
     let e = sym c.name_is_root.ensures ∙ c.if-name_is_root.false in
-    joined_slash a.parent.now a.name.now a.unit.now e a.i (c.if-i-k-2.true ∙ c.before_slash-k.ensures)
+    joined_slash a.path.parent.now a.path.name.now a.path.unit.now e a.i (c.if-i-k-2.true ∙ c.before_slash-k.ensures)
 
 pub returns : goal.returns
 returns c =
@@ -43,5 +43,5 @@ returns c =
     let e = sym c.name_is_root.ensures ∙ c.if-name_is_root.false in
     let k = c.before_slash-k.ensures in
     c.name_byte.ensures
-    ∙ ap (λ (n : ℕ). get_or (with_unit a.name.now a.unit.now) (a.i - n - 1) 0) k
-    ∙ joined_name a.parent.now a.name.now a.unit.now e a.i (omega (arith, k))
+    ∙ ap (λ (n : ℕ). get_or (with_unit a.path.name.now a.path.unit.now) (a.i - n - 1) 0) k
+    ∙ joined_name a.path.parent.now a.path.name.now a.path.unit.now e a.i (omega (arith, k))
