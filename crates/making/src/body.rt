@@ -115,7 +115,7 @@ impl LowerCtx {
             (part_rec reference_kind (target_n kind) 0) (label_in kind label.now) (path_within kind path.now)
             (child_link owner 0) }
     {
-        let rec = Rec::part(REFERENCE, kind.number(), 0);
+        let rec = Rec::part(REFERENCE, u32::from(kind), 0);
         let first = Text::Whole(Piece::Given(label_of(kind, label)));
         let second = Text::Whole(Piece::Given(path_of(kind, path)));
         self.make(words, bytes, rec, first, second, child_link(owner, 0))

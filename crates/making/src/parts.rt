@@ -52,7 +52,7 @@ impl LowerCtx {
         ensures { StepsIn in_property self result words.old bytes.old words.new bytes.new
             (add_value (phandle (target_made kind label.now path.now))) }
     {
-        let rec = Rec::part(REFERENCE, kind.number(), 0);
+        let rec = Rec::part(REFERENCE, u32::from(kind), 0);
         self.add_part(
             words,
             bytes,
@@ -103,7 +103,7 @@ impl LowerCtx {
         ensures { StepsIn in_cell_list self result words.old bytes.old words.new bytes.new
             (add_cell (reference (target_made kind label.now path.now))) }
     {
-        let rec = Rec::part(REFERENCE, kind.number(), 0);
+        let rec = Rec::part(REFERENCE, u32::from(kind), 0);
         self.add_cell(
             words,
             bytes,

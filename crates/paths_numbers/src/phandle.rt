@@ -13,24 +13,17 @@ pub enum MirPhandleTarget {
     Path,
 }
 
-impl MirPhandleTarget {
-    // 01's N of it.
-    pub fn number(self) -> u32
-        ensures { result ≡ kind_number self }
-    {
-        match self {
+// 01's N of what a reference names.
+impl From<MirPhandleTarget> for u32 {
+    ghost from_gives = { λ kind n. n ≡ kind_number kind };
+
+    fn from(kind: MirPhandleTarget) -> u32 {
+        match kind {
             MirPhandleTarget::Label => 1,
             MirPhandleTarget::LabelPath => 2,
             MirPhandleTarget::Path => 3,
         }
     }
-}
-
-// 01's N of what a reference names, 0 where it cannot be read.
-pub fn target_number(target: Option<MirPhandleTarget>) -> u32
-    ensures { result ≡ target_number target }
-{
-    target.map_or(0, MirPhandleTarget::number)
 }
 
 // What a raw reference names; nothing where it cannot be read.

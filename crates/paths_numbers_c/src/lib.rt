@@ -3,10 +3,10 @@
 #![tactic(auto)]
 
 ghost use Rattle.std.specs.Prelude.{◌≡◌, length};
-ghost use Rattle.paths_numbers.specs.meaning.Bytestring.{count_of, written_told, bytes_answer, bytes_out};
+ghost use Rattle.paths_numbers.specs.meaning.Bytestring.{count_of, count_told, written_told, bytes_answer, bytes_out};
 ghost use Rattle.paths_numbers.specs.meaning.Cell.{size_of, size_told};
 ghost use Rattle.paths_numbers.specs.meaning.Expression.{eval_prefix, eval_infix, eval_conditional, eval_told};
-ghost use Rattle.paths_numbers.specs.meaning.Number.{signed_number};
+ghost use Rattle.paths_numbers.specs.meaning.Number.{signed_number, i64_told};
 ghost use Rattle.paths_numbers.specs.meaning.Path.{at_or_under, stripped, good_path, joined, joined_len, built_answer, built_out};
 ghost use Rattle.paths_numbers.specs.meaning.Reading.{told};
 ghost use Rattle.paths_numbers.specs.meaning.Reference.{target};
@@ -23,10 +23,10 @@ use paths_numbers::dt_property::{
     BitsSize, BytesError, MissingDigit, SizeError, bytestring_len, char_cell, expr_cell,
     lower_bytestring,
 };
-use paths_numbers::expr_eval::{parse_int_tok, parse_int_tok_i64};
+use paths_numbers::expr_eval::{IntErrorKind, parse_int_tok, parse_int_tok_i64};
 use paths_numbers::mir::{good_path, lies_under, strip_base};
 use paths_numbers::operators::{EvalError, eval_conditional, eval_infix, eval_prefix};
-use paths_numbers::phandle::{lower_phandle, phandle_label, phandle_path, target_number};
+use paths_numbers::phandle::{lower_phandle, phandle_label, phandle_path};
 use slashes::slash::next_slash;
 
 // What stands for "no room", and for an operator that is missing: neither has a code.
@@ -43,12 +43,68 @@ pub struct PnNumber {
     pub value: u64,
 }
 
+impl<E: Code> From<Result<u64, E>> for PnNumber {
+    ghost from_gives = { λ r n. n ≡ number_told (told E.code_of r) };
+
+    fn from(r: Result<u64, E>) -> PnNumber {
+        match r {
+            Ok(value) => PnNumber { code: 0, value },
+            Err(e) => PnNumber {
+                code: e.code(),
+                value: 0,
+            },
+        }
+    }
+}
+
+impl From<Result<BitsSize, SizeError>> for PnNumber {
+    ghost from_gives = { λ r n. n ≡ width_told (size_told r) };
+
+    #[tactic(auto, unfolding(crate::specs::meaning::Told::at_width))]
+    fn from(r: Result<BitsSize, SizeError>) -> PnNumber {
+        PnNumber::from(r.map(|size| u64::from(size.bits())))
+    }
+}
+
 // The same of a signed number.
 #[repr(C)]
 #[derive(Clone, Copy)]
 pub struct PnInteger {
     pub code: u32,
     pub value: i64,
+}
+
+impl From<Result<i64, IntErrorKind>> for PnInteger {
+    ghost from_gives = { λ r n. n ≡ integer_told (i64_told r) };
+
+    fn from(r: Result<i64, IntErrorKind>) -> PnInteger {
+        match r {
+            Ok(value) => PnInteger { code: 0, value },
+            Err(e) => PnInteger {
+                code: e.code(),
+                value: 0,
+            },
+        }
+    }
+}
+
+// Not one impl over `Code` with the one above: a missing operator has no code.
+impl From<Result<i64, EvalError>> for PnInteger {
+    ghost from_gives = { λ r n. n ≡ result_told (eval_told r) };
+
+    fn from(r: Result<i64, EvalError>) -> PnInteger {
+        match r {
+            Ok(value) => PnInteger { code: 0, value },
+            Err(EvalError::Missing) => PnInteger {
+                code: MISSING,
+                value: 0,
+            },
+            Err(e) => PnInteger {
+                code: e.code(),
+                value: 0,
+            },
+        }
+    }
 }
 
 // Number 0 and how many bytes, or why there are none.
@@ -59,12 +115,63 @@ pub struct PnWritten {
     pub len: usize,
 }
 
+impl From<Option<usize>> for PnWritten {
+    ghost from_gives = { λ b w. w ≡ path_told b };
+
+    fn from(b: Option<usize>) -> PnWritten {
+        match b {
+            Some(len) => PnWritten { number: 0, len },
+            None => PnWritten {
+                number: NO_ROOM,
+                len: 0,
+            },
+        }
+    }
+}
+
+impl From<Result<usize, MissingDigit>> for PnWritten {
+    ghost from_gives = { λ r w. w ≡ length_told (count_told r) };
+
+    fn from(r: Result<usize, MissingDigit>) -> PnWritten {
+        match r {
+            Ok(len) => PnWritten { number: 0, len },
+            Err(e) => PnWritten {
+                number: e.code(),
+                len: 0,
+            },
+        }
+    }
+}
+
+impl From<Result<usize, BytesError>> for PnWritten {
+    ghost from_gives = { λ r w. w ≡ bytes_told (written_told r) };
+
+    fn from(r: Result<usize, BytesError>) -> PnWritten {
+        match r {
+            Ok(len) => PnWritten { number: 0, len },
+            Err(BytesError::MissingDigit) => PnWritten::from(Err(MissingDigit)),
+            Err(BytesError::NoRoom) => PnWritten::from(None),
+        }
+    }
+}
+
 // Whether something was found, and its place, 0 where it was not.
 #[repr(C)]
 #[derive(Clone, Copy)]
 pub struct PnPlace {
     pub found: u32,
     pub place: usize,
+}
+
+impl From<Option<usize>> for PnPlace {
+    ghost from_gives = { λ f p. p ≡ place_told f };
+
+    fn from(f: Option<usize>) -> PnPlace {
+        match f {
+            Some(place) => PnPlace { found: 1, place },
+            None => PnPlace { found: 0, place: 0 },
+        }
+    }
 }
 
 // A reference: 1 label, 2 label and path, 3 path, 0 unreadable. Its parts stand in the raw text: the
@@ -108,7 +215,7 @@ pub extern "C" fn pn_good_path(path: &[u8]) -> u32
 pub extern "C" fn pn_next_slash(path: &[u8], from: usize) -> PnPlace
     ensures { result ≡ place_told (next_slash path.now from) }
 {
-    told_found(next_slash(path, from))
+    PnPlace::from(next_slash(path, from))
 }
 
 // The length of the path of a parent and a name, whose unit address is empty where there is none.
@@ -133,7 +240,7 @@ pub extern "C" fn pn_build_path(
     ensures out_after { out.new ≡ built_out (joined parent.now name.now unit.now) out.old
         at }
 {
-    told_built(build_path(Joined { parent, name, unit }, out, at))
+    PnWritten::from(build_path(Joined { parent, name, unit }, out, at))
 }
 
 // Whether a path is that of a parent and a name.
@@ -167,8 +274,8 @@ pub extern "C" fn pn_parse_int(text: &[u8], bits: u32) -> PnNumber
     ensures { result ≡ int_at bits text.now }
 {
     match BitsSize::try_from(bits as u64) {
-        Ok(size) => told_number(parse_int_tok(text, size)),
-        Err(e) => told_width(Err(e)),
+        Ok(size) => PnNumber::from(parse_int_tok(text, size)),
+        Err(e) => PnNumber::from(Err::<u64, SizeError>(e)),
     }
 }
 
@@ -177,7 +284,7 @@ pub extern "C" fn pn_parse_int(text: &[u8], bits: u32) -> PnNumber
 pub extern "C" fn pn_parse_i64(text: &[u8]) -> PnInteger
     ensures { result ≡ integer_told (signed_number text.now) }
 {
-    told_integer(parse_int_tok_i64(text))
+    PnInteger::from(parse_int_tok_i64(text))
 }
 
 // A cell list's width, in bits; the text is empty where there is none.
@@ -185,7 +292,7 @@ pub extern "C" fn pn_parse_i64(text: &[u8]) -> PnInteger
 pub extern "C" fn pn_width(text: &[u8]) -> PnNumber
     ensures { result ≡ width_told (size_of text.now) }
 {
-    told_width(BitsSize::from_token(text))
+    PnNumber::from(BitsSize::from_token(text))
 }
 
 // What an expression's result is as a cell of 8, 16, 32 or 64 bits.
@@ -195,8 +302,8 @@ pub extern "C" fn pn_expr_cell(num: i64, bits: u32) -> PnNumber
     ensures { result ≡ expr_at bits num }
 {
     match BitsSize::try_from(bits as u64) {
-        Ok(size) => told_number(expr_cell(num, size)),
-        Err(e) => told_width(Err(e)),
+        Ok(size) => PnNumber::from(expr_cell(num, size)),
+        Err(e) => PnNumber::from(Err::<u64, SizeError>(e)),
     }
 }
 
@@ -207,8 +314,8 @@ pub extern "C" fn pn_char_cell(ch: u32, bits: u32) -> PnNumber
     ensures { result ≡ char_at bits ch }
 {
     match BitsSize::try_from(bits as u64) {
-        Ok(size) => told_number(char_cell(ch, size)),
-        Err(e) => told_width(Err(e)),
+        Ok(size) => PnNumber::from(char_cell(ch, size)),
+        Err(e) => PnNumber::from(Err::<u64, SizeError>(e)),
     }
 }
 
@@ -217,7 +324,7 @@ pub extern "C" fn pn_char_cell(ch: u32, bits: u32) -> PnNumber
 pub extern "C" fn pn_prefix(op: u32, a: i64) -> PnInteger
     ensures { result ≡ result_told (eval_prefix op a) }
 {
-    told_eval(eval_prefix(op, a))
+    PnInteger::from(eval_prefix(op, a))
 }
 
 // The infix operator of this number on two values; code 1 where there is none.
@@ -225,7 +332,7 @@ pub extern "C" fn pn_prefix(op: u32, a: i64) -> PnInteger
 pub extern "C" fn pn_infix(op: u32, a: i64, b: i64) -> PnInteger
     ensures { result ≡ result_told (eval_infix op a b) }
 {
-    told_eval(eval_infix(op, a, b))
+    PnInteger::from(eval_infix(op, a, b))
 }
 
 // The last infix operator: of two values, the one that a condition picks.
@@ -241,7 +348,7 @@ pub extern "C" fn pn_conditional(a: i64, b: i64, c: i64) -> i64
 pub extern "C" fn pn_bytestring_len(text: &[u8]) -> PnWritten
     ensures { result ≡ length_told (count_of text.now) }
 {
-    told_length(bytestring_len(text))
+    PnWritten::from(bytestring_len(text))
 }
 
 // Writes the bytes that the text of a bytestring stands for into `out` from `at` on.
@@ -250,7 +357,7 @@ pub extern "C" fn pn_lower_bytestring(text: &[u8], out: &mut [u8], at: usize) ->
     ensures value { result ≡ bytes_told (bytes_answer text.now (length out.old) at) }
     ensures out_after { out.new ≡ bytes_out text.now out.old at }
 {
-    told_written(lower_bytestring(text, out, at))
+    PnWritten::from(lower_bytestring(text, out, at))
 }
 
 // What a raw reference, `&{..}`, names.
@@ -258,103 +365,12 @@ pub extern "C" fn pn_lower_bytestring(text: &[u8], out: &mut [u8], at: usize) ->
 pub extern "C" fn pn_reference(raw: &[u8]) -> PnReference
     ensures { result ≡ target_told (target raw.now) }
 {
-    let kind = target_number(lower_phandle(raw));
+    let kind = lower_phandle(raw).map_or(0, u32::from);
     let label = phandle_label(raw);
     let path = phandle_path(raw);
     PnReference {
         kind,
         label_len: label.len(),
         path_len: path.len(),
-    }
-}
-
-// What C is told of each answer.
-fn told_found(f: Option<usize>) -> PnPlace
-    ensures { result ≡ place_told f }
-{
-    match f {
-        Some(place) => PnPlace { found: 1, place },
-        None => PnPlace { found: 0, place: 0 },
-    }
-}
-
-fn told_built(b: Option<usize>) -> PnWritten
-    ensures { result ≡ path_told b }
-{
-    match b {
-        Some(len) => PnWritten { number: 0, len },
-        None => PnWritten {
-            number: NO_ROOM,
-            len: 0,
-        },
-    }
-}
-
-// kept: a function for each of C's three structs.
-fn told_number<E: Code>(r: Result<u64, E>) -> PnNumber
-    ensures { result ≡ number_told (told E.code_of r) }
-{
-    match r {
-        Ok(value) => PnNumber { code: 0, value },
-        Err(e) => PnNumber {
-            code: e.code(),
-            value: 0,
-        },
-    }
-}
-
-fn told_integer<E: Code>(r: Result<i64, E>) -> PnInteger
-    ensures { result ≡ integer_told (told E.code_of r) }
-{
-    match r {
-        Ok(value) => PnInteger { code: 0, value },
-        Err(e) => PnInteger {
-            code: e.code(),
-            value: 0,
-        },
-    }
-}
-
-fn told_length<E: Code>(r: Result<usize, E>) -> PnWritten
-    ensures { result ≡ length_told (told E.code_of r) }
-{
-    match r {
-        Ok(len) => PnWritten { number: 0, len },
-        Err(e) => PnWritten {
-            number: e.code(),
-            len: 0,
-        },
-    }
-}
-
-#[tactic(auto, unfolding(crate::specs::meaning::Told::at_width))]
-fn told_width(r: Result<BitsSize, SizeError>) -> PnNumber
-    ensures { result ≡ width_told (size_told r) }
-{
-    told_number(r.map(|size| size.bits() as u64))
-}
-
-fn told_eval(r: Result<i64, EvalError>) -> PnInteger
-    ensures { result ≡ result_told (eval_told r) }
-{
-    match r {
-        Err(EvalError::Missing) => PnInteger {
-            code: MISSING,
-            value: 0,
-        },
-        _ => told_integer(r),
-    }
-}
-
-fn told_written(w: Result<usize, BytesError>) -> PnWritten
-    ensures { result ≡ bytes_told (written_told w) }
-{
-    match w {
-        Ok(len) => PnWritten { number: 0, len },
-        Err(BytesError::MissingDigit) => told_length(Err(MissingDigit)),
-        Err(BytesError::NoRoom) => PnWritten {
-            number: NO_ROOM,
-            len: 0,
-        },
     }
 }

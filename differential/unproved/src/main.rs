@@ -85,9 +85,8 @@ fn ours() -> Leaves {
         infix: Some(|op, left, right| evaluated(operators::eval_infix(op, left, right))),
         conditional: Some(operators::eval_conditional),
         reference: Some(|raw| {
-            let read = phandle::lower_phandle(raw);
-            read.map(|_| Target {
-                form: phandle::target_number(read),
+            phandle::lower_phandle(raw).map(|kind| Target {
+                form: u32::from(kind),
                 label: phandle::phandle_label(raw).to_vec(),
                 path: phandle::phandle_path(raw).to_vec(),
             })
