@@ -113,15 +113,14 @@ fn check_value(out: &mut [u32], bytes: &mut [u8], ctx: LowerCtx, span: Span, r: 
     ensures { Reports ctx result out.old bytes.old out.new bytes.new (r ∷ [])
         (check_value (said ctx out.old bytes.old) (meant span) (value_at out.old bytes.old r)) }
 {
-    let kind = kind_of(out, r);
-    if kind == CELL_LIST {
-        let first = child_of(out, r);
-        return check_cells(out, bytes, ctx, span, first);
+    match kind_of(out, r) {
+        CELL_LIST => {
+            let first = child_of(out, r);
+            check_cells(out, bytes, ctx, span, first)
+        }
+        REFERENCE => check_phandle(out, bytes, ctx, span, r),
+        _ => ctx,
     }
-    if kind == REFERENCE {
-        return check_phandle(out, bytes, ctx, span, r);
-    }
-    ctx
 }
 
 // The reports on a chain of cells.
@@ -171,12 +170,8 @@ fn check_phandle(out: &mut [u32], bytes: &mut [u8], ctx: LowerCtx, span: Span, r
 fn target_place(out: &[u32], r: u32) -> PathAt
     ensures { result ≡ target_place out.now r }
 {
-    let n = out_field(out, r, layout::N);
-    if n == 1 {
-        return first_place(out, r);
+    match out_field(out, r, layout::N) {
+        1 | 2 => first_place(out, r),
+        _ => PathAt::EMPTY,
     }
-    if n == 2 {
-        return first_place(out, r);
-    }
-    PathAt::EMPTY
 }
