@@ -40,7 +40,7 @@ use Rattle.post_checks.specs.meaning.Post.{check_target, check_cell, check_cells
 use Rattle.post_checks.specs.meaning.Post.{check_references}
 use Rattle.resolving.specs.machine.Lowers.{Lowers}
 use Rattle.resolving.specs.machine.Leading.{resolution, Leads, target_label}
-use Rattle.post_checks.specs.machine.Checks.{Reports, ReportsLive, said, target_place}
+use Rattle.post_checks.specs.machine.Checks.{Reports, ReportsLive, Parts, said, target_place}
 use Rattle.resolving.specs.declared.resolve.Leads.{Leads as Led}
 use Rattle.resolving.specs.declared.resolve.Leads.TheVariants as R
 use Rattle.resolving.specs.declared.resolve.Missing.{Missing}
@@ -156,6 +156,33 @@ module _ {k : Context} {s : State} {c d : LowerCtx} {words bytes w b : List ℕ}
       → check_def (said d w b) (name_span_at w r) (def_value_at w b r) ≡ check_defs (said c words bytes) (map (def_at words bytes) (r ∷ []))
   unfolding check_defs def_at
   definition_kept r h = rw (said_kept, def_value_kept r h, name_kept r h) (sym (append-nil _))
+
+-- the kinds of chains: of cells, and of values
+pub cells_none : (s : State) (span : Span) → check_cells s span [] ≡ []
+unfolding check_cells
+cells_none s span = refl
+
+pub values_none : (s : State) (span : Span) → check_values s span [] ≡ []
+unfolding check_values
+values_none s span = refl
+
+abbrev pub cell_parts : Parts
+cell_parts =
+    record {
+      one = λ s span w b r. check_cell s span (cell_at w b r);
+      all = λ s span w b rs. check_cells s span (map (cell_at w b) rs);
+      none = λ s span w b. cells_none s span;
+      next = cells_next;
+    }
+
+abbrev pub value_parts : Parts
+value_parts =
+    record {
+      one = λ s span w b r. check_value s span (value_at w b r);
+      all = λ s span w b rs. check_values s span (map (value_at w b) rs);
+      none = λ s span w b. values_none s span;
+      next = values_next;
+    }
 
 defs_append : (s : State) (xs ys : List Def) → check_defs s (xs ++ ys) ≡ check_defs s xs ++ check_defs s ys
 unfolding check_defs

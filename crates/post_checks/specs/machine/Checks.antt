@@ -1,5 +1,5 @@
 -- What the functions of the post checks do to the log in hand: they add diagnostics, and the records that they walk through stay.
-use Rattle.std.specs.Prelude.{ℕ, ◌≡◌, Bool, true, false, not, cond, Option, Some, None, List, [], ◌∷◌, eqb, leb}
+use Rattle.std.specs.Prelude.{ℕ, ◌≡◌, Bool, true, false, not, cond, Option, Some, None, List, [], ◌∷◌, ◌++◌, eqb, leb}
 use Rattle.making.specs.declared.ctx.LowerCtx.{LowerCtx}
 use Rattle.making.specs.declared.place.PathAt.{PathAt}
 use Rattle.making.specs.declared.place.PathAt.TheVariants as P
@@ -98,11 +98,19 @@ abbrev pub ReportsLive : LowerCtx → LowerCtx → List ℕ → List ℕ → Lis
 ReportsLive c d words bytes w b =
     Reports c d words bytes w b [] (check_defs (said c words bytes) (live [] (read_defs words bytes c.defs.first)))
 
--- the reports on the chain of a property's values, or of a list's cells, with the span of the property's name
-abbrev pub ReportsParts : {A : Type 0} → (State → Span → List A → List Diag) → (List ℕ → List ℕ → ℕ → List A) → Span → ℕ → LowerCtx
-    → LowerCtx → List ℕ → List ℕ → List ℕ → List ℕ → Type 0
-ReportsParts check read span first c d words bytes w b =
-    Reports c d words bytes w b (chain_of words first) (check (said c words bytes) span (read words bytes first))
+-- a kind of parts of a chain: what is reported, at a span, on one and on several, which is on the first and then on the others
+pub record Parts : Type 0 where
+  pub one : State → Span → List ℕ → List ℕ → ℕ → List Diag
+  pub all : State → Span → List ℕ → List ℕ → List ℕ → List Diag
+  pub none : (s : State) (span : Span) (words bytes : List ℕ) → all s span words bytes [] ≡ []
+  pub next : {k : Context} {s : State} {c d : LowerCtx} {words bytes w b : List ℕ} → Represents k c words bytes s → c.short ≡ false
+      → Kept c d words bytes w b → (span : Span) (r : ℕ) (later : List ℕ) → Still words c.records r
+      → all (said c words bytes) span words bytes (r ∷ later) ≡ one (said d w b) span w b r ++ all (said c words bytes) span words bytes later
+
+-- the reports on a chain of parts, with the span of the property's name
+abbrev pub ReportsParts : Parts → Span → ℕ → LowerCtx → LowerCtx → List ℕ → List ℕ → List ℕ → List ℕ → Type 0
+ReportsParts parts span first c d words bytes w b =
+    Reports c d words bytes w b (chain_of words first) (parts.all (said c words bytes) span words bytes (chain_of words first))
 
 -- the place of a reference's label: an empty one where it names none
 abbrev pub target_place : List ℕ → ℕ → PathAt
