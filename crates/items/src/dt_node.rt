@@ -36,7 +36,7 @@ use resolving::resolve::{report_unresolved, resolve_phandle};
 // Where a node goes before its body is lowered: to the place of its path; to a log of its own for the
 // reference of a record, of this kind, and whether that log is kept; to a log that is dropped; or
 // nowhere, and then nothing below is lowered.
-#[derive(Clone, Copy)]
+#[derive(Clone, Copy, Debug, PartialEq, Eq)]
 pub enum NodePlace {
     At(PathAt),
     Aside(u32, MirPhandleTarget, bool),
@@ -44,7 +44,7 @@ pub enum NodePlace {
     Nowhere,
 }
 
-#[derive(Clone, Copy)]
+#[derive(Clone, Copy, Debug, PartialEq, Eq)]
 pub struct PlacedNode {
     pub node: NodePlace,
     pub ctx: LowerCtx,

@@ -27,7 +27,7 @@ use making::recs::DefKind;
 use resolving::resolve::{Leads, Missing};
 
 // A node whose definition is made: where its path stands.
-#[derive(Clone, Copy)]
+#[derive(Clone, Copy, Debug, PartialEq, Eq)]
 pub struct Opened {
     pub place: PathAt,
     pub ctx: LowerCtx,

@@ -30,7 +30,7 @@ pub enum Base {
 }
 
 // After one binding: the state, and the last binding that is left before the next.
-#[derive(Clone, Copy)]
+#[derive(Clone, Copy, Debug, PartialEq, Eq)]
 pub struct Unlinked {
     pub ctx: LowerCtx,
     pub previous: u32,

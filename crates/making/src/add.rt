@@ -205,8 +205,8 @@ impl LowerCtx {
             (define (bare_def kind span name_span (text_said self.bytes bytes.old path.entry))) }
     {
         let rec = Rec {
-            kind: kind.kind_number(),
-            n: kind.omit_number(),
+            kind: u32::from(kind),
+            n: u32::from(kind.is_omitted()),
             m: 0,
             span,
             name_span,

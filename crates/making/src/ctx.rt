@@ -16,7 +16,7 @@ use paths_numbers::dt_property::{bytestring_len, lower_bytestring};
 
 // The first and the last record of a chain, 0 where there is none.
 // kept: 0 for none, which is how the words of the log say it
-#[derive(Clone, Copy)]
+#[derive(Clone, Copy, Debug, PartialEq, Eq)]
 pub struct Chain {
     pub first: u32,
     pub last: u32,
@@ -64,7 +64,7 @@ impl Chain {
 // value of the newest definition and `cell` the last cell of that value, 0 where there is none.
 // kept: `short` is a flag and no Result, since an operation that could not fail still cannot
 // kept: `words` and `bytes` stand beside it: a struct that holds both `&mut` needs a clause on them in every function
-#[derive(Clone, Copy)]
+#[derive(Clone, Copy, Debug, PartialEq, Eq)]
 pub struct LowerCtx {
     pub records: u32,
     pub bytes: u32,
@@ -78,7 +78,7 @@ pub struct LowerCtx {
 }
 
 // What a record says beside its texts and its links.
-#[derive(Clone, Copy)]
+#[derive(Clone, Copy, Debug, PartialEq, Eq)]
 pub struct Rec {
     pub kind: u32,
     pub n: u32,

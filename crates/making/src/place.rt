@@ -6,7 +6,7 @@ use definition_log::layout;
 use definition_log::record::out_field;
 
 // A path: "/", or these bytes.
-#[derive(Clone, Copy)]
+#[derive(Clone, Copy, Debug, PartialEq, Eq)]
 pub enum PathAt {
     Root,
     Bytes { start: u32, size: u32 },

@@ -1,5 +1,6 @@
 // What the records that lowering makes say beside their texts.
 ghost use Rattle.std.specs.Prelude.{◌≡◌};
+ghost use Rattle.std.specs.Int.{from_bool};
 ghost use Rattle.making.specs.machine.Recs.{kind_number, omit_number, part_rec, label_in, path_within};
 
 use crate::ctx::Rec;
@@ -11,7 +12,7 @@ use paths_numbers::phandle::MirPhandleTarget;
 pub(crate) const NO_SPAN: Span = Span { from: 0, to: 0 };
 
 // What a definition is; a node with an omit mark is a kind of its own.
-#[derive(Clone, Copy)]
+#[derive(Clone, Copy, Debug, PartialEq, Eq)]
 pub enum DefKind {
     Node,
     OmittedNode,
@@ -22,12 +23,12 @@ pub enum DefKind {
     Plugin,
 }
 
-impl DefKind {
-    // 01's number of the kind.
-    pub(crate) fn kind_number(self) -> u32
-        ensures { result ≡ kind_number self }
-    {
-        match self {
+// 01's number of the kind.
+impl From<DefKind> for u32 {
+    ghost from_gives = { λ kind n. n ≡ kind_number kind };
+
+    fn from(kind: DefKind) -> u32 {
+        match kind {
             DefKind::Node | DefKind::OmittedNode => NODE,
             DefKind::Property => PROPERTY,
             DefKind::DeletedNode => DELETED_NODE,
@@ -36,12 +37,14 @@ impl DefKind {
             DefKind::Plugin => PLUGIN,
         }
     }
+}
 
-    // N of the definition: 1 of a node with an omit mark.
-    pub(crate) fn omit_number(self) -> u32
-        ensures { result ≡ omit_number self }
+impl DefKind {
+    // Whether a definition has an omit mark.
+    pub(crate) fn is_omitted(self) -> bool
+        ensures { from_bool result ≡ omit_number self }
     {
-        matches!(self, DefKind::OmittedNode) as u32
+        matches!(self, DefKind::OmittedNode)
     }
 }
 

@@ -9,14 +9,14 @@ use crate::place::PathAt;
 use paths_numbers::dt_node::{Joined, build_path, path_len};
 
 // Bytes that are given, or the path of a place.
-#[derive(Clone, Copy)]
+#[derive(Clone, Copy, Debug, PartialEq, Eq)]
 pub(crate) enum Piece<'a> {
     Given(&'a [u8]),
     At(PathAt),
 }
 
 // One of these, or the path of a name with a unit address under a path.
-#[derive(Clone, Copy)]
+#[derive(Clone, Copy, Debug, PartialEq, Eq)]
 pub(crate) enum Text<'a> {
     Whole(Piece<'a>),
     Joined {

@@ -1,7 +1,7 @@
 -- Duplicate labels: what was seen, by the bindings passed (again), and the steps of both walks.
 use Prim.Native.Nat.{ℕ, ◌+◌, ◌-◌}
 use mathlib.Core.Path.{◌≡◌, refl, sym, ap, subst, ◌∙◌}
-use mathlib.Core.Bool.{Bool, true, false, not, cond}
+use mathlib.Core.Bool.{Bool, true, false, cond}
 use mathlib.Core.List.{List, [], ◌∷◌, ◌++◌, map, map-append}
 use native.Mathlib.Omega.{arith}
 use lib.ListN.{length}
@@ -11,7 +11,7 @@ use Rattle.making.specs.declared.ctx.LowerCtx.{LowerCtx}
 use Rattle.making.specs.declared.place.PathAt.{PathAt}
 use Rattle.definition_log.specs.declared.parts.Span as declared
 use Rattle.definition_log.specs.meaning.Contents.{Binding}
-use Rattle.definition_log.specs.meaning.Record.{next_of, span_start, span_end, text_start, text_length, first_text, second_text, log_count}
+use Rattle.definition_log.specs.meaning.Record.{next_of, span_start, span_end, text_start, text_length, log_count}
 use Rattle.definition_log.specs.meaning.ReadBack.{chain_from, chain_of, span_at, binding_at, read_bindings}
 use Rattle.making.specs.machine.PathPlaces.{path_in}
 use Rattle.making.specs.machine.Recs.{diag_made}
@@ -24,7 +24,7 @@ use Rattle.making.proofs.Keeping.{still_kept, binds_still, first_place}
 use Rattle.paths_numbers.specs.meaning.Lists.{any}
 use Rattle.post_checks.specs.meaning.Post.{duplicates_of, duplicate_labels}
 use Rattle.resolving.specs.machine.Lowers.{Lowers}
-use Rattle.post_checks.specs.machine.Checks.{Reports, again, is_reported, binding_report, label_reports, text_place}
+use Rattle.post_checks.specs.machine.Checks.{Reports, has_label, again, is_reported, binding_report, label_reports, text_place}
 use Rattle.post_checks.proofs.Checks.{all_behind, all_before, all_first, chain_front, chain_kept, all_kept, reports_none}
 use Rattle.post_checks.proofs.Checks.{reports_one, reports_as, reports_lower}
 
@@ -91,22 +91,22 @@ labels_seen xs = seen (λ (x : Binding). true) (λ (x : Binding). x.label) [] xs
 -- one binding more of a label's
 pub duplicates_next : (b c : Binding) (xs later : List Binding)
     → duplicates_of b (paths_seen b xs) (c ∷ later) ≡ binding_report b c xs ++ duplicates_of b (paths_seen b (xs ++ c ∷ [])) later
-unfolding duplicates_of is_reported seen_next any again
+unfolding duplicates_of seen_next any
 duplicates_next b c xs later =
     let more = seen_more (λ (x : Binding). same x.label b.label) (λ (x : Binding). x.path) (b.path ∷ []) xs c in
     by_test (same c.label b.label)
     (λ t.
     let e : c.label ≡ b.label = same_true c.label b.label t in
-    let alike : any (λ (x : Binding). cond (same x.label b.label) (same c.path x.path) false) xs ≡ any (again c true) xs
-    = any_alike _ (again c true) xs (λ x. rw (same_turned x.label b.label, ← e) refl) in
+    let alike : any (λ (x : Binding). cond (same x.label b.label) (same c.path x.path) false) xs ≡ any (again c) xs
+    = any_alike _ (again c) xs (λ x. rw (same_turned x.label b.label, ← e) refl) in
     let q = seen_any (λ (x : Binding). same x.label b.label) (λ (x : Binding). x.path) c.path (b.path ∷ []) xs in
     by_test (same c.path b.path)
     (λ u.
     let s : any (same c.path) (paths_seen b xs) ≡ true = q ∙ rw u refl in
     rw (more, t, u, s) refl)
     (λ u.
-    let s : any (same c.path) (paths_seen b xs) ≡ any (again c true) xs = q ∙ rw u alike in
-    by_test (any (again c true) xs)
+    let s : any (same c.path) (paths_seen b xs) ≡ any (again c) xs = q ∙ rw u alike in
+    by_test (any (again c) xs)
     (λ v. rw (more, t, u, s, v) refl)
     (λ v. rw (more, t, u, s, v) refl)))
     (λ t. rw (more, t) refl)
@@ -114,14 +114,12 @@ duplicates_next b c xs later =
 -- one binding more
 pub labels_next : (b : Binding) (xs later : List Binding)
     → duplicate_labels (labels_seen xs) (b ∷ later) ≡ label_reports b xs later ++ duplicate_labels (labels_seen (xs ++ b ∷ [])) later
-unfolding duplicate_labels label_reports seen_next any again
+unfolding duplicate_labels label_reports seen_next any
 labels_next b xs later =
     let more = seen_more (λ (x : Binding). true) (λ (x : Binding). x.label) [] xs b in
-    let alike : any (λ (x : Binding). same b.label x.label) xs ≡ any (again b false) xs
-    = any_alike _ (again b false) xs (λ x. by_test (same b.label x.label) (λ t. rw t refl) (λ t. rw t refl)) in
-    let s : any (same b.label) (labels_seen xs) ≡ any (again b false) xs = seen_any (λ (x : Binding). true) (λ (x : Binding). x.label)
-    b.label [] xs ∙ alike in
-    by_test (any (again b false) xs)
+    let s : any (same b.label) (labels_seen xs) ≡ any (has_label b) xs = seen_any (λ (x : Binding). true) (λ (x : Binding). x.label)
+    b.label [] xs in
+    by_test (any (has_label b) xs)
     (λ t. rw (more, s, t) refl)
     (λ t. rw (more, s, t) refl)
 
@@ -225,18 +223,18 @@ module _ {c : LowerCtx} {words bytes : List ℕ} (first r : ℕ) (between : List
 
 -- the reports on a label, or none where it was bound before
 module _ {c : LowerCtx} {words bytes : List ℕ} (rs : List ℕ) (b : Binding) (before later : List Binding) (t : Bool)
-    (e : t ≡ any (again b false) before) where
+    (e : t ≡ any (has_label b) before) where
   pub label_none : t ≡ true → Reports c c words bytes words bytes rs (label_reports b before later)
   unfolding label_reports
   label_none f =
-      let q : any (again b false) before ≡ true = sym e ∙ f in
+      let q : any (has_label b) before ≡ true = sym e ∙ f in
       rw q (reports_none c words bytes rs)
 
   pub label_some : {d : LowerCtx} {w u : List ℕ} → t ≡ false → Reports c d words bytes w u rs (duplicates_of b (b.path ∷ []) later)
       → Reports c d words bytes w u rs (label_reports b before later)
   unfolding label_reports
   label_some f h =
-      let q : any (again b false) before ≡ false = sym e ∙ f in
+      let q : any (has_label b) before ≡ false = sym e ∙ f in
       rw q h
 
 -- as what lowering does to the log
@@ -247,51 +245,3 @@ pub labels_lower : {c d : LowerCtx} {words bytes w b : List ℕ}
 unfolding read_bindings chain_of
 labels_lower h = reports_lower (λ (s : State). duplicate_labels [] s.binds) h
     (λ k s r z. (binds_still r z, ap (λ (bs : List Binding). duplicate_labels [] bs) (represents_bindings r z)))
-
--- the tests of the code
-not_true : (t : Bool) → not t ≡ true → t ≡ false
-not_true true e = sym e
-not_true false e = refl
-
-not_false : (t : Bool) → not t ≡ false → t ≡ true
-not_false true e = refl
-not_false false e = sym e
-
--- binds_as: whether x has r's label, and its path
-module _ (words bytes : List ℕ) (r x : ℕ) (by_path : Bool) (t : Bool) (e : t ≡ same (first_text words bytes r) (first_text words bytes x))
-  where
-    pub again_other : not t ≡ true → false ≡ again (binding_at words bytes r) by_path (binding_at words bytes x)
-    unfolding again binding_at
-    again_other f = let q : same (first_text words bytes r) (first_text words bytes x) ≡ false = sym e ∙ not_true t f in rw q refl
-
-    pub again_path : not t ≡ false → by_path ≡ true → (u : Bool) → u ≡ same (second_text words bytes r) (second_text words bytes x)
-        → u ≡ again (binding_at words bytes r) by_path (binding_at words bytes x)
-    unfolding again binding_at
-    again_path f p u v = let q : same (first_text words bytes r) (first_text words bytes x) ≡ true = sym e ∙ not_false t f in rw (q, p) v
-
-    pub again_label : not t ≡ false → by_path ≡ false → true ≡ again (binding_at words bytes r) by_path (binding_at words bytes x)
-    unfolding again binding_at
-    again_label f p = let q : same (first_text words bytes r) (first_text words bytes x) ≡ true = sym e ∙ not_false t f in rw (q, p) refl
-
--- is_reported
-module _ (words bytes : List ℕ) (first r : ℕ) (between : List Binding) (t : Bool)
-    (e : t ≡ same (first_text words bytes r) (first_text words bytes first)) where
-  pub other_label : not t ≡ true → false ≡ is_reported (binding_at words bytes first) (binding_at words bytes r) between
-  unfolding is_reported binding_at
-  other_label f = let q : same (first_text words bytes r) (first_text words bytes first) ≡ false = sym e ∙ not_true t f in rw q refl
-
-  module _ (f : not t ≡ false) (u : Bool) (v : u ≡ same (second_text words bytes r) (second_text words bytes first)) where
-    pub first_path : u ≡ true → false ≡ is_reported (binding_at words bytes first) (binding_at words bytes r) between
-    unfolding is_reported binding_at
-    first_path g =
-        let q : same (first_text words bytes r) (first_text words bytes first) ≡ true = sym e ∙ not_false t f in
-        let p : same (second_text words bytes r) (second_text words bytes first) ≡ true = sym v ∙ g in
-        rw (q, p) refl
-
-    pub other_path : u ≡ false → (x : Bool) → x ≡ any (again (binding_at words bytes r) true) between
-        → not x ≡ is_reported (binding_at words bytes first) (binding_at words bytes r) between
-    unfolding is_reported binding_at
-    other_path g x y =
-        let q : same (first_text words bytes r) (first_text words bytes first) ≡ true = sym e ∙ not_false t f in
-        let p : same (second_text words bytes r) (second_text words bytes first) ≡ false = sym v ∙ g in
-        rw (q, p, y) refl

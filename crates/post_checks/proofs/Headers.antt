@@ -1,11 +1,12 @@
 -- Directive order by the kinds of definitions (Checks: header_code, headers_after).
 use Prim.Native.Nat.{ℕ}
-use mathlib.Core.Path.{◌≡◌, refl, sym, ap, ◌∙◌}
+use mathlib.Core.Path.{◌≡◌, refl, ap}
 use mathlib.Core.Bool.{Bool, false, cond}
 use mathlib.Core.List.{List, [], ◌∷◌, ◌++◌, map}
 use native.Mathlib.Omega.{arith}
-use borrow.Author.Tests.{eqb-false, ne_eqb, lt-leb}
+use borrow.Author.Tests.{eqb-false, lt-leb}
 use lib.Dec.{eqb}
+use Rattle.std.specs.Prelude.{Option, Some, None}
 use Rattle.paths_numbers.proofs.Texts.{by_test}
 use Rattle.making.specs.declared.ctx.LowerCtx.{LowerCtx}
 use Rattle.definition_log.specs.meaning.Contents.{Span, Value, Def}
@@ -36,18 +37,17 @@ other_plain k a b c d =
 
 module _ (ls : List (List ℕ)) (o : Bool) (vs : List Value) (h : Headers) (span : Span) where
   report_kind : (k : ℕ) → header_report (value_of ls o vs k) h span ≡ code_report (header_code k h) span
-  unfolding header_code code_report
+  unfolding code_report
   report_kind k =
       by_kind (λ (k : ℕ). header_report (value_of ls o vs k) h span ≡ code_report (header_code k h) span) k plain plain plain plain
       (by_test h.allowed (λ t. rw t refl) (λ t. rw t refl))
       (λ a b c d e. rw (a, b, c, d, e, other_plain k a b c d) (by_test h.only (λ t. rw t refl) (λ t. rw t refl)))
     where
       plain : cond h.seen [] (header_report (value_of ls o vs 1) (record { only = h.only; allowed = h.allowed; seen = false })
-          span) ≡ code_report (cond h.seen 0 23) span
+          span) ≡ code_report (cond h.seen None (Some 23)) span
       plain = by_test h.seen (λ t. rw t refl) (λ t. rw t refl)
 
   next_kind : (k : ℕ) → next_headers (value_of ls o vs k) h ≡ headers_after k h
-  unfolding headers_after
   next_kind k =
       by_kind (λ (k : ℕ). next_headers (value_of ls o vs k) h ≡ headers_after k h) k refl refl refl refl refl
       (λ a b c d e. rw (a, b, c, d, e, other_plain k a b c d) refl)
@@ -73,27 +73,24 @@ module _ {c d : LowerCtx} {words bytes w b : List ℕ} (kept : Kept c d words by
       let y : name_end w r ≡ name_end words r = kept.field r 12 s (omega arith) in
       rw (e, k, x, y) (directives_first words bytes h r later)
 
--- no diagnostic for code 0, and one without a text for any other
-pub code_none : (c : LowerCtx) (words bytes : List ℕ) (rs : List ℕ) (code n : ℕ) (span : Span) → code ≡ n → code ≡ 0
+-- no diagnostic where there is no code, and one without a text for a code
+pub code_none : (c : LowerCtx) (words bytes : List ℕ) (rs : List ℕ) (n : Option ℕ) (span : Span) → n ≡ None
     → Reports c c words bytes words bytes rs (code_report n span)
 unfolding code_report
-code_none c words bytes rs code n span e z =
-    let q : n ≡ 0 = sym e ∙ z in
-    rw q (reports_none c words bytes rs)
+code_none c words bytes rs n span e = rw e (reports_none c words bytes rs)
 
 pub no_text : (used : ℕ) (bytes : List ℕ) → path_in used bytes (P.Bytes 0 0) ≡ []
 unfolding path_of settled
 no_text used bytes = by_test (stands used bytes 0 0) (λ t. rw t refl) (λ t. rw t refl)
 
-pub code_one : {c d : LowerCtx} {words bytes w b : List ℕ} (rs : List ℕ) (code n : ℕ) (sp : declared.Span) (span : Span) → code ≡ n
-    → (code ≡ 0 → ⊥) → meant sp ≡ span
+pub code_one : {c d : LowerCtx} {words bytes w b : List ℕ} (rs : List ℕ) (code : ℕ) (n : Option ℕ) (sp : declared.Span) (span : Span)
+    → n ≡ Some code → meant sp ≡ span
     → Steps c d words bytes w b (emit (diag_made code (path_in c.bytes bytes (P.Bytes 0 0)) sp
     (record { from = 0; to = 0 }) ∷ []))
     → Keeps c d words bytes w b → Reports c d words bytes w b rs (code_report n span)
 unfolding code_report
-code_one {c} {bytes = bytes} rs code n sp span e z q t h =
-    let m : eqb n 0 ≡ false = ne_eqb n 0 (λ y. z (e ∙ y)) in
-    rw (m, ← e, ← q) (reports_one h (rw (no_text c.bytes bytes) at t))
+code_one {c} {bytes = bytes} rs code n sp span e q t h =
+    rw (e, ← q) (reports_one h (rw (no_text c.bytes bytes) at t))
 
 -- as what lowering does to the log
 pub directives_lower : {c d : LowerCtx} {words bytes w b : List ℕ}

@@ -16,7 +16,7 @@ use Rattle.making.specs.declared.ctx.LowerCtx.{LowerCtx}
 use Rattle.making.specs.declared.place.PathAt.{PathAt}
 use Rattle.definition_log.specs.declared.parts.Span as declared
 use Rattle.definition_log.specs.meaning.Contents.{Span, Def, Diag}
-use Rattle.definition_log.specs.meaning.Record.{kind_of, child_of, n_of, m_of, span_start, span_end, name_start, name_end, text_start, text_length, first_text}
+use Rattle.definition_log.specs.meaning.Record.{kind_of, child_of, n_of, m_of, span_start, span_end, name_start, name_end, first_text}
 use Rattle.definition_log.specs.meaning.Record.{second_text, log_count, node_kind, property_kind, deleted_node_kind, deleted_property_kind, plugin_kind}
 use Rattle.definition_log.specs.meaning.Record.{cell_list_kind, bytestring_kind, reference_kind}
 use Rattle.definition_log.specs.meaning.ReadBack.{chain_of, name_span_at, target_at, read_labels, cell_at, read_cells, value_at, read_values, def_value_at, def_at}
@@ -40,7 +40,7 @@ use Rattle.post_checks.specs.meaning.Post.{check_target, check_cell, check_cells
 use Rattle.post_checks.specs.meaning.Post.{check_references}
 use Rattle.resolving.specs.machine.Lowers.{Lowers}
 use Rattle.resolving.specs.machine.Leading.{resolution, Leads, target_label}
-use Rattle.post_checks.specs.machine.Checks.{Reports, ReportsLive, text_place, said, target_place}
+use Rattle.post_checks.specs.machine.Checks.{Reports, ReportsLive, Parts, said, target_place}
 use Rattle.resolving.specs.declared.resolve.Leads.{Leads as Led}
 use Rattle.resolving.specs.declared.resolve.Leads.TheVariants as R
 use Rattle.resolving.specs.declared.resolve.Missing.{Missing}
@@ -157,6 +157,33 @@ module _ {k : Context} {s : State} {c d : LowerCtx} {words bytes w b : List ℕ}
   unfolding check_defs def_at
   definition_kept r h = rw (said_kept, def_value_kept r h, name_kept r h) (sym (append-nil _))
 
+-- the kinds of chains: of cells, and of values
+pub cells_none : (s : State) (span : Span) → check_cells s span [] ≡ []
+unfolding check_cells
+cells_none s span = refl
+
+pub values_none : (s : State) (span : Span) → check_values s span [] ≡ []
+unfolding check_values
+values_none s span = refl
+
+abbrev pub cell_parts : Parts
+cell_parts =
+    record {
+      one = λ s span w b r. check_cell s span (cell_at w b r);
+      all = λ s span w b rs. check_cells s span (map (cell_at w b) rs);
+      none = λ s span w b. cells_none s span;
+      next = cells_next;
+    }
+
+abbrev pub value_parts : Parts
+value_parts =
+    record {
+      one = λ s span w b r. check_value s span (value_at w b r);
+      all = λ s span w b rs. check_values s span (map (value_at w b) rs);
+      none = λ s span w b. values_none s span;
+      next = values_next;
+    }
+
 defs_append : (s : State) (xs ys : List Def) → check_defs s (xs ++ ys) ≡ check_defs s xs ++ check_defs s ys
 unfolding check_defs
 defs_append s [] ys = refl
@@ -182,28 +209,11 @@ pub definitions_all : {c d : LowerCtx} {words bytes w b : List ℕ} (l : List �
     → Reports c d words bytes w b l (check_defs (said c words bytes) (map (def_at words bytes) l))
 definitions_all l i h x = rw (take_all i l h) at x
 
--- where a reference of the log leads, by its number: with a label, with a label and a path, with a path, or with none of them
-module _ (words bytes : List ℕ) (r n : ℕ) (e : n ≡ n_of words r) where
-  pub place_label : n ≡ 1 → text_place (text_start words r) (text_length words r) ≡ target_place words r
-  unfolding target_place
-  place_label h = let q : n_of words r ≡ 1 = sym e ∙ h in rw q refl
-
-  pub place_both : n ≡ 2 → text_place (text_start words r) (text_length words r) ≡ target_place words r
-  unfolding target_place
-  place_both h = let q : n_of words r ≡ 2 = sym e ∙ h in rw q refl
-
-  pub place_none : (n ≡ 1 → ⊥) → (n ≡ 2 → ⊥) → text_place 0 0 ≡ target_place words r
-  unfolding target_place
-  place_none f g =
-      let p = ne_eqb (n_of words r) 1 (λ h. f (e ∙ h)) in
-      let q = ne_eqb (n_of words r) 2 (λ h. g (e ∙ h)) in
-      rw (p, q) refl
-
 -- its label as it stands in the bytes
 label_read : {k : Context} {s : State} {c : LowerCtx} {words bytes : List ℕ} {r : ℕ} → Represents k c words bytes s → c.short ≡ false
     → Still words c.records r
     → path_in c.bytes bytes (target_place words r) ≡ target_label words bytes r
-unfolding target_place target_label
+unfolding target_label
 label_read {c = c} {words} {bytes} {r} rep z h =
     by_test (eqb (n_of words r) 1)
     (λ t. rw t (first_place rep z h))

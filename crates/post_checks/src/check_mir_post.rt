@@ -8,12 +8,12 @@ ghost use Rattle.making.specs.meaning.State.{State, emit};
 ghost use Rattle.paths_numbers.specs.meaning.Lists.{any};
 ghost use Rattle.post_checks.specs.meaning.Post.{duplicates_of, duplicate_labels, check_directives, post_checks};
 ghost use Rattle.resolving.specs.machine.Lowers.{Lowers};
-ghost use Rattle.post_checks.specs.machine.Checks.{Reports, is_plain, headers_of, header_code, code_report, headers_after, again};
-ghost use Rattle.post_checks.specs.machine.Checks.{is_reported, binding_report, label_reports};
+ghost use Rattle.post_checks.specs.machine.Checks.{Reports, headers_of, header_code, code_report, headers_after};
+ghost use Rattle.post_checks.specs.machine.Checks.{has_label, has_path, again, is_reported, binding_report, label_reports};
 
 use crate::check_phandles::check_phandles;
 use definition_log::chain::{Walk, chain_of_most};
-use definition_log::kinds::{DELETED_PROPERTY, PLUGIN};
+use definition_log::kinds::{DELETED_PROPERTY, NODE, PLUGIN};
 use definition_log::parts::{Span, name_span_of, span_of};
 use definition_log::record::{first_text, kind_of, second_text};
 use making::ctx::LowerCtx;
@@ -21,13 +21,17 @@ use making::place::{PathAt, first_place};
 use paths_numbers::codes::{BEFORE_VERSION, DUPLICATE_LABEL, PLUGIN_MISPLACED, VERSION_LATE};
 use paths_numbers::text::equals;
 
-// Directive order: whether all definitions so far are headers, whether a plugin directive may follow,
-// and whether a version directive or the report of its lack came before.
-#[derive(Clone, Copy)]
-pub struct Headers {
-    pub only: bool,
-    pub allowed: bool,
-    pub seen: bool,
+// Directive order: how far the directives at the head of a chain of definitions go.
+#[derive(Clone, Copy, Debug, PartialEq, Eq)]
+pub enum Headers {
+    // No version directive came: nothing, or plugin directives alone.
+    NoVersion,
+    // A version directive in its place came last, so that a plugin directive may follow.
+    AfterVersion,
+    // A plugin directive came last, and a version directive before it.
+    AfterPlugin,
+    // A definition that is no directive came.
+    Ended,
 }
 
 // Runs the checks, in this order.
@@ -73,7 +77,7 @@ fn check_label(
         (map (binding_at out.old bytes.old) (chain_from passed out.old first))
         (map (binding_at out.old bytes.old) (walk_left out.old rest))) }
 {
-    if binds_again(out, bytes, first, passed, r, false) {
+    if binds_label(out, bytes, first, passed, r) {
         return ctx;
     }
     check_bindings(out, bytes, ctx, r, rest)
@@ -133,36 +137,41 @@ fn is_reported(out: &[u32], bytes: &[u8], first: u32, after: u32, passed: u32, r
         (binding_at out.now bytes.now r) (map (binding_at out.now bytes.now)
         (chain_from passed out.now after)) }
 {
-    if !equals(first_text(out, bytes, r), first_text(out, bytes, first)) {
-        return false;
-    }
-    if equals(second_text(out, bytes, r), second_text(out, bytes, first)) {
-        return false;
-    }
-    !binds_again(out, bytes, after, passed, r, true)
+    has_label(out, bytes, first, r)
+        && !has_path(out, bytes, first, r)
+        && !binds_again(out, bytes, after, passed, r)
 }
 
 // Whether one of the bindings from `first` on, of which there are at most `most`, has the label of
-// binding `r`, and its path where that is asked.
-fn binds_again(out: &[u32], bytes: &[u8], first: u32, most: u32, r: u32, by_path: bool) -> bool
-    ensures { result ≡ any (again (binding_at out.now bytes.now r) by_path)
+// binding `r`.
+fn binds_label(out: &[u32], bytes: &[u8], first: u32, most: u32, r: u32) -> bool
+    ensures { result ≡ any (has_label (binding_at out.now bytes.now r))
         (map (binding_at out.now bytes.now) (chain_from most out.now first)) }
 {
-    chain_of_most(out, first, most).any(|x| binds_as(out, bytes, x, r, by_path))
+    chain_of_most(out, first, most).any(|x| has_label(out, bytes, x, r))
 }
 
-// Whether binding `x` has the label of binding `r`, and its path where that is asked.
-fn binds_as(out: &[u32], bytes: &[u8], x: u32, r: u32, by_path: bool) -> bool
-    ensures { result ≡ again (binding_at out.now bytes.now r) by_path
-        (binding_at out.now bytes.now x) }
+// Whether one of them has its label and its path.
+fn binds_again(out: &[u32], bytes: &[u8], first: u32, most: u32, r: u32) -> bool
+    ensures { result ≡ any (again (binding_at out.now bytes.now r))
+        (map (binding_at out.now bytes.now) (chain_from most out.now first)) }
 {
-    if !equals(first_text(out, bytes, r), first_text(out, bytes, x)) {
-        return false;
-    }
-    if by_path {
-        return equals(second_text(out, bytes, r), second_text(out, bytes, x));
-    }
-    true
+    chain_of_most(out, first, most).any(|x| has_label(out, bytes, x, r)
+        && has_path(out, bytes, x, r))
+}
+
+// Whether binding `x` has the label of binding `r`.
+fn has_label(out: &[u32], bytes: &[u8], x: u32, r: u32) -> bool
+    ensures { result ≡ has_label (binding_at out.now bytes.now r) (binding_at out.now bytes.now x) }
+{
+    equals(first_text(out, bytes, r), first_text(out, bytes, x))
+}
+
+// Whether it has its path.
+fn has_path(out: &[u32], bytes: &[u8], x: u32, r: u32) -> bool
+    ensures { result ≡ has_path (binding_at out.now bytes.now r) (binding_at out.now bytes.now x) }
+{
+    equals(second_text(out, bytes, r), second_text(out, bytes, x))
 }
 
 // Reports version and plugin directives out of order, and a definition before the version.
@@ -171,11 +180,7 @@ pub fn check_directives(out: &mut [u32], bytes: &mut [u8], ctx: LowerCtx) -> Low
         (λ (s : State). emit (check_directives s.defs) s) }
 {
     let mut made = ctx;
-    let mut headers = Headers {
-        only: true,
-        allowed: false,
-        seen: false,
-    };
+    let mut headers = Headers::NoVersion;
     let mut walk = Walk::new(out, ctx.defs.first);
     while let Some(r) = walk.step(out) {
         let kind = kind_of(out, r);
@@ -196,71 +201,36 @@ fn check_directive(
     ensures { Reports ctx result out.old bytes.old out.new bytes.new (r ∷ [])
         (code_report (header_code (kind_of out.old r) (headers_of headers)) (name_span_at out.old r)) }
 {
-    let code = header_code(kind_of(out, r), headers);
-    if code == 0 {
+    let Some(code) = header_code(kind_of(out, r), headers) else {
         return ctx;
-    }
+    };
     let span = name_span_of(out, r);
     let none = Span { from: 0, to: 0 };
     ctx.emit_copied(out, bytes, code, span, none, PathAt::EMPTY)
 }
 
-// The code that a definition of a kind reports, 0 for none.
-fn header_code(kind: u32, headers: Headers) -> u32
+// The code that a definition of a kind reports, if it reports one.
+fn header_code(kind: u32, headers: Headers) -> Option<u32>
     ensures { result ≡ header_code kind (headers_of headers) }
 {
-    if is_plain(kind) {
-        if headers.seen {
-            return 0;
-        }
-        return BEFORE_VERSION;
+    match (kind, headers) {
+        (NODE..=DELETED_PROPERTY, Headers::NoVersion) => Some(BEFORE_VERSION),
+        (NODE..=DELETED_PROPERTY, _) => None,
+        (PLUGIN, Headers::AfterVersion) => None,
+        (PLUGIN, _) => Some(PLUGIN_MISPLACED),
+        (_, Headers::Ended) => Some(VERSION_LATE),
+        _ => None,
     }
-    if kind == PLUGIN {
-        if headers.allowed {
-            return 0;
-        }
-        return PLUGIN_MISPLACED;
-    }
-    if headers.only {
-        return 0;
-    }
-    VERSION_LATE
 }
 
 // What is known of the headers after a definition of a kind: a late version directive allows nothing.
 fn next_headers(kind: u32, headers: Headers) -> Headers
     ensures { headers_of result ≡ headers_after kind (headers_of headers) }
 {
-    if is_plain(kind) {
-        return Headers {
-            only: false,
-            allowed: false,
-            seen: true,
-        };
+    match (kind, headers) {
+        (NODE..=DELETED_PROPERTY, _) | (_, Headers::Ended) => Headers::Ended,
+        (PLUGIN, Headers::NoVersion) => Headers::NoVersion,
+        (PLUGIN, _) => Headers::AfterPlugin,
+        _ => Headers::AfterVersion,
     }
-    if kind == PLUGIN {
-        return Headers {
-            only: headers.only,
-            allowed: false,
-            seen: headers.seen,
-        };
-    }
-    if headers.only {
-        return Headers {
-            only: true,
-            allowed: true,
-            seen: true,
-        };
-    }
-    headers
-}
-
-// Whether a definition of a kind is no directive.
-fn is_plain(kind: u32) -> bool
-    ensures { result ≡ is_plain kind }
-{
-    if kind == 0 {
-        return false;
-    }
-    kind <= DELETED_PROPERTY
 }

@@ -2,13 +2,12 @@
 // reported at the property's name.
 ghost use Rattle.std.specs.Prelude.{◌≡◌, [], ◌∷◌, map, ◌≤◌, length};
 ghost use Rattle.definition_log.specs.meaning.Record.{log_count};
-ghost use Rattle.definition_log.specs.meaning.ReadBack.{target_at, cell_at, read_cells, value_at, read_values, name_span_at, def_value_at, def_at};
+ghost use Rattle.definition_log.specs.meaning.ReadBack.{target_at, cell_at, value_at, name_span_at, def_value_at, def_at};
 ghost use Rattle.definition_log.specs.machine.Parts.{meant};
 ghost use Rattle.making.specs.meaning.State.{State, emit};
-ghost use Rattle.post_checks.specs.meaning.Post.{check_target, check_cell, check_cells, check_value, check_values, check_def, check_defs};
-ghost use Rattle.post_checks.specs.meaning.Post.{check_references};
+ghost use Rattle.post_checks.specs.meaning.Post.{check_target, check_cell, check_value, check_def, check_defs, check_references};
 ghost use Rattle.resolving.specs.machine.Lowers.{Lowers};
-ghost use Rattle.post_checks.specs.machine.Checks.{Reports, ReportsLive, ReportsParts, said, target_place};
+ghost use Rattle.post_checks.specs.machine.Checks.{Reports, ReportsLive, Parts, ReportsParts, said, target_place};
 
 use definition_log::chain::Walk;
 use definition_log::kinds::{CELL_LIST, PROPERTY, REFERENCE};
@@ -86,24 +85,28 @@ fn check_definition(out: &mut [u32], bytes: &mut [u8], ctx: LowerCtx, r: u32) ->
     }
     let span = name_span_of(out, r);
     let first = child_of(out, r);
-    check_values(out, bytes, ctx, span, first)
+    check_parts(out, bytes, ctx, span, first, check_value)
 }
 
-// The reports on a chain of values.
-fn check_values(
+// The reports on a chain of parts, of which `check` makes those on one.
+fn check_parts<F: Fn(&mut [u32], &mut [u8], LowerCtx, Span, u32) -> LowerCtx>(
     out: &mut [u32],
     bytes: &mut [u8],
     ctx: LowerCtx,
     span: Span,
     first: u32,
+    check: F,
 ) -> LowerCtx
-    ensures { ReportsParts check_values read_values (meant span) first ctx result out.old bytes.old out.new
-        bytes.new }
+    ghost parts: { Parts }
+    requires callable { F.IsAlwaysCallable check }
+    requires each { (o b : _) (c : _) (s : _) (r : _) (d : _) (w u : _) → F.post check o b c s r d w u
+        → Reports c d o.now b.now w.now u.now (r ∷ []) (parts.one (said c o.now b.now) (meant s) o.now b.now r) }
+    ensures { ReportsParts parts (meant span) first ctx result out.old bytes.old out.new bytes.new }
 {
     let mut made = ctx;
     let mut walk = Walk::new(out, first);
     while let Some(r) = walk.step(out) {
-        made = check_value(out, bytes, made, span, r);
+        made = check(out, bytes, made, span, r);
     }
     made
 }
@@ -113,28 +116,14 @@ fn check_value(out: &mut [u32], bytes: &mut [u8], ctx: LowerCtx, span: Span, r: 
     ensures { Reports ctx result out.old bytes.old out.new bytes.new (r ∷ [])
         (check_value (said ctx out.old bytes.old) (meant span) (value_at out.old bytes.old r)) }
 {
-    let kind = kind_of(out, r);
-    if kind == CELL_LIST {
-        let first = child_of(out, r);
-        return check_cells(out, bytes, ctx, span, first);
+    match kind_of(out, r) {
+        CELL_LIST => {
+            let first = child_of(out, r);
+            check_parts(out, bytes, ctx, span, first, check_cell)
+        }
+        REFERENCE => check_phandle(out, bytes, ctx, span, r),
+        _ => ctx,
     }
-    if kind == REFERENCE {
-        return check_phandle(out, bytes, ctx, span, r);
-    }
-    ctx
-}
-
-// The reports on a chain of cells.
-fn check_cells(out: &mut [u32], bytes: &mut [u8], ctx: LowerCtx, span: Span, first: u32) -> LowerCtx
-    ensures { ReportsParts check_cells read_cells (meant span) first ctx result out.old bytes.old out.new
-        bytes.new }
-{
-    let mut made = ctx;
-    let mut walk = Walk::new(out, first);
-    while let Some(r) = walk.step(out) {
-        made = check_cell(out, bytes, made, span, r);
-    }
-    made
 }
 
 // The report on a cell, if it is a reference.
@@ -171,12 +160,8 @@ fn check_phandle(out: &mut [u32], bytes: &mut [u8], ctx: LowerCtx, span: Span, r
 fn target_place(out: &[u32], r: u32) -> PathAt
     ensures { result ≡ target_place out.now r }
 {
-    let n = out_field(out, r, layout::N);
-    if n == 1 {
-        return first_place(out, r);
+    match out_field(out, r, layout::N) {
+        1 | 2 => first_place(out, r),
+        _ => PathAt::EMPTY,
     }
-    if n == 2 {
-        return first_place(out, r);
-    }
-    PathAt::EMPTY
 }

@@ -14,7 +14,7 @@ pub returns : goal.returns
 returns c =
     let a = c.args in
     let b = binding_at a.out.now a.bytes.now in
-    any_from_yields_List (λ x. again (b a.r) a.by_path (b x)) c.any.new.self _ _ c.any.ensures.ran
+    any_from_yields_List (λ x. again (b a.r) (b x)) c.any.new.self _ _ c.any.ensures.ran
     (YieldsList-from_first (λ x. x) chain_left (chain_from a.most a.out.now a.first) c.chain_of_most.ensures)
     (λ x b q k. search (rules, tests))
-    ∙ any_map (again (b a.r) a.by_path) b (chain_from a.most a.out.now a.first)
+    ∙ any_map (again (b a.r)) b (chain_from a.most a.out.now a.first)

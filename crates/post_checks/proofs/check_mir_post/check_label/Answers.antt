@@ -5,15 +5,15 @@ use Rattle.definition_log.specs.machine.ChainLeft.{walk_left}
 use Rattle.post_checks.proofs.Duplicates.{label_none, label_some}
 use Rattle.post_checks.proofs.check_mir_post.check_label.Goals as goal
 
-pub returns-then-binds_again : goal.returns-then-binds_again
-returns-then-binds_again c = let a = c.args in label_none _ (binding_at a.out.now a.bytes.now a.r)
+pub returns-then-binds_label : goal.returns-then-binds_label
+returns-then-binds_label c = let a = c.args in label_none _ (binding_at a.out.now a.bytes.now a.r)
     (map (binding_at a.out.now a.bytes.now) (chain_from a.passed a.out.now a.first))
     (map (binding_at a.out.now a.bytes.now) (walk_left a.out.now a.rest)) _
-    c.binds_again.ensures c.if-binds_again.true
+    c.binds_label.ensures c.if-binds_label.true
 
 pub returns : goal.returns
 returns c = let a = c.args in label_some _ (binding_at a.out.now a.bytes.now a.r)
     (map (binding_at a.out.now a.bytes.now) (chain_from a.passed a.out.now a.first))
     (map (binding_at a.out.now a.bytes.now) (walk_left a.out.now a.rest)) _
-    c.binds_again.ensures
-    c.if-binds_again.false c.check_bindings.ensures
+    c.binds_label.ensures
+    c.if-binds_label.false c.check_bindings.ensures
