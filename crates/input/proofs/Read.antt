@@ -16,22 +16,6 @@ use Rattle.input.specs.machine.Linked.{Link, Linked, At, RecordIn, ChainIn}
 use Rattle.input.specs.machine.Read.{after_at, optional, FirstOf}
 use Rattle.input.proofs.Input.{chain_more}
 
--- how far a chain of links can still go from record r
-unfoldable pub rank : List ℕ → ℕ → ℕ
-rank words zero = 0
-rank words (suc r) = record_count words - suc r
-
--- each link leaves less
-pub rank_less : (words : List ℕ) (r k : ℕ) → (r ≡ 0 → ⊥) → r < record_count words → Link words r k → rank words k < rank words r
-unfolding rank
-rank_less words zero k n a h = absurd (n refl)
-rank_less words (suc r) zero n a h = omega arith
-rank_less words (suc r) (suc k) n a h = omega (arith, h.up (λ e. omega arith), h.within (λ e. omega arith))
-
--- a record's children are records
-pub child_there : (words : List ℕ) → Linked words → (r : ℕ) → r < record_count words → (n : ℕ) → n ≡ child_at words r → At words n
-child_there words l r a n e = rw e (l.all r a).child.within
-
 -- a record that is there, and none
 pub optional_none : (words text : List ℕ) → optional words text 0 ≡ none
 unfolding optional

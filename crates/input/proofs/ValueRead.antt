@@ -113,30 +113,6 @@ plain_reports words text r P.String = refl
 plain_reports words text r P.Bytestring = by_test (is_odd (text_at words text r)) (λ q. rw q refl) (λ q. rw q refl)
 plain_reports words text r (P.Phandle k) = refl
 
--- the values and the cells of a chain: none from no record on, else those of its first record and those from its next
-module _ (words text : List ℕ) (r : ℕ) where
-  pub values_end : (level : ℕ) → r ≡ 0 → nothing [] ≡ lower_values level (chain_at words text r)
-  unfolding lower_values
-  values_end level e = rw (e, chain_none words text) refl
-
-  pub cells_end : (level : ℕ) (size : BitsSize) → r ≡ 0 → nothing [] ≡ lower_cells level size (chain_at words text r)
-  unfolding lower_cells
-  cells_end level size e = rw (e, chain_none words text) refl
-
-  module _ (l : Linked words) (n : r ≡ 0 → ⊥) (a : r < record_count words) where
-    pub values_more : (level : ℕ)
-        → and_then (lower_value level (record_at words text r)) (lower_values level (chain_at words text (next_at words r))) ≡ lower_values level
-        (chain_at words text r)
-    unfolding lower_values
-    values_more level = rw (chain_more words l text r n a) refl
-
-    pub cells_more : (level : ℕ) (size : BitsSize)
-        → and_then (lower_cell level size (record_at words text r)) (lower_cells level size (chain_at words text (next_at words r)))
-        ≡ lower_cells level size
-        (chain_at words text r)
-    unfolding lower_cells
-    cells_more level size = rw (chain_more words l text r n a) refl
-
 -- a number by its two words
 pub number_whole : (n : ℕ) → n % 4294967296 + n / 4294967296 * 2 ^ 32 ≡ n
 number_whole n = omega (arith, div-add-mod' n 4294967296)

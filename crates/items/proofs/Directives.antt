@@ -61,10 +61,6 @@ pub under_as : {parent : PathAt} {c d : LowerCtx} {words bytes w b : List ℕ} {
     → LowersAt parent c d words bytes w b g → LowersAt parent c d words bytes w b f
 under_as e h = record { lowers = λ k p s r. rw (e p s) (h.lowers k p s r) }
 
-pub lowers_as : {c d : LowerCtx} {words bytes w b : List ℕ} {f g : State → State} → ((s : State) → f s ≡ g s) → Lowers c d words bytes w b g
-    → Lowers c d words bytes w b f
-lowers_as e h = record { lowers = λ k s r. rw (e s) (h.lowers k s r) }
-
 -- a property deleted
 module _ {parent : PathAt} {c : LowerCtx} {out bytes : List ℕ} (words text : List ℕ) (parts n : ℕ) (f : FirstOf words parts name_kind n)
     (span : LogSpan) where
