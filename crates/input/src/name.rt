@@ -17,7 +17,7 @@ use crate::report::Report;
 use definition_log::parts::Span;
 
 // A name, by its record or by what is reported in its place, and the name in its unit address, where it has one.
-#[derive(Clone, Copy)]
+#[derive(Clone, Copy, Debug, PartialEq, Eq)]
 pub struct FullName {
     pub name: Result<u32, Report>,
     pub unit: Option<Result<u32, Report>>,
