@@ -57,12 +57,12 @@ module _ (words text : List ℕ) (r : ℕ) where
     name_is e = simp (ne_eqb (number_at words r) 1 n, filled_length (text_at words text r) e)
 
   -- a macro comes first
-  module _ (m : ℕ) (f : FirstOf words (child_at words r) macro_kind m) where
-    pub macro_is : (m ≡ 0 → ⊥) → phandle_read words text r (Err (Macro m)) ≡ lower_phandle (record_at words text r)
+  module _ (m : Option ℕ) (f : FirstOf words (child_at words r) macro_kind m) where
+    pub macro_is : (n : ℕ) → m ≡ Some n → phandle_read words text r (Err (Macro n)) ≡ lower_phandle (record_at words text r)
     unfolding lower_phandle record_at
-    macro_is n = rw (first_there words (child_at words r) macro_kind m f text n) refl
+    macro_is n e = rw (first_there words (child_at words r) macro_kind m f text n e) refl
 
-    pub no_macro : m ≡ 0 → plain_target (record_at words text r) ≡ lower_phandle (record_at words text r)
+    pub no_macro : m ≡ None → plain_target (record_at words text r) ≡ lower_phandle (record_at words text r)
     unfolding lower_phandle record_at
     no_macro e = rw (first_missing words (child_at words r) macro_kind m f text e) refl
 

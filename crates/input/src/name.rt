@@ -29,15 +29,13 @@ impl Input<'_> {
         requires at { At self.words.now first }
         ensures { (text : List ℕ) → name_read self.entry.words.now text result ≡ name_or_macro (chain_at self.entry.words.now text first) }
     {
-        let n = self.first_of(first, NAME);
-        if n != 0 {
+        if let Some(n) = self.first_of(first, NAME) {
             return Ok(n);
         }
-        let m = self.first_of(first, MACRO);
-        if m != 0 {
-            return Err(Report::Macro(m));
+        match self.first_of(first, MACRO) {
+            Some(m) => Err(Report::Macro(m)),
+            None => Err(Report::Nothing),
         }
-        Err(Report::Nothing)
     }
 
     // The name of what has these parts, with its unit address where there is one.
@@ -46,10 +44,9 @@ impl Input<'_> {
         ensures { FullNameRead self.entry.words.now first result }
     {
         let name = self.name_or_macro(first);
-        let u = self.first_of(first, UNIT_ADDRESS);
-        if u == 0 {
+        let Some(u) = self.first_of(first, UNIT_ADDRESS) else {
             return FullName { name, unit: None };
-        }
+        };
         let unit = Some(self.name_or_macro(child_at(self.words, u)));
         FullName { name, unit }
     }
@@ -95,11 +92,10 @@ impl Input<'_> {
         requires at { At self.words.now parts }
         ensures { (text : List ℕ) → meant result ≡ node_name_span (chain_at self.entry.words.now text parts) (meant span) }
     {
-        let r = self.first_of(parts, REFERENCE);
-        if r != 0 {
-            return span_at(self.words, r);
+        match self.first_of(parts, REFERENCE) {
+            Some(r) => span_at(self.words, r),
+            None => self.own_span(parts, span),
         }
-        self.own_span(parts, span)
     }
 
     // A property's name span: its name's, else its own.
@@ -116,10 +112,9 @@ impl Input<'_> {
         ensures { (text : List ℕ) → meant result ≡ own_span (first_of name_kind (chain_at self.entry.words.now text parts))
             (chain_at self.entry.words.now text parts) (meant span) }
     {
-        let n = self.first_of(parts, NAME);
-        if n == 0 {
+        let Some(n) = self.first_of(parts, NAME) else {
             return span_or(self.words, self.first_of(parts, SLASH), span);
-        }
+        };
         span_to(
             self.words,
             span_at(self.words, n),
@@ -129,23 +124,23 @@ impl Input<'_> {
 }
 
 // The span of a record, or the given one where there is no record.
-fn span_or(words: &[u32], r: u32, span: Span) -> Span
+fn span_or(words: &[u32], r: Option<u32>, span: Span) -> Span
     ensures { (text : List ℕ) → meant result ≡ slash_span (optional words.now text r) (meant span) }
 {
-    if r == 0 {
-        return span;
+    match r {
+        Some(n) => span_at(words, n),
+        None => span,
     }
-    span_at(words, r)
 }
 
 // A name's span up to the later end of the name and of a unit address, where there is one.
-fn span_to(words: &[u32], span: Span, u: u32) -> Span
+fn span_to(words: &[u32], span: Span, u: Option<u32>) -> Span
     ensures { (text : List ℕ) → meant result ≡ span_to (meant span) (optional words.now text u) }
 {
-    if u == 0 {
+    let Some(address) = u else {
         return span;
-    }
-    let end = field(words, u, layout::SPAN_END);
+    };
+    let end = field(words, address, layout::SPAN_END);
     if span.to <= end {
         return Span {
             from: span.from,

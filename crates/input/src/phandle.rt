@@ -19,8 +19,7 @@ impl Input<'_> {
         ensures { phandle_read self.entry.words.now self.entry.text.now r result ≡ lower_phandle
             (record_at self.entry.words.now self.entry.text.now r) }
     {
-        let m = self.first_of(child_at(self.words, r), MACRO);
-        if m != 0 {
+        if let Some(m) = self.first_of(child_at(self.words, r), MACRO) {
             return Err(Report::Macro(m));
         }
         plain_target(self.words, self.text, r)

@@ -109,17 +109,13 @@ pub fn after(words: &[u32], r: u32) -> u32
 }
 
 impl Input<'_> {
-    // The first record of a kind in a chain, 0 where there is none.
-    pub fn first_of(self, first: u32, kind: u32) -> u32
+    // The first record of a kind in a chain.
+    pub fn first_of(self, first: u32, kind: u32) -> Option<u32>
         requires at { At self.words.now first }
         ensures { FirstOf self.entry.words.now first kind result }
     {
-        for r in self.chain(first) {
-            if kind_at(self.words, r) == kind {
-                return r;
-            }
-        }
-        0
+        let words = self.words;
+        self.chain(first).find(|&r| kind_at(words, r) == kind)
     }
 
     // Whether a chain has a record of a kind.
@@ -127,6 +123,6 @@ impl Input<'_> {
         requires at { At self.words.now first }
         ensures { (text : List ℕ) → result ≡ has kind (chain_at self.entry.words.now text first) }
     {
-        self.first_of(first, kind) != 0
+        self.first_of(first, kind).is_some()
     }
 }

@@ -65,11 +65,10 @@ pub fn place_node(
         input.entry.words.now input.entry.text.now r (λ p s. place_of p (parts_at input.entry.words.now input.entry.text.now r)
         (span_at input.entry.words.now r) s) result }
 {
-    let reference = input.first_of(child_at(input.words, r), REFERENCE);
-    if reference == 0 {
-        return place_by_name(input, r, parent, out, bytes, ctx);
+    match input.first_of(child_at(input.words, r), REFERENCE) {
+        Some(reference) => place_by_reference(input, r, reference, out, bytes, ctx),
+        None => place_by_name(input, r, parent, out, bytes, ctx),
     }
-    place_by_reference(input, r, reference, out, bytes, ctx)
 }
 
 // Opens the node of record r where its reference leads, or puts it aside.

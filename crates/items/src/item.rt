@@ -1,5 +1,6 @@
 // Items: directives (handle_dts_directive and emit_delete_directive of item.rs).
 ghost use Rattle.std.specs.Prelude.{◌≡◌, true, false, ◌<◌};
+ghost use Rattle.std.specs.Option.{ForSome};
 ghost use Rattle.paths_numbers.specs.meaning.Path.{joined};
 ghost use Rattle.definition_log.specs.machine.Parts.{meant};
 ghost use Rattle.making.specs.meaning.State.{emit};
@@ -94,8 +95,8 @@ fn emit_delete_node(
             span,
         );
     }
-    let r = input.first_of(parts, REFERENCE);
-    delete_referenced(input, r, span, out, bytes, told)
+    let reference = input.first_of(parts, REFERENCE);
+    delete_referenced(input, reference, span, out, bytes, told)
 }
 
 // A node deleted by its name and unit address under a path.
@@ -127,22 +128,22 @@ fn delete_named(
     )
 }
 
-// A node deleted by reference r, where there is one.
+// A node deleted by a reference, where there is one.
 fn delete_referenced(
     input: Input<'_>,
-    r: u32,
+    reference: Option<u32>,
     span: Span,
     out: &mut [u32],
     bytes: &mut [u8],
     ctx: LowerCtx,
 ) -> LowerCtx
-    requires at { At input.words.now r }
+    requires there { ForSome reference (λ r. r < record_count input.words.now) }
     ensures { Lowers ctx result out.old bytes.old out.new bytes.new
-        (delete_referenced (meant span) (optional input.entry.words.now input.entry.text.now r)) }
+        (delete_referenced (meant span) (optional input.entry.words.now input.entry.text.now reference)) }
 {
-    if r == 0 {
+    let Some(r) = reference else {
         return ctx;
-    }
+    };
     if ctx.short {
         return ctx;
     }
@@ -197,10 +198,9 @@ fn emit_delete_property(
     ensures { LowersAt parent ctx result out.old bytes.old out.new bytes.new
         (λ p s. delete_property_named p (meant span) (first_of name_kind (chain_at input.entry.words.now input.entry.text.now parts)) s) }
 {
-    let n = input.first_of(parts, NAME);
-    if n == 0 {
+    let Some(n) = input.first_of(parts, NAME) else {
         return ctx;
-    }
+    };
     ctx.define(
         out,
         bytes,

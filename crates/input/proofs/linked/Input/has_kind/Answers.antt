@@ -1,6 +1,7 @@
--- By the number of the first (Read: has_number).
-use Rattle.input.proofs.Read.{has_number}
+-- By whether there is a first (Read: has_found).
+use mathlib.Core.Path.{◌∙◌}
+use Rattle.input.proofs.Read.{has_found}
 use Rattle.input.proofs.linked.Input.has_kind.Goals as goal
 
 pub returns : goal.returns
-returns c = λ text. has_number _ _ _ _ c.first_of.ensures text
+returns c = λ text. c.is_some.ensures.value ∙ has_found _ _ _ _ c.first_of.ensures text

@@ -2,13 +2,13 @@
 use Rattle.input.proofs.NameRead.{name_there, macro_there, nothing_there}
 use Rattle.input.proofs.linked.Input.name_or_macro.Goals as goal
 
-pub returns-then-n-ne0 : goal.returns-then-n-ne0
-returns-then-n-ne0 c = λ text. name_there _ _ _ 0 c.first_of-n.ensures text c.if-n-ne0.true
+pub returns-in-Some : goal.returns-in-Some
+returns-in-Some c = λ text. name_there _ _ _ None c.first_of.ensures text _ c.in-Some.is
 
-pub returns-then-m-ne0 : goal.returns-then-m-ne0
-returns-then-m-ne0 c = λ text. macro_there _ _ _ _ c.first_of-n.ensures text c.if-n-ne0.false
-    c.first_of-m.ensures c.if-m-ne0.true
+pub returns-in-Some-2 : goal.returns-in-Some-2
+returns-in-Some-2 c = λ text. macro_there _ _ _ _ c.first_of.ensures text c.in_default.is
+    c.first_of-2.ensures _ c.in-Some-2.is
 
-pub returns : goal.returns
-returns c = λ text. nothing_there _ _ _ _ c.first_of-n.ensures text c.if-n-ne0.false
-    c.first_of-m.ensures c.if-m-ne0.false
+pub returns-in-None : goal.returns-in-None
+returns-in-None c = λ text. nothing_there _ _ _ _ c.first_of.ensures text c.in_default.is
+    c.first_of-2.ensures c.in-None.is

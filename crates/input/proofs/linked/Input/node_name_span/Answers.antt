@@ -4,14 +4,14 @@ use Rattle.definition_log.specs.machine.Parts.{meant}
 use Rattle.input.proofs.NameRead.{reference_span_lem, no_reference_lem}
 use Rattle.input.proofs.linked.Input.node_name_span.Goals as goal
 
-pub returns-then-r-ne0 : goal.returns-then-r-ne0
-returns-then-r-ne0 c =
+pub returns-in-Some : goal.returns-in-Some
+returns-in-Some c =
     let a = c.args in
-    λ text. c.span_at.ensures ∙ reference_span_lem a.self.words.now a.parts text (meant a.span) _ c.first_of-r.ensures
-    c.if-r-ne0.true
+    λ text. c.span_at.ensures ∙ reference_span_lem a.self.words.now a.parts text (meant a.span) _ c.first_of.ensures
+    _ c.in-Some.is
 
-pub returns : goal.returns
-returns c =
+pub returns-in-None : goal.returns-in-None
+returns-in-None c =
     let a = c.args in
     λ text. c.own_span.ensures text ∙ no_reference_lem a.self.words.now a.parts text (meant a.span) _
-    c.first_of-r.ensures c.if-r-ne0.false
+    c.first_of.ensures c.in-None.is
