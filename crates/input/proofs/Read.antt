@@ -9,17 +9,19 @@ use borrow.Author.Tests.{eq-eqb, ne_eqb, eqb-true, eqb-false}
 use lib.Dec.{eqb}
 use Rattle.paths_numbers.proofs.Texts.{by_test}
 use Rattle.input.specs.meaning.Tree.{Tree, Trees, empty, more, kind_of, first_of, has}
-use Rattle.input.specs.meaning.Input.{record_count, kind_at, next_at, child_at, second_at, chain_at}
+use Rattle.input.specs.meaning.Input.{record_count, kind_at, next_at, child_at, second_at, chain_at, parts_at}
+use Rattle.input.specs.declared.linked.Input.{Input}
 use Rattle.input.specs.machine.At.{record_at}
 use Rattle.input.specs.machine.Fits.{depth_of, depths_of}
 use Rattle.input.specs.machine.Linked.{Link, Linked, At, RecordIn, ChainIn}
 use Rattle.std.specs.Prelude.{Option as Maybe, Some, None, is_some}
 use Rattle.std.specs.List.{find}
 use Rattle.std.specs.Option.{option_map}
-use Rattle.input.specs.machine.ChainLeft.{numbers_from, trees_of, AreRecords}
+use Rattle.input.specs.machine.ChainLeft.{trees_of, AreRecords, chain_left, trees_over}
+use Rattle.input.specs.declared.linked.Chain.{Chain}
 use Rattle.input.specs.machine.Read.{after_at, optional, FirstOf}
 use Rattle.input.proofs.Input.{chain_more}
-use Rattle.input.proofs.ChainLeft.{chain_is, are_records}
+use Rattle.input.proofs.ChainLeft.{chain_is, are_records, parts_over}
 
 pub some_is : {A : Type 0} {x y : A} → Some x ≡ Some y → x ≡ y
 some_is e = cc
@@ -45,17 +47,19 @@ found_record words kind (r ∷ l) a n e =
     (λ q. found_record words kind l a.1 n (rw q at e))
 
 -- the first record of a kind in a chain, as the library's search finds it
-pub first_in : (words : List ℕ) → Linked words → (first kind : ℕ) (r : Maybe ℕ) → At words first
-    → option_map (λ (x : ℕ). x) r ≡ find (λ n. eqb (kind_at words n) kind) (numbers_from words first) → FirstOf words first kind r
-first_in words l first kind r a e =
-    let h : r ≡ find (λ n. eqb (kind_at words n) kind) (numbers_from words first) = sym (mapped r) ∙ e in
-    let k = λ n q. found_record words kind (numbers_from words first) (are_records words l first a) n (sym h ∙ q) in
+pub first_in : (c : Chain) (kind : ℕ) (r : Maybe ℕ)
+    → option_map (λ (x : ℕ). x) r ≡ find (λ n. eqb (kind_at c.input.words.now n) kind) (chain_left c) → FirstOf c kind r
+first_in c kind r e =
+    let words = c.input.words.now in
+    let l = c.input.linked in
+    let h : r ≡ find (λ n. eqb (kind_at words n) kind) (chain_left c) = sym (mapped r) ∙ e in
+    let k = λ n q. found_record words kind (chain_left c) (are_records words l c.next c.at) n (sym h ∙ q) in
     record {
       numbered = λ n q. (k n q).0;
       there = λ n q. (k n q).1;
       kinded = λ n q. (k n q).2;
-      tree = λ text. ap (λ (t : Trees). first_of kind t) (sym (chain_is words l text first a))
-          ∙ first_found words text kind (numbers_from words first) ∙ ap (optional words text) (sym h);
+      tree = λ text. ap (λ (t : Trees). first_of kind t) (sym (chain_is words l text c.next c.at))
+          ∙ first_found words text kind (chain_left c) ∙ ap (optional words text) (sym h);
     }
   where
     mapped : (r : Maybe ℕ) → option_map (λ (x : ℕ). x) r ≡ r
@@ -77,18 +81,28 @@ has_some kind (more x ts) t e =
     by_test (eqb (kind_of x) kind) (λ q. rw q refl) (λ q. rw q (has_some kind ts t (rw q at e)))
 
 -- r is the first record of a kind
-module _ (words : List ℕ) (first kind : ℕ) (r : Maybe ℕ) (f : FirstOf words first kind r) (text : List ℕ) where
-  pub first_missing : r ≡ None → first_of kind (chain_at words text first) ≡ none
-  first_missing e = f.tree text ∙ ap (optional words text) e
+module _ (c : Chain) (kind : ℕ) (r : Maybe ℕ) (f : FirstOf c kind r) (text : List ℕ) where
+  pub first_missing : r ≡ None → first_of kind (trees_over text c) ≡ none
+  first_missing e = f.tree text ∙ ap (optional c.input.words.now text) e
 
-  pub first_there : (n : ℕ) → r ≡ Some n → first_of kind (chain_at words text first) ≡ some (record_at words text n)
-  first_there n e = f.tree text ∙ ap (optional words text) e
+  pub first_there : (n : ℕ) → r ≡ Some n → first_of kind (trees_over text c) ≡ some (record_at c.input.words.now text n)
+  first_there n e = f.tree text ∙ ap (optional c.input.words.now text) e
+
+-- the same of the chain of a record's children
+module _ (i : Input) (r : ℕ) (c : Chain) (d : c.input ≡ i) (q : c.next ≡ child_at i.words.now r) (kind : ℕ) (m : Maybe ℕ) (f : FirstOf c kind m)
+    (text : List ℕ) where
+  pub part_missing : m ≡ None → first_of kind (parts_at i.words.now text r) ≡ none
+  part_missing e = ap (first_of kind) (sym (parts_over i r c d q text)) ∙ first_missing c kind m f text e
+
+  pub part_there : (n : ℕ) → m ≡ Some n → first_of kind (parts_at i.words.now text r) ≡ some (record_at i.words.now text n)
+  part_there n e =
+      ap (first_of kind) (sym (parts_over i r c d q text)) ∙ first_there c kind m f text n e
+      ∙ ap (λ (j : Input). some (record_at j.words.now text n)) d
 
 -- a chain has a record of the kind where there is a first
-pub has_found : (words : List ℕ) (first kind : ℕ) (r : Maybe ℕ) → FirstOf words first kind r → (text : List ℕ)
-    → is_some r ≡ has kind (chain_at words text first)
-has_found words first kind None f text = sym (has_first kind _ (f.tree text))
-has_found words first kind (Some n) f text = sym (has_some kind _ _ (f.tree text))
+pub has_found : (c : Chain) (kind : ℕ) (r : Maybe ℕ) → FirstOf c kind r → (text : List ℕ) → is_some r ≡ has kind (trees_over text c)
+has_found c kind None f text = sym (has_first kind _ (f.tree text))
+has_found c kind (Some n) f text = sym (has_some kind _ _ (f.tree text))
 
 module _ (words : List ℕ) (l : Linked words) (r : ℕ) (n : r ≡ 0 → ⊥) (a : r < record_count words) where
   -- the depth of a chain is its first record's or the rest's

@@ -4,8 +4,10 @@ use Rattle.std.specs.Prelude.{Option as Maybe}
 use Rattle.std.specs.Option.{ForSome}
 use Rattle.std.proofs.Math.Option.{Option, some, none}
 use Rattle.input.specs.meaning.Tree.{Tree, first_of}
-use Rattle.input.specs.meaning.Input.{record_count, kind_at, next_at, chain_at}
+use Rattle.input.specs.meaning.Input.{record_count, kind_at, next_at}
 use Rattle.input.specs.machine.At.{record_at}
+use Rattle.input.specs.machine.ChainLeft.{trees_over}
+use Rattle.input.specs.declared.linked.Chain.{Chain}
 
 -- the record behind r in its chain, 0 behind none
 unfoldable pub after_at : List ℕ → ℕ → ℕ
@@ -17,8 +19,8 @@ optional words text None = none
 optional words text (Some r) = some (record_at words text r)
 
 -- r is the first record of a kind in a chain, none where there is none; record 0 is in no chain
-pub record FirstOf (words : List ℕ) (first kind : ℕ) (r : Maybe ℕ) : Type 0 where
+pub record FirstOf (c : Chain) (kind : ℕ) (r : Maybe ℕ) : Type 0 where
   pub numbered : ForSome r (λ n. n ≡ 0 → ⊥)
-  pub there : ForSome r (λ n. n < record_count words)
-  pub kinded : ForSome r (λ n. kind_at words n ≡ kind)
-  pub tree : (text : List ℕ) → first_of kind (chain_at words text first) ≡ optional words text r
+  pub there : ForSome r (λ n. n < record_count c.input.words.now)
+  pub kinded : ForSome r (λ n. kind_at c.input.words.now n ≡ kind)
+  pub tree : (text : List ℕ) → first_of kind (trees_over text c) ≡ optional c.input.words.now text r

@@ -1,7 +1,7 @@
 -- By whether there is a first (Read: has_found).
 use mathlib.Core.Path.{◌∙◌}
 use Rattle.input.proofs.Read.{has_found}
-use Rattle.input.proofs.linked.Input.has_kind.Goals as goal
+use Rattle.input.proofs.linked.Chain.has_kind.Goals as goal
 
 pub returns : goal.returns
-returns c = λ text. c.is_some.ensures.value ∙ has_found _ _ _ _ c.first_of.ensures text
+returns c = λ text. c.is_some.ensures.value ∙ has_found _ _ _ c.first_of.ensures text
