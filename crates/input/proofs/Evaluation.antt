@@ -16,8 +16,8 @@ use Rattle.paths_numbers.proofs.Texts.{by_test, not_both}
 use Rattle.levels.specs.machine.Held.{rules_at}
 use Rattle.definition_log.specs.meaning.Contents.{Span, Diag}
 use Rattle.input.specs.meaning.Tree.{macro_kind, number_kind, character_kind, prefix_kind, parenthesis_kind, infix_kind}
-use Rattle.input.specs.meaning.Expr.{Outcome, value, fails, missing, fails_with, with_value, evaluated, first_operand, applied, chosen}
-use Rattle.input.specs.meaning.Expr.{prefix_of, infix_of, combined, eval, evals}
+use Rattle.input.specs.meaning.Expr.{Outcome, value, fails, missing, with_value, evaluated, first_operand, applied, chosen}
+use Rattle.input.specs.meaning.Expr.{infix_of, combined, eval, evals}
 use Rattle.input.specs.meaning.Input.{record_count, kind_at, next_at, child_at, number_at, span_at, text_at, chain_at}
 use Rattle.input.specs.machine.At.{record_at}
 use Rattle.input.specs.machine.Linked.{Linked, At, ChainIn}

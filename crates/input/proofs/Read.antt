@@ -1,11 +1,11 @@
 -- Chains as the reading functions walk them: the first record of a kind, the record behind another, and how deep what is left goes.
 use Prim.Native.Nat.{ℕ, zero, suc, ◌-◌, ◌≤◌, ◌<◌, max}
 use mathlib.Core.Path.{◌≡◌, refl, sym, ap, ◌∙◌}
-use mathlib.Core.Bool.{true, false, not}
+use mathlib.Core.Bool.{true, false}
 use mathlib.Core.List.{List, [], ◌∷◌}
 use mathlib.Core.Option.{some, none}
 use native.Mathlib.Omega.{arith}
-use borrow.Author.Tests.{eq-eqb, ne_eqb, eqb-true, eqb-false}
+use borrow.Author.Tests.{ne_eqb, eqb-true}
 use lib.Dec.{eqb}
 use Rattle.paths_numbers.proofs.Texts.{by_test}
 use Rattle.input.specs.meaning.Tree.{Tree, Trees, empty, more, kind_of, first_of, has}
@@ -13,7 +13,7 @@ use Rattle.input.specs.meaning.Input.{record_count, kind_at, next_at, child_at, 
 use Rattle.input.specs.declared.linked.Input.{Input}
 use Rattle.input.specs.machine.At.{record_at}
 use Rattle.input.specs.machine.Fits.{depth_of, depths_of}
-use Rattle.input.specs.machine.Linked.{Link, Linked, At, RecordIn, ChainIn}
+use Rattle.input.specs.machine.Linked.{Linked, RecordIn, ChainIn}
 use Rattle.std.specs.Prelude.{Option as Maybe, Some, None, is_some}
 use Rattle.std.specs.List.{find}
 use Rattle.std.specs.Option.{option_map}
@@ -53,7 +53,8 @@ first_in c kind r e =
     let words = c.input.words.now in
     let l = c.input.linked in
     let h : r ≡ find (λ n. eqb (kind_at words n) kind) (chain_left c) = sym (mapped r) ∙ e in
-    let k = λ n q. found_record words kind (chain_left c) (are_records words l c.next c.at) n (sym h ∙ q) in
+    let k : (n : ℕ) → r ≡ Some n → (n ≡ 0 → ⊥) × (n < record_count words) × (kind_at words n ≡ kind)
+    = λ n q. found_record words kind (chain_left c) (are_records words l c.next c.at) n (sym h ∙ q) in
     record {
       numbered = λ n q. (k n q).0;
       there = λ n q. (k n q).1;

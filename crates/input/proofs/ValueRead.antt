@@ -1,9 +1,9 @@
 -- Values and cells by the kinds of their records.
-use Prim.Native.Nat.{ℕ, ◌+◌, ◌*◌, ◌/◌, ◌%◌, ◌^◌, ◌<◌}
+use Prim.Native.Nat.{ℕ, ◌+◌, ◌*◌, ◌/◌, ◌%◌, ◌^◌}
 use native.Mathlib.Nat.{div-add-mod'}
 use mathlib.Core.Path.{◌≡◌, refl, sym, ap, ◌∙◌}
 use mathlib.Core.Bool.{cond}
-use mathlib.Core.List.{List, [], ◌∷◌}
+use mathlib.Core.List.{List, []}
 use native.Mathlib.Omega.{arith}
 use borrow.Author.Tests.{ne_eqb}
 use Rattle.paths_numbers.specs.meaning.Code.{odd_digits}
@@ -16,19 +16,17 @@ use Rattle.paths_numbers.proofs.Texts.{by_test}
 use Rattle.definition_log.specs.meaning.Contents.{Span, bytestring}
 use Rattle.definition_log.specs.machine.Parts.{target_made}
 use Rattle.paths_numbers.specs.declared.phandle.MirPhandleTarget.{MirPhandleTarget}
-use Rattle.input.specs.meaning.Tree.{Trees, tree, number_kind, character_kind, expression_kind, reference_kind, macro_kind, directive_kind}
+use Rattle.input.specs.meaning.Tree.{tree, number_kind, character_kind, expression_kind, reference_kind, macro_kind, directive_kind}
 use Rattle.input.specs.meaning.Tree.{preprocessor_kind, string_kind, cell_list_kind, bytestring_kind}
-use Rattle.input.specs.meaning.Report.{one, nothing, and_then, report}
+use Rattle.input.specs.meaning.Report.{one, nothing}
 use Rattle.input.specs.meaning.Phandle.{lower_phandle}
-use Rattle.input.specs.meaning.Property.{number_cell, reference_cell, lower_cell, lower_cells, sized_list, counted_bytes, reference_value}
-use Rattle.input.specs.meaning.Property.{lower_value, lower_values}
-use Rattle.input.specs.meaning.Input.{record_count, kind_at, next_at, child_at, second_at, text_at, number_at, span_at, chain_at}
+use Rattle.input.specs.meaning.Property.{reference_cell, lower_cell, counted_bytes, reference_value}
+use Rattle.input.specs.meaning.Property.{lower_value}
+use Rattle.input.specs.meaning.Input.{kind_at, child_at, second_at, text_at, number_at, span_at, chain_at}
 use Rattle.input.specs.machine.At.{record_at}
-use Rattle.input.specs.machine.Linked.{Linked}
 use Rattle.input.specs.machine.ValueRead.{plain_made}
 use Rattle.input.specs.declared.value_read.PlainValue.{PlainValue}
 use Rattle.input.specs.declared.value_read.PlainValue.TheVariants as P
-use Rattle.input.proofs.Input.{chain_none, chain_more}
 
 module _ (words text : List ℕ) (r : ℕ) where
   -- a record of a kind

@@ -15,6 +15,6 @@ returns c =
     let s = c.args.self in
     let test = λ (n : ℕ). eqb (kind_at s.input.words.now n) c.args.kind in
     first_in s c.args.kind _
-    (find_from_yields_List test _ _ _ c.find.ensures.ran
+    (find_from_yields_List test c.find.new.self _ _ c.find.ensures.ran
     (YieldsList-from_first (λ x. x) chain_left (chain_left s) refl)
     (λ x b q k. search (rules, tests)))

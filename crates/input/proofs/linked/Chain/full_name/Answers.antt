@@ -1,7 +1,4 @@
 -- By whether there is a unit address (NameRead).
-use mathlib.Core.Path.{ap, ◌∙◌}
-use Rattle.input.specs.meaning.Name.{name_or_macro}
-use Rattle.input.proofs.ChainLeft.{parts_over}
 use Rattle.input.proofs.NameRead.{full_alone, full_addressed}
 use Rattle.input.proofs.linked.Chain.full_name.Goals as goal
 
@@ -18,5 +15,4 @@ returns c =
     let name = c.name_or_macro-name in
     full_addressed s name.result name.ensures _ c.first_of.ensures
     _ c.in-Some.is c.name_or_macro.result
-    (λ text. rw c.parts.ensures.input at (c.name_or_macro.ensures text)
-    ∙ ap name_or_macro (parts_over s.input _ _ c.parts.ensures.input c.parts.ensures.next text))
+    (λ text. rw (c.parts.ensures.input, c.parts.ensures.next) at (c.name_or_macro.ensures text))

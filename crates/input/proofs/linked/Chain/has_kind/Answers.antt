@@ -4,4 +4,4 @@ use Rattle.input.proofs.Read.{has_found}
 use Rattle.input.proofs.linked.Chain.has_kind.Goals as goal
 
 pub returns : goal.returns
-returns c = λ text. c.is_some.ensures.value ∙ has_found _ _ _ c.first_of.ensures text
+returns c = λ text. c.is_some.ensures ∙ has_found _ _ _ c.first_of.ensures text
