@@ -132,12 +132,7 @@ fn node_kind(parts: Chain<'_>) -> DefKind
 }
 
 // The labels of a node whose definition was made just before.
-pub fn open_node(
-    parts: Chain<'_>,
-    out: &mut [u32],
-    bytes: &mut [u8],
-    made: LowerCtx,
-) -> Opened
+pub fn open_node(parts: Chain<'_>, out: &mut [u32], bytes: &mut [u8], made: LowerCtx) -> Opened
     ensures { Opens made out.old bytes.old out.new bytes.new (trees_left parts.entry) result }
 {
     let place = made.newest_path(out);

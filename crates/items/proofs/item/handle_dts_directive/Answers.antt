@@ -37,7 +37,7 @@ returns-in-4 c =
     c.number_at.ensures
     c.span_at-span.ensures
     c.in-4.is
-    (parts_left a.input a.r _ c.parts-parts.ensures.input c.parts-parts.ensures.next)
+    (parts_left a.input a.r c.parts-parts.result c.parts-parts.ensures.input c.parts-parts.ensures.next)
     c.emit_delete_node.ensures
 
 pub returns-in-5 : goal.returns-in-5
@@ -47,7 +47,7 @@ returns-in-5 c =
     c.number_at.ensures
     c.span_at-span.ensures
     c.in-5.is
-    (parts_left a.input a.r _ c.parts-parts.ensures.input c.parts-parts.ensures.next)
+    (parts_left a.input a.r c.parts-parts.result c.parts-parts.ensures.input c.parts-parts.ensures.next)
     c.emit_delete_property.ensures
 
 pub returns-in_default : goal.returns-in_default
