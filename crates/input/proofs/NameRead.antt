@@ -33,7 +33,8 @@ module _ (c : Chain) (n m : Maybe ℕ) (f : FirstOf c name_kind n) (text : List 
   name_there r k = rw (first_there c name_kind n f text r k) refl
 
   module _ (e : n ≡ None) (g : FirstOf c macro_kind m) where
-    pub macro_there : (r : ℕ) → m ≡ Some r → failed (undefined_macro (record_at c.input.words.now text r) ∷ []) ≡ name_or_macro (trees_over text c)
+    pub macro_there : (r : ℕ) → m ≡ Some r
+        → failed (undefined_macro (record_at c.input.words.now text r) ∷ []) ≡ name_or_macro (trees_over text c)
     unfolding name_or_macro
     macro_there r k = rw (first_missing c name_kind n f text e, first_there c macro_kind m g text r k) refl
 
@@ -49,7 +50,8 @@ span_some words text r span n e = rw e refl
 
 -- to the later end of a name and of a unit address
 module _ (words text : List ℕ) (u : Maybe ℕ) (span : Span) (n : ℕ) (e : u ≡ Some n) where
-  pub to_later : span.to ≤ span_end_at words n → record { from = span.from; to = span_end_at words n } ≡ span_to span (optional words text u)
+  pub to_later : span.to ≤ span_end_at words n
+      → record { from = span.from; to = span_end_at words n } ≡ span_to span (optional words text u)
   unfolding record_at
   to_later h = rw e (simp (le-leb span.to (span_end_at words n) h))
 
@@ -85,7 +87,8 @@ module _ (c : Chain) (text : List ℕ) (span : Span) where
     property_span = rw (f.tree text) refl
 
 -- a full name from what its two parts give
-module _ (c : Chain) (name : Result ℕ Report) (e : (text : List ℕ) → name_read c.input.words.now text name ≡ name_or_macro (trees_over text c))
+module _ (c : Chain) (name : Result ℕ Report)
+    (e : (text : List ℕ) → name_read c.input.words.now text name ≡ name_or_macro (trees_over text c))
     (u : Maybe ℕ) (f : FirstOf c unit_address_kind u)
   where
     pub full_alone : u ≡ None → FullNameRead c.input.words.now c.next (record { name = name; unit = None })

@@ -61,7 +61,8 @@ module _ (words text : List ℕ) (r : ℕ) where
   unfolding lower_phandle record_at
   macro_is m e = rw e refl
 
-  pub no_macro : first_of macro_kind (parts_at words text r) ≡ none → plain_target (record_at words text r) ≡ lower_phandle (record_at words text r)
+  pub no_macro : first_of macro_kind (parts_at words text r) ≡ none
+      → plain_target (record_at words text r) ≡ lower_phandle (record_at words text r)
   unfolding lower_phandle record_at
   no_macro e = rw e refl
 

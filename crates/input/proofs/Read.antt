@@ -38,7 +38,8 @@ first_found words text kind (r ∷ l) =
     by_test (eqb (kind_at words r) kind) (λ q. rw q refl) (λ q. rw q (first_found words text kind l))
 
 -- what is found is a record, and of the kind
-pub found_record : (words : List ℕ) (kind : ℕ) (l : List ℕ) → AreRecords words l → (n : ℕ) → find (λ n. eqb (kind_at words n) kind) l ≡ Some n
+pub found_record : (words : List ℕ) (kind : ℕ) (l : List ℕ) → AreRecords words l → (n : ℕ)
+    → find (λ n. eqb (kind_at words n) kind) l ≡ Some n
     → (n ≡ 0 → ⊥) × (n < record_count words) × (kind_at words n ≡ kind)
 found_record words kind [] a n e = absurd (none_some e)
 found_record words kind (r ∷ l) a n e =
@@ -90,8 +91,8 @@ module _ (c : Chain) (kind : ℕ) (r : Maybe ℕ) (f : FirstOf c kind r) (text :
   first_there n e = f.tree text ∙ ap (optional c.input.words.now text) e
 
 -- the same of the chain of a record's children
-module _ (i : Input) (r : ℕ) (c : Chain) (d : c.input ≡ i) (q : c.next ≡ child_at i.words.now r) (kind : ℕ) (m : Maybe ℕ) (f : FirstOf c kind m)
-    (text : List ℕ) where
+module _ (i : Input) (r : ℕ) (c : Chain) (d : c.input ≡ i) (q : c.next ≡ child_at i.words.now r) (kind : ℕ) (m : Maybe ℕ)
+    (f : FirstOf c kind m) (text : List ℕ) where
   pub part_missing : m ≡ None → first_of kind (parts_at i.words.now text r) ≡ none
   part_missing e = ap (first_of kind) (sym (parts_over i r c d q text)) ∙ first_missing c kind m f text e
 

@@ -64,7 +64,8 @@ pub under_as : {parent : PathAt} {c d : LowerCtx} {words bytes w b : List ℕ} {
 under_as e h = record { lowers = λ k p s r. rw (e p s) (h.lowers k p s r) }
 
 -- a property deleted
-module _ {parent : PathAt} {c : LowerCtx} {out bytes : List ℕ} (parts : Chain) (n : Maybe ℕ) (f : FirstOf parts name_kind n) (span : LogSpan) where
+module _ {parent : PathAt} {c : LowerCtx} {out bytes : List ℕ} (parts : Chain) (n : Maybe ℕ) (f : FirstOf parts name_kind n)
+    (span : LogSpan) where
   pub no_property : n ≡ None → LowersAt parent c c out bytes out bytes
       (λ p s. delete_property_named p (meant span) (first_of name_kind (trees_left parts)) s)
   no_property e = idle_under (λ p s. rw (first_missing parts name_kind n f parts.input.text.now e) refl)
