@@ -3,10 +3,12 @@ use Prim.Native.Nat.{ℕ, zero, suc, ◌<◌}
 use mathlib.Core.Path.{◌≡◌, refl, sym, ap, ◌∙◌}
 use mathlib.Core.List.{List, [], ◌∷◌}
 use native.Mathlib.Omega.{arith}
-use Rattle.input.specs.meaning.Input.{record_count, next_at, chain_at}
+use Rattle.input.specs.meaning.Input.{record_count, next_at, child_at, chain_at, parts_at}
 use Rattle.input.specs.machine.At.{record_at}
 use Rattle.input.specs.machine.Linked.{Linked, At}
-use Rattle.input.specs.machine.ChainLeft.{numbers_at, numbers_from, trees_of, AreRecords}
+use Rattle.input.specs.machine.ChainLeft.{numbers_at, numbers_from, trees_of, AreRecords, trees_over, trees_left}
+use Rattle.input.specs.declared.linked.Chain.{Chain}
+use Rattle.input.specs.declared.linked.Input.{Input}
 use Rattle.input.specs.meaning.Tree.{Trees, more}
 use Rattle.input.proofs.Input.{Enough, enough, chain_none, chain_more}
 
@@ -70,3 +72,12 @@ module _ (words : List ℕ) (l : Linked words) where
   pub are_records : (r : ℕ) → At words r → AreRecords words (numbers_from words r)
   unfolding numbers_from
   are_records r a = records_to (record_count words) r a
+
+-- the chain of a record's children
+pub parts_over : (i : Input) (r : ℕ) (c : Chain) → c.input ≡ i → c.next ≡ child_at i.words.now r → (text : List ℕ)
+    → trees_over text c ≡ parts_at i.words.now text r
+parts_over i r c d e text = rw (d, e) refl
+
+pub parts_left : (i : Input) (r : ℕ) (c : Chain) → c.input ≡ i → c.next ≡ child_at i.words.now r
+    → trees_left c ≡ parts_at i.words.now i.text.now r
+parts_left i r c d e = rw (d, e) refl

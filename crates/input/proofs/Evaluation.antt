@@ -16,8 +16,8 @@ use Rattle.paths_numbers.proofs.Texts.{by_test, not_both}
 use Rattle.levels.specs.machine.Held.{rules_at}
 use Rattle.definition_log.specs.meaning.Contents.{Span, Diag}
 use Rattle.input.specs.meaning.Tree.{macro_kind, number_kind, character_kind, prefix_kind, parenthesis_kind, infix_kind}
-use Rattle.input.specs.meaning.Expr.{Outcome, value, fails, missing, fails_with, with_value, evaluated, first_operand, applied, chosen}
-use Rattle.input.specs.meaning.Expr.{prefix_of, infix_of, combined, eval, evals}
+use Rattle.input.specs.meaning.Expr.{Outcome, value, fails, missing, with_value, evaluated, first_operand, applied, chosen}
+use Rattle.input.specs.meaning.Expr.{infix_of, combined, eval, evals}
 use Rattle.input.specs.meaning.Input.{record_count, kind_at, next_at, child_at, number_at, span_at, text_at, chain_at}
 use Rattle.input.specs.machine.At.{record_at}
 use Rattle.input.specs.machine.Linked.{Linked, At, ChainIn}
@@ -85,23 +85,6 @@ no_operands level words text = rw (chain_none words text) refl
 
 pub no_first : (level : ℕ) (words text : List ℕ) → missing ≡ first_operand (evals (rules_at level) (chain_at words text 0))
 no_first level words text = rw (no_operands level words text) refl
-
--- operator 0 is missing whatever the operands
-pub prefix_missing : (level : ℕ) (span : Span) (l : List (Outcome ℤ)) → prefix_of (rules_at level) 0 span l ≡ missing
-prefix_missing level span [] = refl
-prefix_missing level span (x ∷ l) = refl
-
-pub infix_missing : (level : ℕ) (span : Span) (l : List (Outcome ℤ)) → infix_of (rules_at level) 0 span l ≡ missing
-infix_missing level span [] = refl
-infix_missing level span (x ∷ []) = refl
-infix_missing level span (x ∷ y ∷ []) = refl
-infix_missing level span (x ∷ y ∷ z ∷ l) = refl
-
--- a prefix operator needs its first operand
-pub prefix_first : (level op : ℕ) → (op ≡ 0 → ⊥) → (span : Span) (l : List (Outcome ℤ))
-    → with_value (first_operand l) (λ a. evaluated span ((rules_at level).unary op a)) ≡ prefix_of (rules_at level) op span l
-prefix_first level op n span [] = refl
-prefix_first level op n span (x ∷ l) = simp (ne_eqb op 0 n)
 
 -- one of two operands its two first, where both are there
 two_operands : (level op : ℕ) → (op ≡ 0 → ⊥) → (op ≡ conditional_op → ⊥) → (span : Span) (x y : Outcome ℤ) (l : List (Outcome ℤ))

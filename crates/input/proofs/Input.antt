@@ -79,10 +79,6 @@ pub chain_none : (words text : List ℕ) → chain_at words text 0 ≡ empty
 unfolding chain_at
 chain_none words text = no_trees (record_count words) words text
 
-pub visits_none : (words : List ℕ) (place : InputPlace) (depth : ℕ) → visits_from words place depth 0 ≡ []
-unfolding visits_from
-visits_none words place depth = no_visits (record_count words) words place depth
-
 module _ (words : List ℕ) (l : Linked words) where
   -- one more link in a row than there are records is as good
   chain_more_links : (text : List ℕ) (r : ℕ) → At words r → trees_at (suc (record_count words)) words text r ≡ chain_at words text r

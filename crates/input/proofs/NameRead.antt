@@ -14,116 +14,109 @@ use Rattle.definition_log.specs.meaning.Contents.{Span}
 use Rattle.input.specs.meaning.Tree.{first_of, name_kind, unit_address_kind, reference_kind, macro_kind, slash_kind}
 use Rattle.input.specs.meaning.Report.{Got, found, failed, undefined_macro}
 use Rattle.input.specs.meaning.Name.{name_or_macro, full_name, span_to, slash_span, own_span, node_name_span, property_name_span}
-use Rattle.input.specs.meaning.Input.{child_at, text_at, span_end_at, span_at, chain_at}
+use Rattle.input.specs.meaning.Input.{text_at, span_end_at, span_at, chain_at, parts_at}
 use Rattle.input.specs.machine.At.{record_at}
 use Rattle.input.specs.meaning.GoodName.{good_names_in}
+use Rattle.input.specs.machine.ChainLeft.{trees_over}
+use Rattle.input.specs.declared.linked.Chain.{Chain}
 use Rattle.input.specs.machine.Read.{optional, FirstOf}
 use Rattle.input.specs.machine.NameRead.{name_read, name_text, unit_text, is_there, with_unit_read, full_read, FullNameRead}
 use Rattle.input.specs.declared.report.Report.{Report}
 use Rattle.input.specs.declared.name.FullName.{FullName}
 use Rattle.input.proofs.GoodNames.{never, good_below, first_good, name_plain}
-use Rattle.input.proofs.Read.{optional_none, optional_some, first_missing, first_there}
+use Rattle.input.proofs.Read.{some_is, first_missing, first_there}
 
 -- the name, else the macro, else nothing
-module _ (words : List ℕ) (first n m : ℕ) (f : FirstOf words first name_kind n) (text : List ℕ) where
-  pub name_there : (n ≡ 0 → ⊥) → found (text_at words text n) ≡ name_or_macro (chain_at words text first)
+module _ (c : Chain) (n m : Maybe ℕ) (f : FirstOf c name_kind n) (text : List ℕ) where
+  pub name_there : (r : ℕ) → n ≡ Some r → found (text_at c.input.words.now text r) ≡ name_or_macro (trees_over text c)
   unfolding name_or_macro record_at
-  name_there k = rw (first_there words first name_kind n f text k) refl
+  name_there r k = rw (first_there c name_kind n f text r k) refl
 
-  module _ (e : n ≡ 0) (g : FirstOf words first macro_kind m) where
-    pub macro_there : (m ≡ 0 → ⊥) → failed (undefined_macro (record_at words text m) ∷ []) ≡ name_or_macro (chain_at words text first)
+  module _ (e : n ≡ None) (g : FirstOf c macro_kind m) where
+    pub macro_there : (r : ℕ) → m ≡ Some r
+        → failed (undefined_macro (record_at c.input.words.now text r) ∷ []) ≡ name_or_macro (trees_over text c)
     unfolding name_or_macro
-    macro_there k = rw (first_missing words first name_kind n f text e, first_there words first macro_kind m g text k) refl
+    macro_there r k = rw (first_missing c name_kind n f text e, first_there c macro_kind m g text r k) refl
 
-    pub nothing_there : m ≡ 0 → failed [] ≡ name_or_macro (chain_at words text first)
+    pub nothing_there : m ≡ None → failed [] ≡ name_or_macro (trees_over text c)
     unfolding name_or_macro
-    nothing_there k = rw (first_missing words first name_kind n f text e, first_missing words first macro_kind m g text k) refl
+    nothing_there k = rw (first_missing c name_kind n f text e, first_missing c macro_kind m g text k) refl
 
--- the span of a record, where there is one
-module _ (words text : List ℕ) (r : ℕ) (span : Span) where
-  pub span_none : r ≡ 0 → span ≡ slash_span (optional words text r) span
-  span_none e = rw (e, optional_none words text) refl
-
-  pub span_some : (r ≡ 0 → ⊥) → span_at words r ≡ slash_span (optional words text r) span
-  unfolding record_at
-  span_some n = rw (optional_some words text r n) refl
+-- the span of a record
+pub span_some : (words text : List ℕ) (r : Maybe ℕ) (span : Span) (n : ℕ) → r ≡ Some n
+    → span_at words n ≡ slash_span (optional words text r) span
+unfolding record_at
+span_some words text r span n e = rw e refl
 
 -- to the later end of a name and of a unit address
-module _ (words text : List ℕ) (u : ℕ) (span : Span) where
-  pub to_none : u ≡ 0 → span ≡ span_to span (optional words text u)
-  to_none e = rw (e, optional_none words text) refl
-
-  pub to_later : (u ≡ 0 → ⊥) → span.to ≤ span_end_at words u → record { from = span.from; to = span_end_at words u } ≡ span_to span
-      (optional words text u)
+module _ (words text : List ℕ) (u : Maybe ℕ) (span : Span) (n : ℕ) (e : u ≡ Some n) where
+  pub to_later : span.to ≤ span_end_at words n
+      → record { from = span.from; to = span_end_at words n } ≡ span_to span (optional words text u)
   unfolding record_at
-  to_later n h = rw (optional_some words text u n) (simp (le-leb span.to (span_end_at words u) h))
+  to_later h = rw e (simp (le-leb span.to (span_end_at words n) h))
 
-  pub to_own : (u ≡ 0 → ⊥) → span_end_at words u < span.to → span ≡ span_to span (optional words text u)
+  pub to_own : span_end_at words n < span.to → span ≡ span_to span (optional words text u)
   unfolding record_at
-  to_own n h = rw (optional_some words text u n) (simp (lt-leb span.to (span_end_at words u) h))
+  to_own h = rw e (simp (lt-leb span.to (span_end_at words n) h))
 
 -- a node's name span by its parts
-module _ (words : List ℕ) (parts : ℕ) (text : List ℕ) (span : Span) where
-  pub reference_span_lem : (r : ℕ) → FirstOf words parts reference_kind r → (r ≡ 0 → ⊥)
-      → span_at words r ≡ node_name_span (chain_at words text parts) span
+module _ (c : Chain) (text : List ℕ) (span : Span) where
+  pub reference_span_lem : (r : Maybe ℕ) → FirstOf c reference_kind r → (n : ℕ) → r ≡ Some n
+      → span_at c.input.words.now n ≡ node_name_span (trees_over text c) span
   unfolding node_name_span record_at
-  reference_span_lem r f n = rw (first_there words parts reference_kind r f text n) refl
+  reference_span_lem r f n e = rw (first_there c reference_kind r f text n e) refl
 
-  pub no_reference_lem : (r : ℕ) → FirstOf words parts reference_kind r → r ≡ 0
-      → own_span (first_of name_kind (chain_at words text parts)) (chain_at words text parts) span ≡ node_name_span (chain_at words text parts) span
+  pub no_reference_lem : (r : Maybe ℕ) → FirstOf c reference_kind r → r ≡ None
+      → own_span (first_of name_kind (trees_over text c)) (trees_over text c) span ≡ node_name_span (trees_over text c) span
   unfolding node_name_span
-  no_reference_lem r f e = rw (first_missing words parts reference_kind r f text e) refl
+  no_reference_lem r f e = rw (first_missing c reference_kind r f text e) refl
 
-  module _ (n : ℕ) (f : FirstOf words parts name_kind n) where
-    pub name_span_lem : (u : ℕ) → FirstOf words parts unit_address_kind u → (n ≡ 0 → ⊥)
-        → span_to (span_at words n) (optional words text u) ≡ own_span (first_of name_kind (chain_at words text parts)) (chain_at words text parts)
-        span
+  module _ (r : Maybe ℕ) (f : FirstOf c name_kind r) where
+    pub name_span_lem : (u : Maybe ℕ) → FirstOf c unit_address_kind u → (n : ℕ) → r ≡ Some n
+        → span_to (span_at c.input.words.now n) (optional c.input.words.now text u)
+        ≡ own_span (first_of name_kind (trees_over text c)) (trees_over text c) span
     unfolding record_at
-    name_span_lem u g k = rw (first_there words parts name_kind n f text k, g.tree text) refl
+    name_span_lem u g n e = rw (first_there c name_kind r f text n e, g.tree text) refl
 
-    pub no_name : (x : ℕ) → FirstOf words parts slash_kind x → n ≡ 0
-        → slash_span (optional words text x) span ≡ own_span (first_of name_kind (chain_at words text parts)) (chain_at words text parts) span
-    no_name x g e = rw (first_missing words parts name_kind n f text e, g.tree text) refl
+    pub no_name : (x : Maybe ℕ) → FirstOf c slash_kind x → r ≡ None
+        → slash_span (optional c.input.words.now text x) span ≡ own_span (first_of name_kind (trees_over text c)) (trees_over text c) span
+    no_name x g e = rw (first_missing c name_kind r f text e, g.tree text) refl
 
-    pub property_span : slash_span (optional words text n) span ≡ property_name_span (chain_at words text parts) span
+    pub property_span : slash_span (optional c.input.words.now text r) span ≡ property_name_span (trees_over text c) span
     unfolding property_name_span
     property_span = rw (f.tree text) refl
 
-some_is : {A : Type 0} {x y : A} → Some x ≡ Some y → x ≡ y
-some_is e = cc
-
 -- a full name from what its two parts give
-module _ (words : List ℕ) (first : ℕ) (name : Result ℕ Report) (e : (text : List ℕ)
-    → name_read words text name ≡ name_or_macro (chain_at words text first))
-    (u : ℕ) (f : FirstOf words first unit_address_kind u)
+module _ (c : Chain) (name : Result ℕ Report)
+    (e : (text : List ℕ) → name_read c.input.words.now text name ≡ name_or_macro (trees_over text c))
+    (u : Maybe ℕ) (f : FirstOf c unit_address_kind u)
   where
-    pub full_alone : u ≡ 0 → FullNameRead words first (record { name = name; unit = None })
+    pub full_alone : u ≡ None → FullNameRead c.input.words.now c.next (record { name = name; unit = None })
     unfolding full_read full_name
     full_alone z =
         record {
-          read = λ text. e text ∙ rw (first_missing words first unit_address_kind u f text z) refl;
+          read = λ text. e text ∙ rw (first_missing c unit_address_kind u f text z) refl;
           unit_good = λ text r g k. let z : ◌≡◌ {A = ℕ} 0 1 = cc in absurd (omega arith);
         }
 
-    module _ (n : u ≡ 0 → ⊥) (unit : Result ℕ Report) (g : (text : List ℕ)
-        → name_read words text unit ≡ name_or_macro (chain_at words text (child_at words u))) where
+    module _ (n : ℕ) (k : u ≡ Some n) (unit : Result ℕ Report)
+        (g : (text : List ℕ) → name_read c.input.words.now text unit ≡ name_or_macro (parts_at c.input.words.now text n)) where
       -- the names below the unit address are good
-      unit_names : (text : List ℕ) → good_names_in (chain_at words text first) ≡ true
-          → good_names_in (chain_at words text (child_at words u)) ≡ true
+      unit_names : (text : List ℕ) → good_names_in (trees_over text c) ≡ true → good_names_in (parts_at c.input.words.now text n) ≡ true
       unfolding record_at
       unit_names text h =
-          good_below (record_at words text u)
-          (first_good (chain_at words text first) (record_at words text u) unit_address_kind h
-          (first_there words first unit_address_kind u f text n)).0
+          good_below (record_at c.input.words.now text n)
+          (first_good (trees_over text c) (record_at c.input.words.now text n) unit_address_kind h
+          (first_there c unit_address_kind u f text n k)).0
 
-      pub full_addressed : FullNameRead words first (record { name = name; unit = Some unit })
+      pub full_addressed : FullNameRead c.input.words.now c.next (record { name = name; unit = Some unit })
       unfolding full_read full_name record_at
       full_addressed =
           record {
-            read = λ text. rw (first_there words first unit_address_kind u f text n, e text, g text) refl;
-            unit_good = λ text r h k.
-                (name_plain (chain_at words text (child_at words u)) (text_at words text r) (unit_names text h)
-                (ap (λ (x : Got (List ℕ)). x.result) (sym (g text) ∙ ap (name_read words text) (some_is k)))).filled;
+            read = λ text. rw (first_there c unit_address_kind u f text n k, e text, g text) refl;
+            unit_good = λ text r h d.
+                (name_plain (parts_at c.input.words.now text n) (text_at c.input.words.now text r) (unit_names text h)
+                (ap (λ (x : Got (List ℕ)). x.result) (sym (g text) ∙ ap (name_read c.input.words.now text) (some_is d)))).filled;
           }
 
 -- whether there is a name with its unit address, by whether there are both

@@ -5,21 +5,20 @@ use mathlib.Core.Bool.{true, false}
 use mathlib.Core.List.{List, [], ◌∷◌}
 use native.Mathlib.Omega.{arith}
 use borrow.Author.Tests.{ne_eqb}
+use mathlib.Core.Option.{some, none}
 use lib.ListN.{length}
 use Rattle.std.specs.Prelude.{Option, Some, None, Ok, Err}
 use Rattle.std.specs.Option.{ok_or}
 use Rattle.paths_numbers.specs.meaning.Text.{is_empty}
 use Rattle.paths_numbers.specs.meaning.Reference.{Target, label, label_path, path, unreadable, target, number_of, target_number, label_of, path_of}
-use Rattle.input.specs.meaning.Tree.{macro_kind}
+use Rattle.input.specs.meaning.Tree.{macro_kind, first_of}
 use Rattle.input.specs.meaning.Phandle.{readable, plain_target, lower_phandle}
-use Rattle.input.specs.meaning.Input.{child_at, number_at, text_at}
+use Rattle.input.specs.meaning.Input.{number_at, text_at, parts_at}
 use Rattle.input.specs.machine.At.{record_at}
-use Rattle.input.specs.machine.Read.{FirstOf}
 use Rattle.input.specs.machine.PhandleRead.{label_at, path_at, phandle_read, read_as}
 use Rattle.input.specs.declared.report.Report.TheVariants.{Macro, Nothing}
 use Rattle.paths_numbers.specs.declared.phandle.MirPhandleTarget.{MirPhandleTarget}
 use Rattle.paths_numbers.specs.declared.phandle.MirPhandleTarget.TheVariants.{Label, LabelPath, Path}
-use Rattle.input.proofs.Read.{first_missing, first_there}
 
 -- a text is empty where its length is 0
 empty_length : (s : List ℕ) → length s ≡ 0 → is_empty s ≡ true
@@ -57,14 +56,15 @@ module _ (words text : List ℕ) (r : ℕ) where
     name_is e = simp (ne_eqb (number_at words r) 1 n, filled_length (text_at words text r) e)
 
   -- a macro comes first
-  module _ (m : ℕ) (f : FirstOf words (child_at words r) macro_kind m) where
-    pub macro_is : (m ≡ 0 → ⊥) → phandle_read words text r (Err (Macro m)) ≡ lower_phandle (record_at words text r)
-    unfolding lower_phandle record_at
-    macro_is n = rw (first_there words (child_at words r) macro_kind m f text n) refl
+  pub macro_is : (m : ℕ) → first_of macro_kind (parts_at words text r) ≡ some (record_at words text m)
+      → phandle_read words text r (Err (Macro m)) ≡ lower_phandle (record_at words text r)
+  unfolding lower_phandle record_at
+  macro_is m e = rw e refl
 
-    pub no_macro : m ≡ 0 → plain_target (record_at words text r) ≡ lower_phandle (record_at words text r)
-    unfolding lower_phandle record_at
-    no_macro e = rw (first_missing words (child_at words r) macro_kind m f text e) refl
+  pub no_macro : first_of macro_kind (parts_at words text r) ≡ none
+      → plain_target (record_at words text r) ≡ lower_phandle (record_at words text r)
+  unfolding lower_phandle record_at
+  no_macro e = rw e refl
 
   -- the label and the path
   pub raw_label : number_at words r ≡ 1 → label_of (target (text_at words text r)) ≡ label_at words text r

@@ -1,59 +1,72 @@
 -- Chains as the reading functions walk them: the first record of a kind, the record behind another, and how deep what is left goes.
 use Prim.Native.Nat.{ℕ, zero, suc, ◌-◌, ◌≤◌, ◌<◌, max}
 use mathlib.Core.Path.{◌≡◌, refl, sym, ap, ◌∙◌}
-use mathlib.Core.Bool.{true, false, not}
-use mathlib.Core.List.{List}
+use mathlib.Core.Bool.{true, false}
+use mathlib.Core.List.{List, [], ◌∷◌}
 use mathlib.Core.Option.{some, none}
 use native.Mathlib.Omega.{arith}
-use borrow.Author.Tests.{eq-eqb, ne_eqb, eqb-true, eqb-false}
+use borrow.Author.Tests.{ne_eqb, eqb-true}
 use lib.Dec.{eqb}
 use Rattle.paths_numbers.proofs.Texts.{by_test}
 use Rattle.input.specs.meaning.Tree.{Tree, Trees, empty, more, kind_of, first_of, has}
-use Rattle.input.specs.meaning.Input.{record_count, kind_at, next_at, child_at, second_at, chain_at}
+use Rattle.input.specs.meaning.Input.{record_count, kind_at, next_at, child_at, second_at, chain_at, parts_at}
+use Rattle.input.specs.declared.linked.Input.{Input}
 use Rattle.input.specs.machine.At.{record_at}
 use Rattle.input.specs.machine.Fits.{depth_of, depths_of}
-use Rattle.input.specs.machine.Linked.{Link, Linked, At, RecordIn, ChainIn}
+use Rattle.input.specs.machine.Linked.{Linked, RecordIn, ChainIn}
+use Rattle.std.specs.Prelude.{Option as Maybe, Some, None, is_some}
+use Rattle.std.specs.List.{find}
+use Rattle.std.specs.Option.{option_map}
+use Rattle.input.specs.machine.ChainLeft.{trees_of, AreRecords, chain_left, trees_over}
+use Rattle.input.specs.declared.linked.Chain.{Chain}
 use Rattle.input.specs.machine.Read.{after_at, optional, FirstOf}
 use Rattle.input.proofs.Input.{chain_more}
+use Rattle.input.proofs.ChainLeft.{chain_is, are_records, parts_over}
 
--- how far a chain of links can still go from record r
-unfoldable pub rank : List ℕ → ℕ → ℕ
-rank words zero = 0
-rank words (suc r) = record_count words - suc r
+pub some_is : {A : Type 0} {x y : A} → Some x ≡ Some y → x ≡ y
+some_is e = cc
 
--- each link leaves less
-pub rank_less : (words : List ℕ) (r k : ℕ) → (r ≡ 0 → ⊥) → r < record_count words → Link words r k → rank words k < rank words r
-unfolding rank
-rank_less words zero k n a h = absurd (n refl)
-rank_less words (suc r) zero n a h = omega arith
-rank_less words (suc r) (suc k) n a h = omega (arith, h.up (λ e. omega arith), h.within (λ e. omega arith))
+none_some : {A B : Type 0} {x : A} → None ≡ Some x → B
+none_some e = let z : ◌≡◌ {A = ℕ} 0 1 = cc in absurd (omega arith)
 
--- a record's children are records
-pub child_there : (words : List ℕ) → Linked words → (r : ℕ) → r < record_count words → (n : ℕ) → n ≡ child_at words r → At words n
-child_there words l r a n e = rw e (l.all r a).child.within
+-- the first record of a kind among the records of a chain, as the library's search finds it
+pub first_found : (words text : List ℕ) (kind : ℕ) (l : List ℕ)
+    → first_of kind (trees_of words text l) ≡ optional words text (find (λ n. eqb (kind_at words n) kind) l)
+unfolding first_of record_at
+first_found words text kind [] = refl
+first_found words text kind (r ∷ l) =
+    by_test (eqb (kind_at words r) kind) (λ q. rw q refl) (λ q. rw q (first_found words text kind l))
 
--- a record that is there, and none
-pub optional_none : (words text : List ℕ) → optional words text 0 ≡ none
-unfolding optional
-optional_none words text = refl
+-- what is found is a record, and of the kind
+pub found_record : (words : List ℕ) (kind : ℕ) (l : List ℕ) → AreRecords words l → (n : ℕ)
+    → find (λ n. eqb (kind_at words n) kind) l ≡ Some n
+    → (n ≡ 0 → ⊥) × (n < record_count words) × (kind_at words n ≡ kind)
+found_record words kind [] a n e = absurd (none_some e)
+found_record words kind (r ∷ l) a n e =
+    by_test (eqb (kind_at words r) kind)
+    (λ q. let k = some_is (rw q at e) in rw (← k) (a.0.0, a.0.1, eqb-true (kind_at words r) kind q))
+    (λ q. found_record words kind l a.1 n (rw q at e))
 
-pub optional_some : (words text : List ℕ) (r : ℕ) → (r ≡ 0 → ⊥) → optional words text r ≡ some (record_at words text r)
-unfolding optional
-optional_some words text r n = simp (ne_eqb r 0 n)
-
--- the first of no records, of a record of the kind, and of one of another kind
-pub first_end : (words text : List ℕ) (kind : ℕ) → first_of kind empty ≡ optional words text 0
-unfolding first_of optional
-first_end words text kind = refl
-
-module _ (words text : List ℕ) (r kind : ℕ) (ts : Trees) where
-  pub first_hit : (r ≡ 0 → ⊥) → kind_at words r ≡ kind → first_of kind (more (record_at words text r) ts) ≡ optional words text r
-  unfolding first_of record_at
-  first_hit n e = rw (optional_some words text r n) (simp (eq-eqb (kind_at words r) kind e))
-
-  pub first_miss : (kind_at words r ≡ kind → ⊥) → first_of kind (more (record_at words text r) ts) ≡ first_of kind ts
-  unfolding first_of record_at
-  first_miss e = simp (ne_eqb (kind_at words r) kind e)
+-- the first record of a kind in a chain, as the library's search finds it
+pub first_in : (c : Chain) (kind : ℕ) (r : Maybe ℕ)
+    → option_map (λ (x : ℕ). x) r ≡ find (λ n. eqb (kind_at c.input.words.now n) kind) (chain_left c) → FirstOf c kind r
+first_in c kind r e =
+    let words = c.input.words.now in
+    let l = c.input.linked in
+    let h : r ≡ find (λ n. eqb (kind_at words n) kind) (chain_left c) = sym (mapped r) ∙ e in
+    let k : (n : ℕ) → r ≡ Some n → (n ≡ 0 → ⊥) × (n < record_count words) × (kind_at words n ≡ kind)
+    = λ n q. found_record words kind (chain_left c) (are_records words l c.next c.at) n (sym h ∙ q) in
+    record {
+      numbered = λ n q. (k n q).0;
+      there = λ n q. (k n q).1;
+      kinded = λ n q. (k n q).2;
+      tree = λ text. ap (λ (t : Trees). first_of kind t) (sym (chain_is words l text c.next c.at))
+          ∙ first_found words text kind (chain_left c) ∙ ap (optional words text) (sym h);
+    }
+  where
+    mapped : (r : Maybe ℕ) → option_map (λ (x : ℕ). x) r ≡ r
+    mapped None = refl
+    mapped (Some x) = refl
 
 -- whether there is one of a kind, from whether there is a first
 pub has_first : (kind : ℕ) (ts : Trees) → first_of kind ts ≡ none → has kind ts ≡ false
@@ -69,20 +82,29 @@ has_some kind empty t e = let z : ◌≡◌ {A = ℕ} 0 1 = cc in absurd (omega 
 has_some kind (more x ts) t e =
     by_test (eqb (kind_of x) kind) (λ q. rw q refl) (λ q. rw q (has_some kind ts t (rw q at e)))
 
--- r is the number of the first record of a kind
-module _ (words : List ℕ) (first kind r : ℕ) (f : FirstOf words first kind r) (text : List ℕ) where
-  pub first_missing : r ≡ 0 → first_of kind (chain_at words text first) ≡ none
-  first_missing e = f.tree text ∙ ap (optional words text) e ∙ optional_none words text
+-- r is the first record of a kind
+module _ (c : Chain) (kind : ℕ) (r : Maybe ℕ) (f : FirstOf c kind r) (text : List ℕ) where
+  pub first_missing : r ≡ None → first_of kind (trees_over text c) ≡ none
+  first_missing e = f.tree text ∙ ap (optional c.input.words.now text) e
 
-  pub first_there : (r ≡ 0 → ⊥) → first_of kind (chain_at words text first) ≡ some (record_at words text r)
-  first_there n = f.tree text ∙ optional_some words text r n
+  pub first_there : (n : ℕ) → r ≡ Some n → first_of kind (trees_over text c) ≡ some (record_at c.input.words.now text n)
+  first_there n e = f.tree text ∙ ap (optional c.input.words.now text) e
 
-  -- a chain has a record of the kind where this number is not 0
-  pub has_number : not (eqb r 0) ≡ has kind (chain_at words text first)
-  has_number =
-      by_test (eqb r 0)
-      (λ q. rw q (sym (has_first kind _ (first_missing (eqb-true r 0 q)))))
-      (λ q. rw q (sym (has_some kind _ _ (first_there (eqb-false r 0 q)))))
+-- the same of the chain of a record's children
+module _ (i : Input) (r : ℕ) (c : Chain) (d : c.input ≡ i) (q : c.next ≡ child_at i.words.now r) (kind : ℕ) (m : Maybe ℕ)
+    (f : FirstOf c kind m) (text : List ℕ) where
+  pub part_missing : m ≡ None → first_of kind (parts_at i.words.now text r) ≡ none
+  part_missing e = ap (first_of kind) (sym (parts_over i r c d q text)) ∙ first_missing c kind m f text e
+
+  pub part_there : (n : ℕ) → m ≡ Some n → first_of kind (parts_at i.words.now text r) ≡ some (record_at i.words.now text n)
+  part_there n e =
+      ap (first_of kind) (sym (parts_over i r c d q text)) ∙ first_there c kind m f text n e
+      ∙ ap (λ (j : Input). some (record_at j.words.now text n)) d
+
+-- a chain has a record of the kind where there is a first
+pub has_found : (c : Chain) (kind : ℕ) (r : Maybe ℕ) → FirstOf c kind r → (text : List ℕ) → is_some r ≡ has kind (trees_over text c)
+has_found c kind None f text = sym (has_first kind _ (f.tree text))
+has_found c kind (Some n) f text = sym (has_some kind _ _ (f.tree text))
 
 module _ (words : List ℕ) (l : Linked words) (r : ℕ) (n : r ≡ 0 → ⊥) (a : r < record_count words) where
   -- the depth of a chain is its first record's or the rest's

@@ -54,11 +54,6 @@ module _ (words text : List ℕ) where
       let g = or_else_lem 6 (row_six words) _ f.1 in
       record { one = a.0; two = b.0; three = c.0; four = d.0; five = f.0; six = g.0 }
 
-  -- and where none does, it is accepted
-  pub rows_accepted : Accepted words text → verdict words text ≡ accepted
-  unfolding verdict
-  rows_accepted a = rw (a.one, a.two, a.three, a.four, a.five, a.six) refl
-
 -- row 1
 
 -- the sizes that pass

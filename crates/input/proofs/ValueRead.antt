@@ -1,9 +1,9 @@
 -- Values and cells by the kinds of their records.
-use Prim.Native.Nat.{ℕ, ◌+◌, ◌*◌, ◌/◌, ◌%◌, ◌^◌, ◌<◌}
+use Prim.Native.Nat.{ℕ, ◌+◌, ◌*◌, ◌/◌, ◌%◌, ◌^◌}
 use native.Mathlib.Nat.{div-add-mod'}
 use mathlib.Core.Path.{◌≡◌, refl, sym, ap, ◌∙◌}
 use mathlib.Core.Bool.{cond}
-use mathlib.Core.List.{List, [], ◌∷◌}
+use mathlib.Core.List.{List, []}
 use native.Mathlib.Omega.{arith}
 use borrow.Author.Tests.{ne_eqb}
 use Rattle.paths_numbers.specs.meaning.Code.{odd_digits}
@@ -16,19 +16,17 @@ use Rattle.paths_numbers.proofs.Texts.{by_test}
 use Rattle.definition_log.specs.meaning.Contents.{Span, bytestring}
 use Rattle.definition_log.specs.machine.Parts.{target_made}
 use Rattle.paths_numbers.specs.declared.phandle.MirPhandleTarget.{MirPhandleTarget}
-use Rattle.input.specs.meaning.Tree.{Trees, tree, number_kind, character_kind, expression_kind, reference_kind, macro_kind, directive_kind}
+use Rattle.input.specs.meaning.Tree.{tree, number_kind, character_kind, expression_kind, reference_kind, macro_kind, directive_kind}
 use Rattle.input.specs.meaning.Tree.{preprocessor_kind, string_kind, cell_list_kind, bytestring_kind}
-use Rattle.input.specs.meaning.Report.{one, nothing, and_then, report}
+use Rattle.input.specs.meaning.Report.{one, nothing}
 use Rattle.input.specs.meaning.Phandle.{lower_phandle}
-use Rattle.input.specs.meaning.Property.{number_cell, reference_cell, lower_cell, lower_cells, sized_list, counted_bytes, reference_value}
-use Rattle.input.specs.meaning.Property.{lower_value, lower_values}
-use Rattle.input.specs.meaning.Input.{record_count, kind_at, next_at, child_at, second_at, text_at, number_at, span_at, chain_at}
+use Rattle.input.specs.meaning.Property.{reference_cell, lower_cell, counted_bytes, reference_value}
+use Rattle.input.specs.meaning.Property.{lower_value}
+use Rattle.input.specs.meaning.Input.{kind_at, child_at, second_at, text_at, number_at, span_at, chain_at}
 use Rattle.input.specs.machine.At.{record_at}
-use Rattle.input.specs.machine.Linked.{Linked}
 use Rattle.input.specs.machine.ValueRead.{plain_made}
 use Rattle.input.specs.declared.value_read.PlainValue.{PlainValue}
 use Rattle.input.specs.declared.value_read.PlainValue.TheVariants as P
-use Rattle.input.proofs.Input.{chain_none, chain_more}
 
 module _ (words text : List ℕ) (r : ℕ) where
   -- a record of a kind
@@ -112,30 +110,6 @@ pub plain_reports : (words text : List ℕ) (r : ℕ) (v : PlainValue) → (plai
 plain_reports words text r P.String = refl
 plain_reports words text r P.Bytestring = by_test (is_odd (text_at words text r)) (λ q. rw q refl) (λ q. rw q refl)
 plain_reports words text r (P.Phandle k) = refl
-
--- the values and the cells of a chain: none from no record on, else those of its first record and those from its next
-module _ (words text : List ℕ) (r : ℕ) where
-  pub values_end : (level : ℕ) → r ≡ 0 → nothing [] ≡ lower_values level (chain_at words text r)
-  unfolding lower_values
-  values_end level e = rw (e, chain_none words text) refl
-
-  pub cells_end : (level : ℕ) (size : BitsSize) → r ≡ 0 → nothing [] ≡ lower_cells level size (chain_at words text r)
-  unfolding lower_cells
-  cells_end level size e = rw (e, chain_none words text) refl
-
-  module _ (l : Linked words) (n : r ≡ 0 → ⊥) (a : r < record_count words) where
-    pub values_more : (level : ℕ)
-        → and_then (lower_value level (record_at words text r)) (lower_values level (chain_at words text (next_at words r))) ≡ lower_values level
-        (chain_at words text r)
-    unfolding lower_values
-    values_more level = rw (chain_more words l text r n a) refl
-
-    pub cells_more : (level : ℕ) (size : BitsSize)
-        → and_then (lower_cell level size (record_at words text r)) (lower_cells level size (chain_at words text (next_at words r)))
-        ≡ lower_cells level size
-        (chain_at words text r)
-    unfolding lower_cells
-    cells_more level size = rw (chain_more words l text r n a) refl
 
 -- a number by its two words
 pub number_whole : (n : ℕ) → n % 4294967296 + n / 4294967296 * 2 ^ 32 ≡ n

@@ -1,11 +1,12 @@
 // The records of a chain of an input, by their numbers.
-ghost use Rattle.std.specs.Prelude.{◌≡◌, ⊤};
+ghost use Rattle.std.specs.Prelude.{◌≡◌, ◌<◌, ⊤};
 ghost use Rattle.std.specs.Iterator.{YieldsFirst, item_count};
+ghost use Rattle.input.specs.meaning.Input.{record_count, child_at};
 ghost use Rattle.input.specs.machine.ChainLeft.{numbers_from, chain_left};
 ghost use Rattle.input.specs.machine.Linked.{At};
 
 use crate::linked::{Chain, Input};
-use crate::record::next_at;
+use crate::record::{child_at, next_at};
 
 impl<'a> Input<'a> {
     // The records of a chain from its first on.
@@ -16,6 +17,18 @@ impl<'a> Input<'a> {
         Chain {
             input: self,
             next: first,
+        }
+    }
+
+    // The chain of a record's children.
+    pub fn parts(self, r: u32) -> Chain<'a>
+        requires r_bound { r < record_count self.words.now }
+        ensures input { result.input ≡ self.entry }
+        ensures next { result.next ≡ child_at self.entry.words.now r }
+    {
+        Chain {
+            input: self,
+            next: child_at(self.words, r),
         }
     }
 }

@@ -1,56 +1,50 @@
-// Names with their unit addresses, and name spans (resolve_name_or_macro and get_name_and_unit_addr of
-// dt_node.rs). A chain of parts is given by its first record.
+// Names with their unit addresses, and name spans, in a chain of parts (resolve_name_or_macro and get_name_and_unit_addr of
+// dt_node.rs).
 ghost use Rattle.std.specs.Prelude.{◌≡◌, List, ℕ};
 ghost use Rattle.input.specs.meaning.Tree.{name_kind, first_of};
 ghost use Rattle.input.specs.meaning.Name.{name_or_macro, span_to, slash_span, own_span, node_name_span, property_name_span};
-ghost use Rattle.input.specs.meaning.Input.{chain_at};
-ghost use Rattle.input.specs.machine.Linked.{At};
+ghost use Rattle.input.specs.machine.ChainLeft.{trees_over};
 ghost use Rattle.definition_log.specs.machine.Parts.{meant};
 ghost use Rattle.input.specs.machine.Read.{optional};
 ghost use Rattle.input.specs.machine.NameRead.{name_read, name_text, unit_text, is_there, full_read, FullNameRead};
 
 use crate::kinds::{MACRO, NAME, REFERENCE, SLASH, UNIT_ADDRESS};
 use crate::layout;
-use crate::linked::Input;
-use crate::record::{child_at, field, no_text, span_at, text_at};
+use crate::linked::Chain;
+use crate::record::{field, no_text, span_at, text_at};
 use crate::report::Report;
 use definition_log::parts::Span;
 
 // A name, by its record or by what is reported in its place, and the name in its unit address, where it has one.
-#[derive(Clone, Copy)]
+#[derive(Clone, Copy, Debug, PartialEq, Eq)]
 pub struct FullName {
     pub name: Result<u32, Report>,
     pub unit: Option<Result<u32, Report>>,
 }
 
-impl Input<'_> {
-    // The name in a chain of parts: its record, or what is reported in its place, which is nothing where no macro stands there.
-    pub fn name_or_macro(self, first: u32) -> Result<u32, Report>
-        requires at { At self.words.now first }
-        ensures { (text : List ℕ) → name_read self.entry.words.now text result ≡ name_or_macro (chain_at self.entry.words.now text first) }
+impl Chain<'_> {
+    // The name: its record, or what is reported in its place, which is nothing where no macro stands there.
+    pub fn name_or_macro(self) -> Result<u32, Report>
+        ensures { (text : List ℕ) → name_read self.entry.input.words.now text result ≡ name_or_macro (trees_over text self.entry) }
     {
-        let n = self.first_of(first, NAME);
-        if n != 0 {
+        if let Some(n) = self.first_of(NAME) {
             return Ok(n);
         }
-        let m = self.first_of(first, MACRO);
-        if m != 0 {
-            return Err(Report::Macro(m));
+        match self.first_of(MACRO) {
+            Some(m) => Err(Report::Macro(m)),
+            None => Err(Report::Nothing),
         }
-        Err(Report::Nothing)
     }
 
     // The name of what has these parts, with its unit address where there is one.
-    pub fn full_name(self, first: u32) -> FullName
-        requires at { At self.words.now first }
-        ensures { FullNameRead self.entry.words.now first result }
+    pub fn full_name(self) -> FullName
+        ensures { FullNameRead self.entry.input.words.now self.entry.next result }
     {
-        let name = self.name_or_macro(first);
-        let u = self.first_of(first, UNIT_ADDRESS);
-        if u == 0 {
+        let name = self.name_or_macro();
+        let Some(u) = self.first_of(UNIT_ADDRESS) else {
             return FullName { name, unit: None };
-        }
-        let unit = Some(self.name_or_macro(child_at(self.words, u)));
+        };
+        let unit = Some(self.input.parts(u).name_or_macro());
         FullName { name, unit }
     }
 }
@@ -89,63 +83,55 @@ pub fn unit_text<'a, 'b>(
     }
 }
 
-impl Input<'_> {
+impl Chain<'_> {
     // A node's name span: its reference's, else its name's, else its slash's, else its own.
-    pub fn node_name_span(self, parts: u32, span: Span) -> Span
-        requires at { At self.words.now parts }
-        ensures { (text : List ℕ) → meant result ≡ node_name_span (chain_at self.entry.words.now text parts) (meant span) }
+    pub fn node_name_span(self, span: Span) -> Span
+        ensures { (text : List ℕ) → meant result ≡ node_name_span (trees_over text self.entry) (meant span) }
     {
-        let r = self.first_of(parts, REFERENCE);
-        if r != 0 {
-            return span_at(self.words, r);
+        match self.first_of(REFERENCE) {
+            Some(r) => span_at(self.input.words, r),
+            None => self.own_span(span),
         }
-        self.own_span(parts, span)
     }
 
     // A property's name span: its name's, else its own.
-    pub fn property_name_span(self, parts: u32, span: Span) -> Span
-        requires at { At self.words.now parts }
-        ensures { (text : List ℕ) → meant result ≡ property_name_span (chain_at self.entry.words.now text parts) (meant span) }
+    pub fn property_name_span(self, span: Span) -> Span
+        ensures { (text : List ℕ) → meant result ≡ property_name_span (trees_over text self.entry) (meant span) }
     {
-        span_or(self.words, self.first_of(parts, NAME), span)
+        span_or(self.input.words, self.first_of(NAME), span)
     }
 
     // The name span of a node without a reference.
-    fn own_span(self, parts: u32, span: Span) -> Span
-        requires at { At self.words.now parts }
-        ensures { (text : List ℕ) → meant result ≡ own_span (first_of name_kind (chain_at self.entry.words.now text parts))
-            (chain_at self.entry.words.now text parts) (meant span) }
+    fn own_span(self, span: Span) -> Span
+        ensures { (text : List ℕ) → meant result ≡ own_span (first_of name_kind (trees_over text self.entry))
+            (trees_over text self.entry) (meant span) }
     {
-        let n = self.first_of(parts, NAME);
-        if n == 0 {
-            return span_or(self.words, self.first_of(parts, SLASH), span);
-        }
-        span_to(
-            self.words,
-            span_at(self.words, n),
-            self.first_of(parts, UNIT_ADDRESS),
-        )
+        let words = self.input.words;
+        let Some(n) = self.first_of(NAME) else {
+            return span_or(words, self.first_of(SLASH), span);
+        };
+        span_to(words, span_at(words, n), self.first_of(UNIT_ADDRESS))
     }
 }
 
 // The span of a record, or the given one where there is no record.
-fn span_or(words: &[u32], r: u32, span: Span) -> Span
+fn span_or(words: &[u32], r: Option<u32>, span: Span) -> Span
     ensures { (text : List ℕ) → meant result ≡ slash_span (optional words.now text r) (meant span) }
 {
-    if r == 0 {
-        return span;
+    match r {
+        Some(n) => span_at(words, n),
+        None => span,
     }
-    span_at(words, r)
 }
 
 // A name's span up to the later end of the name and of a unit address, where there is one.
-fn span_to(words: &[u32], span: Span, u: u32) -> Span
+fn span_to(words: &[u32], span: Span, u: Option<u32>) -> Span
     ensures { (text : List ℕ) → meant result ≡ span_to (meant span) (optional words.now text u) }
 {
-    if u == 0 {
+    let Some(address) = u else {
         return span;
-    }
-    let end = field(words, u, layout::SPAN_END);
+    };
+    let end = field(words, address, layout::SPAN_END);
     if span.to <= end {
         return Span {
             from: span.from,

@@ -8,7 +8,7 @@ ghost use Rattle.input.specs.machine.PhandleRead.{label_at, path_at, phandle_rea
 use crate::kinds::MACRO;
 use crate::linked::Input;
 use crate::place::RAW;
-use crate::record::{child_at, no_text, number_at, text_at};
+use crate::record::{no_text, number_at, text_at};
 use crate::report::Report;
 use paths_numbers::phandle::{MirPhandleTarget, phandle_label, phandle_path};
 
@@ -19,8 +19,7 @@ impl Input<'_> {
         ensures { phandle_read self.entry.words.now self.entry.text.now r result ≡ lower_phandle
             (record_at self.entry.words.now self.entry.text.now r) }
     {
-        let m = self.first_of(child_at(self.words, r), MACRO);
-        if m != 0 {
+        if let Some(m) = self.parts(r).first_of(MACRO) {
             return Err(Report::Macro(m));
         }
         plain_target(self.words, self.text, r)

@@ -12,7 +12,7 @@ use crate::kinds::{
 use paths_numbers::operators::CONDITIONAL;
 
 // Where a record stands: in a chain of items, of a node's parts, ..; no record may stand at `NoPlace`. By number.
-#[derive(Clone, Copy)]
+#[derive(Clone, Copy, Debug, PartialEq, Eq)]
 pub enum Place {
     Items = 1,
     NodeParts = 2,
@@ -26,18 +26,11 @@ pub enum Place {
     NoPlace = 10,
 }
 
-impl Place {
-    // Its number.
-    pub fn number(self) -> u32
-        ensures { result ≡ number_of (meant_place self) }
-    {
-        self as u32
-    }
+// The place of a number.
+impl From<u32> for Place {
+    ghost from_gives = { λ n place. meant_place place ≡ place_of n };
 
-    // The place of a number.
-    pub fn from_number(n: u32) -> Place
-        ensures { meant_place result ≡ place_of n }
-    {
+    fn from(n: u32) -> Place {
         match n {
             1 => Place::Items,
             2 => Place::NodeParts,
@@ -51,7 +44,18 @@ impl Place {
             _ => Place::NoPlace,
         }
     }
+}
 
+// The number of a place.
+impl From<Place> for u32 {
+    ghost from_gives = { λ place n. n ≡ number_of (meant_place place) };
+
+    fn from(place: Place) -> u32 {
+        place as u32
+    }
+}
+
+impl Place {
     // The kinds that fit it.
     fn kinds(self) -> &'static [u32]
         ensures { result.now ≡ kinds_in (meant_place self) }

@@ -2,13 +2,12 @@
 ghost use Rattle.std.specs.Prelude.{◌≡◌, List, [], ℕ};
 ghost use Rattle.input.specs.meaning.Tree.{has};
 ghost use Rattle.input.specs.meaning.Input.{field, kind_at, next_at, child_at, w_at, second_at, number_at, span_at, text_at};
-ghost use Rattle.input.specs.meaning.Input.{chain_at};
-ghost use Rattle.input.specs.machine.Linked.{At};
+ghost use Rattle.input.specs.machine.ChainLeft.{trees_over};
 ghost use Rattle.definition_log.specs.machine.Parts.{meant};
 ghost use Rattle.input.specs.machine.Read.{after_at, FirstOf};
 
 use crate::layout;
-use crate::linked::Input;
+use crate::linked::Chain;
 use crate::place::links_by_w;
 use definition_log::parts::Span;
 use definition_log::record::text_in;
@@ -108,25 +107,19 @@ pub fn after(words: &[u32], r: u32) -> u32
     next_at(words, r)
 }
 
-impl Input<'_> {
-    // The first record of a kind in a chain, 0 where there is none.
-    pub fn first_of(self, first: u32, kind: u32) -> u32
-        requires at { At self.words.now first }
-        ensures { FirstOf self.entry.words.now first kind result }
+impl Chain<'_> {
+    // The first record of a kind.
+    pub fn first_of(mut self, kind: u32) -> Option<u32>
+        ensures { FirstOf self.entry kind result }
     {
-        for r in self.chain(first) {
-            if kind_at(self.words, r) == kind {
-                return r;
-            }
-        }
-        0
+        let words = self.input.words;
+        self.find(|&r| kind_at(words, r) == kind)
     }
 
-    // Whether a chain has a record of a kind.
-    pub fn has_kind(self, first: u32, kind: u32) -> bool
-        requires at { At self.words.now first }
-        ensures { (text : List ℕ) → result ≡ has kind (chain_at self.entry.words.now text first) }
+    // Whether there is a record of a kind.
+    pub fn has_kind(self, kind: u32) -> bool
+        ensures { (text : List ℕ) → result ≡ has kind (trees_over text self.entry) }
     {
-        self.first_of(first, kind) != 0
+        self.first_of(kind).is_some()
     }
 }

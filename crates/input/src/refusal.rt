@@ -153,7 +153,7 @@ fn find_stands(words: &[u32], stands: &mut [u32])
     requires stands { Stands words.now 0 stands.old }
     ensures { Stands words.now (record_count words.now) stands.new }
 {
-    store(stands, child_at(words, 0), PLACES + Place::Items.number());
+    store(stands, child_at(words, 0), PLACES + u32::from(Place::Items));
     for r in 1..record_count(words) {
         lead_on(words, r, number_in(stands, r), stands);
     }
@@ -172,12 +172,12 @@ fn lead_on(words: &[u32], r: u32, stand: u32, stands: &mut [u32])
     store(
         stands,
         second_at(words, r),
-        deeper + place::second_place(kind).number(),
+        deeper + u32::from(place::second_place(kind)),
     );
     store(
         stands,
         child_at(words, r),
-        deeper + place::child_place(kind).number(),
+        deeper + u32::from(place::child_place(kind)),
     );
     store(stands, next_at(words, r), stand);
 }
@@ -277,7 +277,7 @@ fn is_unfit(words: &[u32], stand: u32, r: u32) -> bool
 {
     let kind = kind_at(words, r);
     if !place::fits_alone(
-        Place::from_number(stand % PLACES),
+        Place::from(stand % PLACES),
         kind,
         number_at(words, r),
         field(words, r, layout::SPAN_START),

@@ -30,14 +30,14 @@ use paths_numbers::phandle::MirPhandleTarget;
 const REFERENCE_BITS: u32 = 32;
 
 // A cell, which is a number or a reference of a kind.
-#[derive(Clone, Copy)]
+#[derive(Clone, Copy, Debug, PartialEq, Eq)]
 pub enum CellValue {
     Number(u64),
     Phandle(MirPhandleTarget),
 }
 
 // A value without cells, by its kind.
-#[derive(Clone, Copy)]
+#[derive(Clone, Copy, Debug, PartialEq, Eq)]
 pub enum PlainValue {
     String,
     Bytestring,
@@ -45,7 +45,7 @@ pub enum PlainValue {
 }
 
 // A value, which is one without cells or a cell list of a width.
-#[derive(Clone, Copy)]
+#[derive(Clone, Copy, Debug, PartialEq, Eq)]
 pub enum Value {
     Plain(PlainValue),
     CellList(BitsSize),

@@ -6,7 +6,7 @@ use mathlib.Core.List.{List, [], ◌∷◌}
 use mathlib.Core.Option.{Option, some, none}
 use native.Mathlib.Omega.{arith}
 use borrow.Author.Tests.{ne_eqb}
-use Rattle.std.specs.Prelude.{Result, Ok, Err}
+use Rattle.std.specs.Prelude.{Option as Maybe, Some, None, Result, Ok, Err}
 use Rattle.paths_numbers.specs.meaning.Path.{joined}
 use Rattle.paths_numbers.specs.meaning.Reference.{Target}
 use Rattle.paths_numbers.proofs.Texts.{not_both}
@@ -24,7 +24,7 @@ use Rattle.making.specs.meaning.State.{State, define, emit}
 use Rattle.making.specs.machine.Represents.{Context, Represents, Steps}
 use Rattle.making.proofs.InHand.{represents_defs, represents_bindings}
 use Rattle.queries.specs.meaning.Live.{contains_node}
-use Rattle.input.specs.meaning.Tree.{Tree, span_of, name_kind, reference_kind, first_of}
+use Rattle.input.specs.meaning.Tree.{Tree, Trees, span_of, name_kind, reference_kind, first_of}
 use Rattle.input.specs.meaning.Report.{report}
 use Rattle.input.specs.meaning.Name.{full_name}
 use Rattle.input.specs.meaning.Phandle.{lower_phandle}
@@ -36,6 +36,8 @@ use Rattle.items.specs.meaning.Lower.{delete_property_named, lower_directive, ve
 use Rattle.items.specs.meaning.Lower.{delete_node_directive, delete_property_directive}
 use Rattle.resolving.specs.machine.Lowers.{Lowers, LowersAt}
 use Rattle.input.specs.machine.Read.{optional, FirstOf}
+use Rattle.input.specs.machine.ChainLeft.{trees_left}
+use Rattle.input.specs.declared.linked.Chain.{Chain}
 use Rattle.input.specs.machine.NameRead.{name_text, unit_text, is_there, full_read, FullNameRead}
 use Rattle.input.specs.machine.PhandleRead.{phandle_read}
 use Rattle.input.specs.meaning.GoodName.{good_names_in}
@@ -48,7 +50,7 @@ use Rattle.resolving.specs.declared.resolve.Leads.{Leads as Led}
 use Rattle.resolving.specs.declared.resolve.Leads.TheVariants as R
 use Rattle.resolving.specs.declared.resolve.Missing.{Missing}
 use Rattle.resolving.specs.declared.resolve.Missing.TheVariants as M
-use Rattle.input.proofs.Read.{optional_none, optional_some, first_missing, first_there}
+use Rattle.input.proofs.Read.{first_missing, first_there}
 use Rattle.input.proofs.NameRead.{full_joined}
 use Rattle.resolving.proofs.Lowers.{Grows, define_grows, emit_grows, steps_lower}
 use Rattle.resolving.proofs.Under.{steps_under, lowers_under, idle, idle_under}
@@ -61,24 +63,26 @@ pub under_as : {parent : PathAt} {c d : LowerCtx} {words bytes w b : List ℕ} {
     → LowersAt parent c d words bytes w b g → LowersAt parent c d words bytes w b f
 under_as e h = record { lowers = λ k p s r. rw (e p s) (h.lowers k p s r) }
 
-pub lowers_as : {c d : LowerCtx} {words bytes w b : List ℕ} {f g : State → State} → ((s : State) → f s ≡ g s) → Lowers c d words bytes w b g
-    → Lowers c d words bytes w b f
-lowers_as e h = record { lowers = λ k s r. rw (e s) (h.lowers k s r) }
-
 -- a property deleted
-module _ {parent : PathAt} {c : LowerCtx} {out bytes : List ℕ} (words text : List ℕ) (parts n : ℕ) (f : FirstOf words parts name_kind n)
+module _ {parent : PathAt} {c : LowerCtx} {out bytes : List ℕ} (parts : Chain) (n : Maybe ℕ) (f : FirstOf parts name_kind n)
     (span : LogSpan) where
-  pub no_property : n ≡ 0 → LowersAt parent c c out bytes out bytes
-      (λ p s. delete_property_named p (meant span) (first_of name_kind (chain_at words text parts)) s)
-  no_property e = idle_under (λ p s. rw (first_missing words parts name_kind n f text e) refl)
+  pub no_property : n ≡ None → LowersAt parent c c out bytes out bytes
+      (λ p s. delete_property_named p (meant span) (first_of name_kind (trees_left parts)) s)
+  no_property e = idle_under (λ p s. rw (first_missing parts name_kind n f parts.input.text.now e) refl)
 
-  pub a_property : {d : LowerCtx} {w b : List ℕ} → (n ≡ 0 → ⊥) → {t u : List ℕ} → t ≡ text_at words text n → u ≡ []
+  pub a_property : {d : LowerCtx} {w b : List ℕ} (r : ℕ) → n ≡ Some r → {t u : List ℕ}
+      → t ≡ text_at parts.input.words.now parts.input.text.now r → u ≡ []
       → Steps c d out bytes w b (define (bare_def D.DeletedProperty span span (joined (path_in c.bytes bytes parent) t u)))
-      → LowersAt parent c d out bytes w b (λ p s. delete_property_named p (meant span) (first_of name_kind (chain_at words text parts)) s)
+      → LowersAt parent c d out bytes w b (λ p s. delete_property_named p (meant span) (first_of name_kind (trees_left parts)) s)
   unfolding record_at
-  a_property z {t} {u} x y g =
+  a_property r e {t} {u} x y g =
       under_as
-      (λ p s. rw (first_there words parts name_kind n f text z, x, y, joined_plain p (text_at words text n)) refl)
+      (λ p s. rw (
+        first_there parts name_kind n f parts.input.text.now r e,
+        x,
+        y,
+        joined_plain p (text_at parts.input.words.now parts.input.text.now r),
+      ) refl)
       (steps_under (λ p s. define (bare (joined p t u) deleted_property (meant span)) s) (λ p. define_grows _) g)
 
 -- where a reference leads
@@ -171,17 +175,17 @@ pub reference_grows : (span : Span) (o : Option Tree) → Grows (delete_referenc
 reference_grows span o = record { records = λ s. (referenced_grows span o s).0; bytes = λ s. (referenced_grows span o s).1 }
 
 -- by a reference, where there is one
-module _ (words text : List ℕ) (r : ℕ) (span : Span) where
-  pub no_reference_lem : {c : LowerCtx} {out bytes : List ℕ} → r ≡ 0
-      → Lowers c c out bytes out bytes (delete_referenced span (optional words text r))
-  no_reference_lem e = idle (λ s. rw (e, optional_none words text) refl)
+module _ (words text : List ℕ) (reference : Maybe ℕ) (span : Span) where
+  pub no_reference_lem : {c : LowerCtx} {out bytes : List ℕ} → reference ≡ None
+      → Lowers c c out bytes out bytes (delete_referenced span (optional words text reference))
+  no_reference_lem e = idle (λ s. rw e refl)
 
-  pub a_reference_lem : {c d : LowerCtx} {out bytes w b : List ℕ} (read : Result MirPhandleTarget Report) → (r ≡ 0 → ⊥)
+  pub a_reference_lem : {c d : LowerCtx} {out bytes w b : List ℕ} (read : Result MirPhandleTarget Report) (r : ℕ) → reference ≡ Some r
       → phandle_read words text r read ≡ lower_phandle (record_at words text r)
       → Lowers c d out bytes w b (delete_target (record_at words text r) span (phandle_read words text r read).reports
       (phandle_read words text r read).result)
-      → Lowers c d out bytes w b (delete_referenced span (optional words text r))
-  a_reference_lem read z e h = rw (optional_some words text r z) (rw e at h)
+      → Lowers c d out bytes w b (delete_referenced span (optional words text reference))
+  a_reference_lem read r z e h = rw z (rw e at h)
 
 -- by a name, or by a reference
 module _ (words text : List ℕ) (parts : ℕ) (f : FullName) (g : FullNameRead words parts f) (span : Span) where
@@ -242,15 +246,15 @@ module _ {parent : PathAt} {c d : LowerCtx} {out bytes w b : List ℕ} (words te
   unfolding lower_directive
   is_include {t} e x f = rw (← q, ← m) (under_as (λ p s. rw (e, ← x) refl) (lowers_under (steps_lower (emit_grows (report 2 t at ∷ [])) f)))
 
-  pub is_delete_node : {parts : ℕ} → v ≡ delete_node_directive → parts ≡ child_at words r
-      → LowersAt parent c d out bytes w b (λ p s. lower_delete_node p (chain_at words text parts) at s)
+  pub is_delete_node : {parts : Trees} → v ≡ delete_node_directive → parts ≡ chain_at words text (child_at words r)
+      → LowersAt parent c d out bytes w b (λ p s. lower_delete_node p parts at s)
       → LowersAt parent c d out bytes w b (λ p s. lower_directive (number_at words r) p (chain_at words text (child_at words r))
       (span_at words r) s)
   unfolding lower_directive
   is_delete_node e x f = rw (← q, ← m, ← x) (under_as (λ p s. rw e refl) f)
 
-  pub is_delete_property : {parts : ℕ} → v ≡ delete_property_directive → parts ≡ child_at words r
-      → LowersAt parent c d out bytes w b (λ p s. delete_property_named p at (first_of name_kind (chain_at words text parts)) s)
+  pub is_delete_property : {parts : Trees} → v ≡ delete_property_directive → parts ≡ chain_at words text (child_at words r)
+      → LowersAt parent c d out bytes w b (λ p s. delete_property_named p at (first_of name_kind parts) s)
       → LowersAt parent c d out bytes w b (λ p s. lower_directive (number_at words r) p (chain_at words text (child_at words r))
       (span_at words r) s)
   unfolding lower_directive

@@ -80,15 +80,13 @@ labels_then {m = m} {n} x y =
     }
 
 -- a label of record r by what the reading of its name answers
-module _ {place : PathAt} {c d : LowerCtx} {words bytes w b : List ℕ} (input text : List ℕ) (r first : ℕ) (x : Result ℕ Report)
-    (e : first ≡ child_at input r)
-    (h : name_read input text x ≡ name_or_macro (chain_at input text first)) where
+module _ {place : PathAt} {c d : LowerCtx} {words bytes w b : List ℕ} (input text : List ℕ) (r : ℕ) (x : Result ℕ Report)
+    (h : name_read input text x ≡ name_or_macro (chain_at input text (child_at input r))) where
   pub label_read : LabelsAt place c d words bytes w b (λ (p : List ℕ). labelled p (record_at input text r) (name_read input text x))
       → LabelsAt place c d words bytes w b (λ (p : List ℕ). labelled p (record_at input text r)
       (name_or_macro (chain_at input text (child_at input r))))
   label_read m =
-      subst (λ (g : Got (List ℕ)). LabelsAt place c d words bytes w b (λ (p : List ℕ). labelled p (record_at input text r) g))
-      (h ∙ ap (λ (n : ℕ). name_or_macro (chain_at input text n)) e) m
+      subst (λ (g : Got (List ℕ)). LabelsAt place c d words bytes w b (λ (p : List ℕ). labelled p (record_at input text r) g)) h m
 
 -- the labels of a chain of parts, by its first record
 module _ (words text : List ℕ) (r : ℕ) (later : Trees) (p : List ℕ) where

@@ -25,7 +25,7 @@ use input::kinds::{REFERENCE, SLASH};
 use input::linked::Input;
 use input::name::{FullName, is_named};
 use input::phandle::{phandle_label_at, phandle_path_at};
-use input::record::{child_at, span_at};
+use input::record::span_at;
 use making::ctx::LowerCtx;
 use making::place::PathAt;
 use paths_numbers::codes::{ROOT_INSIDE, SUBNODE_OUTSIDE};
@@ -65,11 +65,10 @@ pub fn place_node(
         input.entry.words.now input.entry.text.now r (λ p s. place_of p (parts_at input.entry.words.now input.entry.text.now r)
         (span_at input.entry.words.now r) s) result }
 {
-    let reference = input.first_of(child_at(input.words, r), REFERENCE);
-    if reference == 0 {
-        return place_by_name(input, r, parent, out, bytes, ctx);
+    match input.parts(r).first_of(REFERENCE) {
+        Some(reference) => place_by_reference(input, r, reference, out, bytes, ctx),
+        None => place_by_name(input, r, parent, out, bytes, ctx),
     }
-    place_by_reference(input, r, reference, out, bytes, ctx)
 }
 
 // Opens the node of record r where its reference leads, or puts it aside.
@@ -134,7 +133,7 @@ fn place_resolved(
     match leads {
         Ok(_) => {
             let made = define_leading(input, r, reference, leads, out, bytes, ctx);
-            placed_at(open_node(input, child_at(input.words, r), out, bytes, made))
+            placed_at(open_node(input.parts(r), out, bytes, made))
         }
         Err(_) => {
             let keeps = sets_overlay_in(out, defs);
@@ -167,13 +166,13 @@ pub fn place_by_name(
         (full_name (parts_at input.entry.words.now input.entry.text.now r)).reports
         (full_name (parts_at input.entry.words.now input.entry.text.now r)).result) result }
 {
-    let parts = child_at(input.words, r);
-    let full = input.full_name(parts);
+    let parts = input.parts(r);
+    let full = parts.full_name();
     let reported = emit_name(input.words, input.text, full, out, bytes, ctx);
     if is_named(full) {
         return place_below(input, r, full, parent, out, bytes, reported);
     }
-    if input.has_kind(parts, SLASH) {
+    if parts.has_kind(SLASH) {
         return place_root(input, r, parent, out, bytes, reported);
     }
     PlacedNode {
@@ -259,7 +258,7 @@ fn refuse_node(
         (emit (report code [] (node_name_at input.entry.words.now text r) ∷ [])) }
 {
     let none: [u8; 0] = [];
-    let span = input.node_name_span(child_at(input.words, r), span_at(input.words, r));
+    let span = input.parts(r).node_name_span(span_at(input.words, r));
     ctx.emit(out, bytes, code, &none, span, NO_SPAN)
 }
 

@@ -1,7 +1,7 @@
 // Properties and their values (lower_dt_property, lower_prop_value, lower_cell_list and lower_cell of
 // dt_property.rs). A property is made before its values; `keep` says whether it is, and without it
 // only diagnostics are made.
-ghost use Rattle.std.specs.Prelude.{◌≡◌, true, cond, []};
+ghost use Rattle.std.specs.Prelude.{◌≡◌, ◌<◌, true, cond, []};
 ghost use Rattle.paths_numbers.specs.meaning.Cell.{bits_of};
 ghost use Rattle.paths_numbers.specs.meaning.Reading as R;
 ghost use Rattle.definition_log.specs.meaning.Contents.{number, reference, cell_list};
@@ -9,10 +9,10 @@ ghost use Rattle.making.specs.meaning.State.{define};
 ghost use Rattle.input.specs.meaning.Report.{one};
 ghost use Rattle.input.specs.meaning.Property.{lower_cell, lower_cells, sized_list, lower_value, lower_values};
 ghost use Rattle.items.specs.meaning.Lower.{lower_property};
-ghost use Rattle.input.specs.meaning.Input.{child_at, span_at, chain_at, parts_at};
+ghost use Rattle.input.specs.meaning.Input.{record_count, span_at, chain_at, parts_at};
 ghost use Rattle.input.specs.machine.At.{record_at, contents_at};
 ghost use Rattle.input.specs.meaning.GoodName.{good_names_in};
-ghost use Rattle.input.specs.machine.Linked.{At, RecordIn, ChainIn};
+ghost use Rattle.input.specs.machine.Linked.{RecordIn, ChainIn};
 ghost use Rattle.input.specs.machine.ValueRead.{plain_made};
 ghost use Rattle.resolving.specs.machine.Lowers.{LowersAt};
 ghost use Rattle.items.specs.machine.Filled.{FillsProperty, FillsCells};
@@ -56,7 +56,7 @@ pub fn lower_dt_property(
     if is_top(parent) {
         return emit_code(input.words, PROPERTY_OUTSIDE, r, out, bytes, ctx);
     }
-    let name = input.full_name(child_at(input.words, r));
+    let name = input.parts(r).full_name();
     let keep = is_named(name);
     let made = define_property(input, r, parent, name, keep, out, bytes, ctx);
     let filled = lower_prop_values(
@@ -90,7 +90,7 @@ fn define_property(
     bytes: &mut [u8],
     ctx: LowerCtx,
 ) -> LowerCtx
-    requires at { At input.words.now (child_at input.words.now r) }
+    requires r_bound { r < record_count input.words.now }
     ensures { LowersAt parent ctx result out.old bytes.old out.new bytes.new
         (λ p s. cond keep (define (property_at input.entry.words.now input.entry.text.now r f p) s) s) }
 {
@@ -98,7 +98,7 @@ fn define_property(
         return ctx;
     }
     let span = span_at(input.words, r);
-    let name_span = input.property_name_span(child_at(input.words, r), span);
+    let name_span = input.parts(r).property_name_span(span);
     ctx.define(
         out,
         bytes,

@@ -1,12 +1,13 @@
 // Items: directives (handle_dts_directive and emit_delete_directive of item.rs).
 ghost use Rattle.std.specs.Prelude.{◌≡◌, true, false, ◌<◌};
+ghost use Rattle.std.specs.Option.{ForSome};
 ghost use Rattle.paths_numbers.specs.meaning.Path.{joined};
 ghost use Rattle.definition_log.specs.machine.Parts.{meant};
 ghost use Rattle.making.specs.meaning.State.{emit};
 ghost use Rattle.input.specs.meaning.Tree.{name_kind, first_of};
-ghost use Rattle.input.specs.meaning.Input.{record_count, number_at, span_at, chain_at, parts_at};
+ghost use Rattle.input.specs.meaning.Input.{record_count, number_at, span_at, parts_at};
 ghost use Rattle.input.specs.machine.At.{record_at};
-ghost use Rattle.input.specs.machine.Linked.{At};
+ghost use Rattle.input.specs.machine.ChainLeft.{trees_left};
 ghost use Rattle.input.specs.machine.Read.{optional};
 ghost use Rattle.items.specs.machine.AtRecord.{named_at};
 ghost use Rattle.resolving.specs.meaning.Resolve.{resolve};
@@ -21,10 +22,10 @@ use crate::report::{NO_SPAN, emit_name, emit_report};
 use crate::unbind::{Base, bound_base, goes_with, unbind_all, unbind_others, unlink_first};
 use definition_log::parts::Span;
 use input::kinds::{NAME, REFERENCE};
-use input::linked::Input;
+use input::linked::{Chain, Input};
 use input::name::{is_named, name_text, unit_text};
 use input::phandle::{phandle_label_at, phandle_path_at};
-use input::record::{child_at, no_text, number_at, span_at, text_at};
+use input::record::{no_text, number_at, span_at, text_at};
 use making::ctx::LowerCtx;
 use making::place::{PathAt, first_place, second_place};
 use making::recs::DefKind;
@@ -48,7 +49,7 @@ pub fn handle_dts_directive(
         (span_at input.entry.words.now r) s) }
 {
     let span = span_at(input.words, r);
-    let parts = child_at(input.words, r);
+    let parts = input.parts(r);
     match number_at(input.words, r) {
         VERSION => ctx.define_at(out, bytes, DefKind::Version, span, span, parent),
         PLUGIN => ctx.define_at(out, bytes, DefKind::Plugin, span, span, parent),
@@ -60,28 +61,27 @@ pub fn handle_dts_directive(
             span,
             NO_SPAN,
         ),
-        DELETE_NODE => emit_delete_node(input, parts, span, parent, out, bytes, ctx),
-        DELETE_PROPERTY => emit_delete_property(input, parts, span, parent, out, bytes, ctx),
+        DELETE_NODE => emit_delete_node(parts, span, parent, out, bytes, ctx),
+        DELETE_PROPERTY => emit_delete_property(parts, span, parent, out, bytes, ctx),
         _ => ctx,
     }
 }
 
 // A node deleted: by the name with its unit address, else by the reference among the parts.
 fn emit_delete_node(
-    input: Input<'_>,
-    parts: u32,
+    parts: Chain<'_>,
     span: Span,
     parent: PathAt,
     out: &mut [u32],
     bytes: &mut [u8],
     ctx: LowerCtx,
 ) -> LowerCtx
-    requires at { At input.words.now parts }
-    requires parts_value { good_names_in (chain_at input.words.now input.text.now parts) ≡ true }
+    requires parts_value { good_names_in (trees_left parts) ≡ true }
     ensures { LowersAt parent ctx result out.old bytes.old out.new bytes.new
-        (λ p s. lower_delete_node p (chain_at input.entry.words.now input.entry.text.now parts) (meant span) s) }
+        (λ p s. lower_delete_node p (trees_left parts.entry) (meant span) s) }
 {
-    let full = input.full_name(parts);
+    let input = parts.input;
+    let full = parts.full_name();
     let told = emit_name(input.words, input.text, full, out, bytes, ctx);
     if is_named(full) {
         return delete_named(
@@ -94,8 +94,8 @@ fn emit_delete_node(
             span,
         );
     }
-    let r = input.first_of(parts, REFERENCE);
-    delete_referenced(input, r, span, out, bytes, told)
+    let reference = parts.first_of(REFERENCE);
+    delete_referenced(input, reference, span, out, bytes, told)
 }
 
 // A node deleted by its name and unit address under a path.
@@ -127,22 +127,22 @@ fn delete_named(
     )
 }
 
-// A node deleted by reference r, where there is one.
+// A node deleted by a reference, where there is one.
 fn delete_referenced(
     input: Input<'_>,
-    r: u32,
+    reference: Option<u32>,
     span: Span,
     out: &mut [u32],
     bytes: &mut [u8],
     ctx: LowerCtx,
 ) -> LowerCtx
-    requires at { At input.words.now r }
+    requires there { ForSome reference (λ r. r < record_count input.words.now) }
     ensures { Lowers ctx result out.old bytes.old out.new bytes.new
-        (delete_referenced (meant span) (optional input.entry.words.now input.entry.text.now r)) }
+        (delete_referenced (meant span) (optional input.entry.words.now input.entry.text.now reference)) }
 {
-    if r == 0 {
+    let Some(r) = reference else {
         return ctx;
-    }
+    };
     if ctx.short {
         return ctx;
     }
@@ -185,22 +185,20 @@ fn delete_target(
 
 // A property deleted: by the first name among the parts.
 fn emit_delete_property(
-    input: Input<'_>,
-    parts: u32,
+    parts: Chain<'_>,
     span: Span,
     parent: PathAt,
     out: &mut [u32],
     bytes: &mut [u8],
     ctx: LowerCtx,
 ) -> LowerCtx
-    requires at { At input.words.now parts }
     ensures { LowersAt parent ctx result out.old bytes.old out.new bytes.new
-        (λ p s. delete_property_named p (meant span) (first_of name_kind (chain_at input.entry.words.now input.entry.text.now parts)) s) }
+        (λ p s. delete_property_named p (meant span) (first_of name_kind (trees_left parts.entry)) s) }
 {
-    let n = input.first_of(parts, NAME);
-    if n == 0 {
+    let input = parts.input;
+    let Some(n) = parts.first_of(NAME) else {
         return ctx;
-    }
+    };
     ctx.define(
         out,
         bytes,

@@ -6,9 +6,9 @@ ghost use Rattle.definition_log.specs.meaning.Contents.{node};
 ghost use Rattle.making.specs.machine.Recs.{bare_value};
 ghost use Rattle.input.specs.meaning.Tree.{has, omit_kind};
 ghost use Rattle.input.specs.meaning.Name.{name_or_macro, labelled, labels_of};
-ghost use Rattle.input.specs.meaning.Input.{record_count, span_at, chain_at, parts_at};
+ghost use Rattle.input.specs.meaning.Input.{record_count, span_at, parts_at};
 ghost use Rattle.input.specs.machine.At.{record_at};
-ghost use Rattle.input.specs.machine.Linked.{At};
+ghost use Rattle.input.specs.machine.ChainLeft.{trees_over, trees_left};
 ghost use Rattle.input.specs.machine.NameRead.{name_text, unit_text};
 ghost use Rattle.items.specs.machine.Labelled.{LabelsAt};
 ghost use Rattle.items.specs.machine.Opened.{Opens, OpensAt};
@@ -17,10 +17,10 @@ ghost use Rattle.input.specs.machine.PhandleRead.{label_at, path_at};
 
 use crate::report::emit_report;
 use input::kinds::{LABEL, OMIT};
-use input::linked::Input;
+use input::linked::{Chain, Input};
 use input::name::{FullName, name_text, unit_text};
 use input::phandle::phandle_path_at;
-use input::record::{child_at, kind_at, no_text, span_at, text_at};
+use input::record::{kind_at, no_text, span_at, text_at};
 use making::ctx::LowerCtx;
 use making::place::{PathAt, first_place, second_place};
 use making::recs::DefKind;
@@ -49,14 +49,14 @@ pub fn define_below(
         (λ (p : List ℕ). joined p (name_text input.entry.words.now input.entry.text.now full.name)
         (unit_text input.entry.words.now input.entry.text.now full.unit)) result }
 {
-    let parts = child_at(input.words, r);
-    let kind = node_kind(input, parts);
+    let parts = input.parts(r);
+    let kind = node_kind(parts);
     let span = span_at(input.words, r);
-    let name_span = input.node_name_span(parts, span);
+    let name_span = parts.node_name_span(span);
     let name_of = name_text(input.words, input.text, full.name);
     let unit_of = unit_text(input.words, input.text, full.unit);
     let made = ctx.define(out, bytes, kind, span, name_span, parent, name_of, unit_of);
-    open_node(input, parts, out, bytes, made)
+    open_node(parts, out, bytes, made)
 }
 
 // Opens the node of record r at a path.
@@ -72,12 +72,12 @@ pub fn define_there(
     ensures { (parent : PathAt) → OpensAt parent ctx out.old bytes.old out.new bytes.new
         (parts_at input.entry.words.now input.entry.text.now r) (span_at input.entry.words.now r) (λ (p : List ℕ). path.now) result }
 {
-    let parts = child_at(input.words, r);
-    let kind = node_kind(input, parts);
+    let parts = input.parts(r);
+    let kind = node_kind(parts);
     let span = span_at(input.words, r);
-    let name_span = input.node_name_span(parts, span);
+    let name_span = parts.node_name_span(span);
     let made = ctx.define_text(out, bytes, kind, span, name_span, path);
-    open_node(input, parts, out, bytes, made)
+    open_node(parts, out, bytes, made)
 }
 
 // The definition of the node of record r where its reference leads.
@@ -98,10 +98,10 @@ pub fn define_leading(
     let Ok(to) = leads else {
         return ctx;
     };
-    let parts = child_at(input.words, r);
-    let kind = node_kind(input, parts);
+    let parts = input.parts(r);
+    let kind = node_kind(parts);
     let span = span_at(input.words, r);
-    let name_span = input.node_name_span(parts, span);
+    let name_span = parts.node_name_span(span);
     let path = phandle_path_at(input.words, input.text, reference);
     match to {
         Leads::Bound(b) => {
@@ -122,30 +122,21 @@ pub fn define_leading(
 }
 
 // The kind of a node's definition.
-fn node_kind(input: Input<'_>, parts: u32) -> DefKind
-    requires at { At input.words.now parts }
-    ensures { (text : List ℕ) → bare_value result ≡ node [] (has omit_kind (chain_at input.entry.words.now text parts)) }
+fn node_kind(parts: Chain<'_>) -> DefKind
+    ensures { (text : List ℕ) → bare_value result ≡ node [] (has omit_kind (trees_over text parts.entry)) }
 {
-    if input.has_kind(parts, OMIT) {
+    if parts.has_kind(OMIT) {
         return DefKind::OmittedNode;
     }
     DefKind::Node
 }
 
 // The labels of a node whose definition was made just before.
-pub fn open_node(
-    input: Input<'_>,
-    parts: u32,
-    out: &mut [u32],
-    bytes: &mut [u8],
-    made: LowerCtx,
-) -> Opened
-    requires at { At input.words.now parts }
-    ensures { Opens made out.old bytes.old out.new bytes.new
-        (chain_at input.entry.words.now input.entry.text.now parts) result }
+pub fn open_node(parts: Chain<'_>, out: &mut [u32], bytes: &mut [u8], made: LowerCtx) -> Opened
+    ensures { Opens made out.old bytes.old out.new bytes.new (trees_left parts.entry) result }
 {
     let place = made.newest_path(out);
-    let labelled = collect_labels(input, parts, place, out, bytes, made);
+    let labelled = collect_labels(parts, place, out, bytes, made);
     Opened {
         place,
         ctx: labelled,
@@ -154,19 +145,18 @@ pub fn open_node(
 
 // The labels of a node among its parts.
 pub fn collect_labels(
-    input: Input<'_>,
-    parts: u32,
+    parts: Chain<'_>,
     place: PathAt,
     out: &mut [u32],
     bytes: &mut [u8],
     ctx: LowerCtx,
 ) -> LowerCtx
-    requires at { At input.words.now parts }
     ensures { LabelsAt place ctx result out.old bytes.old out.new bytes.new
-        (λ (p : List ℕ). labels_of p (chain_at input.entry.words.now input.entry.text.now parts)) }
+        (λ (p : List ℕ). labels_of p (trees_left parts.entry)) }
 {
+    let input = parts.input;
     let mut state = ctx;
-    for r in input.chain(parts) {
+    for r in parts {
         if kind_at(input.words, r) == LABEL {
             state = lower_label(input, r, place, out, bytes, state);
         }
@@ -188,7 +178,7 @@ fn lower_label(
         (λ (p : List ℕ). labelled p (record_at input.entry.words.now input.entry.text.now r)
         (name_or_macro (parts_at input.entry.words.now input.entry.text.now r))) }
 {
-    match input.name_or_macro(child_at(input.words, r)) {
+    match input.parts(r).name_or_macro() {
         Ok(n) => {
             let label = text_at(input.words, input.text, n);
             let span = span_at(input.words, r);

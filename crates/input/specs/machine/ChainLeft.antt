@@ -1,7 +1,7 @@
 -- The records of a chain by their numbers, as an iterator gives them.
 use Rattle.std.specs.Prelude.{ℕ, zero, suc, ◌≡◌, ◌<◌, List, [], ◌∷◌}
 use Rattle.input.specs.meaning.Tree.{Trees, empty, more}
-use Rattle.input.specs.meaning.Input.{record_count, next_at}
+use Rattle.input.specs.meaning.Input.{record_count, next_at, chain_at}
 use Rattle.input.specs.machine.At.{record_at}
 use Rattle.input.specs.declared.linked.Chain.{Chain}
 
@@ -28,3 +28,10 @@ AreRecords words (r ∷ l) = ((r ≡ 0 → ⊥) × (r < record_count words)) × 
 -- what an iterator over a chain is still to give
 abbrev pub chain_left : Chain → List ℕ
 chain_left c = numbers_from c.input.words.now c.next
+
+-- the trees of what is left of a chain, over a text and over its own
+abbrev pub trees_over : List ℕ → Chain → Trees
+trees_over text c = chain_at c.input.words.now text c.next
+
+abbrev pub trees_left : Chain → Trees
+trees_left c = trees_over c.input.text.now c

@@ -6,7 +6,7 @@ use Rattle.input.proofs.refusal.find_stands.Goals as goal
 
 pub loop-r-init : goal.loop-r-init
 loop-r-init c =
-    stands_first c.args.words.now c.args.stands.now _ _ c.requires.stands c.child_at.ensures (rw c.number.ensures at c.store.ensures)
+    stands_first c.args.words.now c.args.stands.now _ _ c.requires.stands c.child_at.ensures (rw c.from.ensures at c.store.ensures)
 
 pub lead_on-requires : goal.lead_on-requires
 lead_on-requires c =

@@ -14,13 +14,13 @@ returns-then-stand-eq0 c = rw (eq-eqb _ _ c.if-stand-eq0.true) refl
 
 pub overflow_add-deeper-2 : goal.overflow_add-deeper-2
 overflow_add-deeper-2 c =
-    omega (arith, c.number.ensures ∙ ap number_of c.second_place.ensures, (in_places (second_place c.kind_at-kind.result)).most)
+    omega (arith, c.from.ensures ∙ ap number_of c.second_place.ensures, (in_places (second_place c.kind_at-kind.result)).most)
 
 pub overflow_add-deeper-3 : goal.overflow_add-deeper-3
 overflow_add-deeper-3 c =
     omega (
       arith,
-      c.number-2.ensures ∙ ap number_of c.child_place.ensures,
+      c.from-2.ensures ∙ ap number_of c.child_place.ensures,
       (in_places (child_place
           c.kind_at-kind.result)).most,
     )
@@ -33,8 +33,8 @@ returns c =
     c.next_at.ensures
     c.child_at.ensures
     c.second_at.ensures
-    (c.number.ensures ∙ ap number_of c.second_place.ensures)
-    (c.number-2.ensures ∙ ap number_of c.child_place.ensures)
+    (c.from.ensures ∙ ap number_of c.second_place.ensures)
+    (c.from-2.ensures ∙ ap number_of c.child_place.ensures)
     c.if-stand-eq0.false
     c.store.ensures
     c.store-2.ensures c.store-3.ensures

@@ -16,9 +16,7 @@ returns-then-is_named c =
     let words = s.args.input.words.now in
     let text = s.args.input.text.now in
     let parts = chain_at words text (child_at words s.args.r) in
-    let read = (rw
-    c.child_at-parts.ensures at
-    c.full_name-full.ensures).read text in
+    let read = (rw (c.parts-parts.ensures.input, c.parts-parts.ensures.next) at c.full_name-full.ensures).read text in
     let there = there_some (full_name parts).result (sym (ap (λ (x : Got (List ℕ)). is_there x.result) read)
     ∙ sym (c.is_named.ensures words text)
     ∙ c.if-is_named.true) in
@@ -33,17 +31,14 @@ returns-then-has_kind c =
     let words = s.args.input.words.now in
     let text = s.args.input.text.now in
     let parts = chain_at words text (child_at words s.args.r) in
-    let read = (rw
-    c.child_at-parts.ensures at
-    c.full_name-full.ensures).read text in
+    let read = (rw (c.parts-parts.ensures.input, c.parts-parts.ensures.next) at c.full_name-full.ensures).read text in
     let none-there = not_there (full_name parts).result (sym (ap (λ (x : Got (List ℕ)). is_there x.result) read)
     ∙ sym (c.is_named.ensures words text)
     ∙ c.if-is_named.false) in
     slash_decides parts (span_at words s.args.r) (node_name_span parts (span_at words s.args.r)) (full_name parts).reports
     (same_reports (ap (λ (x : Got (List ℕ)). x.reports) read)
     c.emit_name-reported.ensures) none-there
-    (sym (rw c.child_at-parts.ensures at
-    (c.has_kind.ensures text))
+    (sym (rw (c.parts-parts.ensures.input, c.parts-parts.ensures.next) at (c.has_kind.ensures text))
     ∙ c.if-has_kind.true) c.place_root.ensures
 
 pub returns : goal.returns
@@ -52,12 +47,10 @@ returns c =
     let words = s.args.input.words.now in
     let text = s.args.input.text.now in
     let parts = chain_at words text (child_at words s.args.r) in
-    let read = (rw c.child_at-parts.ensures at
-    c.full_name-full.ensures).read text in
+    let read = (rw (c.parts-parts.ensures.input, c.parts-parts.ensures.next) at c.full_name-full.ensures).read text in
     let none-there = not_there (full_name parts).result (sym (ap (λ (x : Got (List ℕ)). is_there x.result) read)
     ∙ sym (c.is_named.ensures words text) ∙ c.if-is_named.false) in
     nothing_decides parts (span_at words s.args.r) (node_name_span parts (span_at words s.args.r)) (full_name parts).reports
     (same_reports (ap (λ (x : Got (List ℕ)). x.reports) read)
     c.emit_name-reported.ensures) none-there
-    (sym (rw c.child_at-parts.ensures at
-    (c.has_kind.ensures text)) ∙ c.if-has_kind.false)
+    (sym (rw (c.parts-parts.ensures.input, c.parts-parts.ensures.next) at (c.has_kind.ensures text)) ∙ c.if-has_kind.false)

@@ -14,8 +14,7 @@ returns-in-Ok c =
     (record_at a.input.words.now a.input.text.now a.reference)
     c.in-Ok.field-0 c.in-Ok.is
     c.define_leading-made.ensures
-    (rw c.child_at.ensures at
-    c.open_node.ensures))
+    (rw (c.parts.ensures.input, c.parts.ensures.next) at c.open_node.ensures))
 
 pub returns-in-Err : goal.returns-in-Err
 returns-in-Err c =

@@ -6,8 +6,5 @@ use Rattle.items.proofs.dt_node.refuse_node.Goals as goal
 
 pub returns : goal.returns
 returns c = λ text. reported _ [] _ (c.node_name_span-span.ensures text
-    ∙ rw (
-      c.child_at.ensures,
-      c.span_at.ensures,
-    ) refl)
+    ∙ rw (c.parts.ensures.input, c.parts.ensures.next, c.span_at.ensures) refl)
     c.emit.ensures

@@ -12,7 +12,7 @@ returns c = let a = c.args in
     property_kept_at a.input.words.now a.input.text.now a.r a.f a.keep
     (search rules)
     c.span_at-span.ensures
-    (rw c.child_at.ensures at
+    (rw (c.parts.ensures.input, c.parts.ensures.next) at
     (c.property_name_span-name_span.ensures a.input.text.now))
     c.name_text.ensures
     c.unit_text.ensures c.define.ensures

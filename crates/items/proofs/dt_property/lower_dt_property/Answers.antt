@@ -40,7 +40,7 @@ returns c = let s = c
     let text = s.args.input.text.now in
     property_lowers s.args.level words text s.args.r
     c.full_name-name.result
-    (rw c.child_at.ensures at
+    (rw (c.parts.ensures.input, c.parts.ensures.next) at
     c.full_name-name.ensures) s.requires.r_value
     c.is_named-keep.result
     (c.is_named-keep.ensures words text)

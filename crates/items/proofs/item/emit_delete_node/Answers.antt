@@ -14,11 +14,12 @@ use Rattle.items.proofs.item.emit_delete_node.Goals as goal
 pub returns-then-is_named : goal.returns-then-is_named
 returns-then-is_named c =
     let a = c.args in
+    let i = a.parts.input in
     let f = c.full_name-full in
-    under_as (by_name_lem a.input.words.now a.input.text.now a.parts f.result f.ensures (meant a.span)
+    under_as (by_name_lem i.words.now i.text.now a.parts.next f.result f.ensures (meant a.span)
     c.requires.parts_value
-    (sym (c.is_named.ensures a.input.words.now
-    a.input.text.now) ∙ c.if-is_named.true))
+    (sym (c.is_named.ensures i.words.now
+    i.text.now) ∙ c.if-is_named.true))
     (under_then (lowers_under
     c.emit_name-told.ensures) (rw (
       c.name_text.ensures,
@@ -28,13 +29,14 @@ returns-then-is_named c =
 pub returns : goal.returns
 returns c =
     let a = c.args in
+    let i = a.parts.input in
     let f = c.full_name-full in
     under_as
-    (λ p s. by_reference a.input.words.now a.input.text.now a.parts f.result f.ensures (meant a.span)
-    (sym (c.is_named.ensures a.input.words.now a.input.text.now)
+    (λ p s. by_reference i.words.now i.text.now a.parts.next f.result f.ensures (meant a.span)
+    (sym (c.is_named.ensures i.words.now i.text.now)
     ∙ c.if-is_named.false) s p
     ∙ ap (λ (o : Option Tree). delete_referenced (meant a.span) o
-    (emit (full_read a.input.words.now a.input.text.now f.result).reports s))
-    (c.first_of-r.ensures.tree a.input.text.now))
+    (emit (full_read i.words.now i.text.now f.result).reports s))
+    (c.first_of-reference.ensures.tree i.text.now))
     (lowers_under (lowers_then
     c.emit_name-told.ensures c.delete_referenced.ensures))

@@ -1,5 +1,6 @@
 -- By the directive's W (Directives).
 use native.Mathlib.Omega.{arith}
+use Rattle.input.proofs.ChainLeft.{parts_left}
 use Rattle.items.proofs.Directives.{is_version, is_plugin_lem, is_include, is_delete_node, is_delete_property, is_other}
 use Rattle.items.proofs.item.handle_dts_directive.Goals as goal
 
@@ -36,7 +37,7 @@ returns-in-4 c =
     c.number_at.ensures
     c.span_at-span.ensures
     c.in-4.is
-    c.child_at-parts.ensures
+    (parts_left a.input a.r c.parts-parts.result c.parts-parts.ensures.input c.parts-parts.ensures.next)
     c.emit_delete_node.ensures
 
 pub returns-in-5 : goal.returns-in-5
@@ -46,7 +47,7 @@ returns-in-5 c =
     c.number_at.ensures
     c.span_at-span.ensures
     c.in-5.is
-    c.child_at-parts.ensures
+    (parts_left a.input a.r c.parts-parts.result c.parts-parts.ensures.input c.parts-parts.ensures.next)
     c.emit_delete_property.ensures
 
 pub returns-in_default : goal.returns-in_default

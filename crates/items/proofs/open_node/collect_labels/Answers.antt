@@ -5,9 +5,9 @@ use Rattle.items.proofs.open_node.collect_labels.Goals as goal
 
 pub loop-r-init : goal.loop-r-init
 loop-r-init c =
-    let i = c.args.input in
-    let e = ap chain_left c.into_iter-r-iterator.ensures.into_iter_gives ∙ c.chain-r-items.ensures in
-    (refl, refl, rw e (labels_start i.words.now i.linked i.text.now c.args.parts c.requires.at))
+    let p = c.args.parts in
+    let e = ap chain_left c.into_iter-r-iterator.ensures.into_iter_gives in
+    (refl, refl, rw e (labels_start p.input.words.now p.input.linked p.input.text.now p.next p.at))
 
 pub lower_label-state-requires : goal.lower_label-state-requires
 lower_label-state-requires c = record { r_bound = (rw c.in-Some.ensures.steps at c.loop-r.invariant).2.at.0.1 }

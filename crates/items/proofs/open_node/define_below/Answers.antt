@@ -12,7 +12,7 @@ returns c =
     let a = c.args in
     let words = a.input.words.now in
     let text = a.input.text.now in
-    let part = c.child_at-parts.ensures in
+    let part = c.parts-parts.ensures in
     defined_opens
     c.node_kind-kind.result
     c.span_at-span.result
@@ -24,12 +24,9 @@ returns c =
       c.name_text-name_of.ensures,
       c.unit_text-unit_of.ensures,
     ) at c.define-made.ensures)
-    (rw part at c.open_node.ensures)
-    (rw part at
+    (rw (part.input, part.next) at c.open_node.ensures)
+    (rw (part.input, part.next) at
     (c.node_kind-kind.ensures text))
     c.span_at-span.ensures
-    (c.node_name_span-name_span.ensures text ∙ rw (
-      part,
-      c.span_at-span.ensures,
-    ) refl)
+    (c.node_name_span-name_span.ensures text ∙ rw (part.input, part.next, c.span_at-span.ensures) refl)
     (below_parent (name_text words text a.full.name) (unit_text words text a.full.unit))

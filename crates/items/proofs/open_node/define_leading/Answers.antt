@@ -18,20 +18,17 @@ returns-in-Bound c =
     let a = c.args in
     let words = a.input.words.now in
     let text = a.input.text.now in
-    let part = c.child_at-parts.ensures in
+    let part = c.parts-parts.ensures in
     defines_bound a.leads (label_at words text a.reference) (path_at words text a.reference)
     c.node_kind-kind.result
     c.span_at-span.result
     c.node_name_span-name_span.result
     (span_at words a.r) _ c.define_at.ensures
-    (rw part at
+    (rw (part.input, part.next) at
     (c.node_kind-kind.ensures text))
     c.span_at-span.ensures
     (c.node_name_span-name_span.ensures
-    text ∙ rw (
-      part,
-      c.span_at-span.ensures,
-    )
+    text ∙ rw (part.input, part.next, c.span_at-span.ensures)
     refl)
     _ (c.in-Ok.is ∙ ap Ok c.in-Bound.is)
     (ap (path_in a.ctx.bytes a.bytes.now) c.second_place-place.ensures)
@@ -41,17 +38,14 @@ returns-in-BoundPath c =
     let a = c.args in
     let words = a.input.words.now in
     let text = a.input.text.now in
-    let part = c.child_at-parts.ensures in
+    let part = c.parts-parts.ensures in
     defines_below a.leads (label_at words text a.reference) (path_at words text a.reference)
     c.node_kind-kind.result
     c.span_at-span.result c.node_name_span-name_span.result (span_at words a.r) _ c.define.ensures
-    (rw part at
+    (rw (part.input, part.next) at
     (c.node_kind-kind.ensures text))
     c.span_at-span.ensures
-    (c.node_name_span-name_span.ensures text ∙ rw (
-      part,
-      c.span_at-span.ensures,
-    ) refl)
+    (c.node_name_span-name_span.ensures text ∙ rw (part.input, part.next, c.span_at-span.ensures) refl)
     _ (c.in-Ok.is ∙ ap Ok c.in-BoundPath.is)
     (rw (
       c.second_place-place-in-BoundPath.ensures,
@@ -64,17 +58,16 @@ returns-in-AtPath c =
     let a = c.args in
     let words = a.input.words.now in
     let text = a.input.text.now in
-    let part = c.child_at-parts.ensures
-    in
+    let part = c.parts-parts.ensures in
     defines_path a.leads (label_at words text a.reference) (path_at words text a.reference)
     c.node_kind-kind.result
     c.span_at-span.result
     c.node_name_span-name_span.result (span_at words a.r) _
     c.define_text.ensures
-    (rw part at (c.node_kind-kind.ensures
+    (rw (part.input, part.next) at (c.node_kind-kind.ensures
     text)) c.span_at-span.ensures
     (c.node_name_span-name_span.ensures text
-    ∙ rw (part, c.span_at-span.ensures) refl)
+    ∙ rw (part.input, part.next, c.span_at-span.ensures) refl)
     (c.in-Ok.is ∙ ap Ok c.in-AtPath.is)
     c.phandle_path_at-path.ensures
 
@@ -83,20 +76,17 @@ returns-in-Node c =
     let a = c.args in
     let words = a.input.words.now in
     let text = a.input.text.now in
-    let part = c.child_at-parts.ensures in
+    let part = c.parts-parts.ensures in
     defines_named a.leads (label_at words text a.reference) (path_at words text a.reference)
     c.node_kind-kind.result
     c.span_at-span.result
     c.node_name_span-name_span.result
     (span_at words a.r) _ c.define_at-in-Node.ensures
-    (rw part at
+    (rw (part.input, part.next) at
     (c.node_kind-kind.ensures text))
     c.span_at-span.ensures
     (c.node_name_span-name_span.ensures
-    text ∙ rw (
-      part,
-      c.span_at-span.ensures,
-    )
+    text ∙ rw (part.input, part.next, c.span_at-span.ensures)
     refl)
     _ (c.in-Ok.is ∙ ap Ok c.in-Node.is)
     (ap (path_in a.ctx.bytes a.bytes.now) c.first_place-place.ensures)

@@ -7,10 +7,9 @@ pub returns-in-Ok : goal.returns-in-Ok
 unfolding record_at
 returns-in-Ok c =
     let a = c.args in
-    label_read a.input.words.now a.input.text.now a.r _
+    label_read a.input.words.now a.input.text.now a.r
     c.name_or_macro.result
-    c.child_at.ensures
-    (c.name_or_macro.ensures a.input.text.now)
+    (rw (c.parts.ensures.input, c.parts.ensures.next) at (c.name_or_macro.ensures a.input.text.now))
     (rw c.in-Ok.is (rw (
       c.text_at-label.ensures,
       c.span_at-span.ensures,
@@ -21,8 +20,7 @@ returns-in-Ok c =
 pub returns-in-Err : goal.returns-in-Err
 returns-in-Err c =
     let a = c.args in
-    label_read a.input.words.now a.input.text.now a.r _
+    label_read a.input.words.now a.input.text.now a.r
     c.name_or_macro.result
-    c.child_at.ensures
-    (c.name_or_macro.ensures a.input.text.now)
+    (rw (c.parts.ensures.input, c.parts.ensures.next) at (c.name_or_macro.ensures a.input.text.now))
     (rw c.in-Err.is (label_reported _ c.emit_report.ensures))

@@ -1,20 +1,19 @@
 -- By whether there is a macro (PhandleRead).
 use mathlib.Core.Path.{◌∙◌}
+use Rattle.input.proofs.Read.{part_missing, part_there}
 use Rattle.input.proofs.PhandleRead.{macro_is, no_macro}
 use Rattle.input.proofs.linked.Input.lower_phandle.Goals as goal
 
-pub first_of-m-requires : goal.first_of-m-requires
-first_of-m-requires c =
-    let s = c in record { at = rw c.child_at.ensures (s.args.self.linked.all s.args.r s.requires.r_bound).child.within }
-
-pub returns-then-m-ne0 : goal.returns-then-m-ne0
-returns-then-m-ne0 c =
-    let a = c.args in
-    macro_is a.self.words.now a.self.text.now a.r _ (rw c.child_at.ensures at c.first_of-m.ensures)
-    c.if-m-ne0.true
+pub returns-in-Some : goal.returns-in-Some
+returns-in-Some c =
+    let i = c.args.self in
+    let p = c.parts.ensures in
+    macro_is i.words.now i.text.now c.args.r _
+    (part_there i c.args.r _ p.input p.next _ _ c.first_of.ensures i.text.now _ c.in-Some.is)
 
 pub returns : goal.returns
 returns c =
-    let a = c.args in
-    c.plain_target.ensures ∙ no_macro a.self.words.now a.self.text.now a.r _
-    (rw c.child_at.ensures at c.first_of-m.ensures) c.if-m-ne0.false
+    let i = c.args.self in
+    let p = c.parts.ensures in
+    c.plain_target.ensures ∙ no_macro i.words.now i.text.now c.args.r
+    (part_missing i c.args.r _ p.input p.next _ _ c.first_of.ensures i.text.now c.in_default.is)

@@ -3,7 +3,7 @@ use mathlib.Core.Path.{refl}
 use borrow.Author.Tests.{ne_eqb}
 use native.Mathlib.Omega.{arith}
 use Rattle.input.specs.machine.RowsPass.{place_of}
-use Rattle.input.proofs.place.Place.from_number.Goals as goal
+use Rattle.input.proofs.place.PlaceFromU32.from.Goals as goal
 
 pub returns-in-1 : goal.returns-in-1
 unfolding place_of
