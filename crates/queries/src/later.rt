@@ -14,6 +14,7 @@ ghost use Rattle.queries.specs.machine.Table.{RoomForOne};
 
 use crate::definition::{is_deleted_at, overwrites_at};
 use definition_log::limits::{FEW_RECORDS, MOST_RECORDS};
+use definition_log::record::Log;
 
 // The hash of "/".
 const ROOT_HASH: u32 = 47;
@@ -52,64 +53,48 @@ impl LaterTable<'_> {
 
     // Whether a later definition is a deleted node at a path, which has this hash, or a property or
     // deleted property there.
-    pub fn holds(
-        &self,
-        words: &[u32],
-        bytes: &[u8],
-        later: &[u32],
-        deleted: bool,
-        path: &[u8],
-        hash: u32,
-    ) -> bool
-        requires holds { Holds (def_at words.now bytes.now) (takes_at deleted path.now) self.now.links.now later.now
+    pub fn holds(&self, log: Log<'_>, later: &[u32], deleted: bool, path: &[u8], hash: u32) -> bool
+        requires holds { Holds (def_at log.words.now log.bytes.now) (takes_at deleted path.now) self.now.links.now later.now
             (get_or self.now.heads.now (slot_of (length self.now.heads.now) deleted hash) 0) }
         requires sized { Sized self.now.heads.now self.now.links.now later.now }
         ensures { result ≡ any (takes_at deleted path.now)
-            (map (def_at words.now bytes.now) later.now) }
+            (map (def_at log.entry.words.now log.entry.bytes.now) later.now) }
     {
         let slot = slot_of(self.heads.len(), deleted, hash);
-        finds(
-            words,
-            bytes,
-            later,
-            self.links,
-            self.heads[slot],
-            deleted,
-            path,
-        )
+        finds(log, later, self.links, self.heads[slot], deleted, path)
     }
 
     // Whether a later definition deletes the node at a path or one above it, and the path's hash. Each
     // byte goes into the hash, so that the loop goes byte by byte.
-    pub fn look_above(&self, words: &[u32], bytes: &[u8], later: &[u32], path: &[u8]) -> Above
-        requires deleted { Deleted (def_at words.now bytes.now) self.now.heads.now self.now.links.now later.now }
+    pub fn look_above(&self, log: Log<'_>, later: &[u32], path: &[u8]) -> Above
+        requires deleted { Deleted (def_at log.words.now log.bytes.now) self.now.heads.now self.now.links.now later.now }
         requires sized { Sized self.now.heads.now self.now.links.now later.now }
         ensures { result ≡ record {
           deleted = any (deletes path.now)
-              (map (def_at words.now bytes.now) later.now);
+              (map (def_at log.entry.words.now log.entry.bytes.now) later.now);
           hash = hash_from 0 path.now;
         } }
     {
-        let mut deleted = self.root_deleted(words, bytes, later, path);
+        let mut deleted = self.root_deleted(log, later, path);
         let mut hash: u32 = 0;
         for (i, b) in path.iter().enumerate() {
             if *b == b'/' {
-                deleted = self.or_deleted(words, bytes, later, &path[..i], hash, deleted);
+                deleted = self.or_deleted(log, later, &path[..i], hash, deleted);
             }
             hash = mix(hash, *b);
         }
         Above {
-            deleted: self.or_deleted(words, bytes, later, path, hash, deleted),
+            deleted: self.or_deleted(log, later, path, hash, deleted),
             hash,
         }
     }
 
     // Whether a later definition deletes "/", where a path lies under it.
-    fn root_deleted(&self, words: &[u32], bytes: &[u8], later: &[u32], path: &[u8]) -> bool
-        requires deleted { Deleted (def_at words.now bytes.now) self.now.heads.now self.now.links.now later.now }
+    fn root_deleted(&self, log: Log<'_>, later: &[u32], path: &[u8]) -> bool
+        requires deleted { Deleted (def_at log.words.now log.bytes.now) self.now.heads.now self.now.links.now later.now }
         requires sized { Sized self.now.heads.now self.now.links.now later.now }
         ensures { result ≡ cond (starts_with slash path.now)
-            (any (deleted_at root) (map (def_at words.now bytes.now) later.now)) false }
+            (any (deleted_at root) (map (def_at log.entry.words.now log.entry.bytes.now) later.now)) false }
     {
         if path.len() == 0 {
             return false;
@@ -117,26 +102,18 @@ impl LaterTable<'_> {
         if path[0] != b'/' {
             return false;
         }
-        self.or_deleted(words, bytes, later, &path[..1], ROOT_HASH, false)
+        self.or_deleted(log, later, &path[..1], ROOT_HASH, false)
     }
 
     // Whether a later definition deletes the node at a path, which has this hash, if none was found before.
-    fn or_deleted(
-        &self,
-        words: &[u32],
-        bytes: &[u8],
-        later: &[u32],
-        path: &[u8],
-        hash: u32,
-        found: bool,
-    ) -> bool
-        requires deleted { Deleted (def_at words.now bytes.now) self.now.heads.now self.now.links.now later.now }
+    fn or_deleted(&self, log: Log<'_>, later: &[u32], path: &[u8], hash: u32, found: bool) -> bool
+        requires deleted { Deleted (def_at log.words.now log.bytes.now) self.now.heads.now self.now.links.now later.now }
         requires sized { Sized self.now.heads.now self.now.links.now later.now }
         requires hash_value { hash ≡ hash_from 0 path.now }
         ensures { result ≡ cond found true (any (deleted_at path.now)
-            (map (def_at words.now bytes.now) later.now)) }
+            (map (def_at log.entry.words.now log.entry.bytes.now) later.now)) }
     {
-        found || self.holds(words, bytes, later, true, path, hash)
+        found || self.holds(log, later, true, path, hash)
     }
 }
 
@@ -168,24 +145,16 @@ fn place_of(heads: usize, hash: u32) -> usize
 }
 
 // Whether a list holds a deleted node at a path, or a property or deleted property there.
-fn finds(
-    words: &[u32],
-    bytes: &[u8],
-    later: &[u32],
-    links: &[u32],
-    first: u32,
-    deleted: bool,
-    path: &[u8],
-) -> bool
-    requires holds { Holds (def_at words.now bytes.now) (takes_at deleted path.now) links.now later.now first }
+fn finds(log: Log<'_>, later: &[u32], links: &[u32], first: u32, deleted: bool, path: &[u8]) -> bool
+    requires holds { Holds (def_at log.words.now log.bytes.now) (takes_at deleted path.now) links.now later.now first }
     requires later_in_bounds { length later.now ≤ length links.now }
     ensures { result ≡ any (takes_at deleted path.now)
-        (map (def_at words.now bytes.now) later.now) }
+        (map (def_at log.entry.words.now log.entry.bytes.now) later.now) }
 {
     // kept: the next entry is read at the one before it, for which the library has no iterator
     let mut e = first as usize;
     while 0 < e {
-        if takes_at(words, bytes, later[later.len() - e], deleted, path) {
+        if takes_at(log, later[later.len() - e], deleted, path) {
             return true;
         }
         e = links[e - 1] as usize;
@@ -194,13 +163,13 @@ fn finds(
 }
 
 // Whether a definition is a deleted node at a path, or a property or deleted property there.
-fn takes_at(words: &[u32], bytes: &[u8], r: u32, deleted: bool, path: &[u8]) -> bool
-    ensures { result ≡ takes_at deleted path.now (def_at words.now bytes.now r) }
+fn takes_at(log: Log<'_>, r: u32, deleted: bool, path: &[u8]) -> bool
+    ensures { result ≡ takes_at deleted path.now (def_at log.entry.words.now log.entry.bytes.now r) }
 {
     if deleted {
-        return is_deleted_at(words, bytes, r, path);
+        return is_deleted_at(log, r, path);
     }
-    overwrites_at(words, bytes, r, path)
+    overwrites_at(log, r, path)
 }
 
 // The hash of a path.

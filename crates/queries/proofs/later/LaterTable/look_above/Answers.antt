@@ -10,7 +10,7 @@ pub loop-i-init : goal.loop-i-init
 unfolding hash_from
 loop-i-init c =
     let a = c.args in
-    (refl, above_start a.path.now (map (def_at a.words.now a.bytes.now) a.later.now) _ c.root_deleted-deleted.ensures)
+    (refl, above_start a.path.now (map (def_at a.log.words.now a.log.bytes.now) a.later.now) _ c.root_deleted-deleted.ensures)
 
 pub or_deleted-deleted-requires-clause-hash_value : goal.or_deleted-deleted-requires-clause-hash_value
 or_deleted-deleted-requires-clause-hash_value c = c.loop-i.invariant.0
@@ -20,7 +20,7 @@ loop-i-preserved c =
     let a = c.args in
     let l = c.loop-i in (
       hash_step a.path.now l.i l.hash l.invariant.0 c.loop-i-test.true _ c.mix-hash.ensures,
-      above_next (deleted_in (map (def_at a.words.now a.bytes.now) a.later.now)) a.path.now l.i l.deleted _ l.invariant.1
+      above_next (deleted_in (map (def_at a.log.words.now a.log.bytes.now) a.later.now)) a.path.now l.i l.deleted _ l.invariant.1
           c.loop-i-test.true _ (λ e. grind arith) (λ e. grind arith),
     )
 
@@ -34,7 +34,7 @@ returns c =
     let a = c.args in
     let l = c.loop-i in
     rw (
-      c.or_deleted.ensures ∙ above_end (deleted_in (map (def_at a.words.now a.bytes.now) a.later.now)) a.path.now l.i
+      c.or_deleted.ensures ∙ above_end (deleted_in (map (def_at a.log.words.now a.log.bytes.now) a.later.now)) a.path.now l.i
           l.deleted _ l.invariant.1 (omega (arith, c.loop-i-test.false)),
       hash_end a.path.now l.i l.hash l.invariant.0 (omega (arith, c.loop-i-test.false)),
     ) refl

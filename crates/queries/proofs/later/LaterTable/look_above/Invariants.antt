@@ -12,5 +12,5 @@ use Rattle.queries.proofs.later.LaterTable.look_above.Given as goal
 
 abbrev pub invariant-loop-i : goal.invariant-loop-i
 invariant-loop-i l = (l.hash ≡ hash_from 0 (take l.i l.path))
-    × (any (deletes l.path) (map (def_at l.words l.bytes) l.later) ≡ cond l.deleted true
-    (above_from (deleted_in (map (def_at l.words l.bytes) l.later)) (take l.i l.path) (drop l.i l.path)))
+    × (any (deletes l.path) (map (def_at l.log.words.now l.log.bytes.now) l.later) ≡ cond l.deleted true
+    (above_from (deleted_in (map (def_at l.log.words.now l.log.bytes.now) l.later)) (take l.i l.path) (drop l.i l.path)))
