@@ -8,7 +8,7 @@ ghost use Rattle.queries.specs.meaning.Query.{live_numbers};
 ghost use Rattle.queries.specs.machine.Lists.{live_in};
 ghost use Rattle.queries.specs.machine.Table.{least_heads, many_heads, Table, Room, RoomForOne, Listed};
 
-use crate::later::LaterTable;
+use crate::later::{LaterDefs, LaterTable};
 use crate::list::fit;
 use definition_log::chain::chain;
 use definition_log::kinds::{DELETED_NODE, DELETED_PROPERTY, PROPERTY};
@@ -92,7 +92,13 @@ fn live_of<'a>(
 
 // Whether a definition is live under a base, by the table of the later ones, into which it is
 // entered if it can take something away.
-fn pass(log: Log<'_>, base: &[u8], r: u32, later: &[u32], table: &mut LaterTable<'_>) -> bool
+fn pass<'x>(
+    log: Log<'x>,
+    base: &[u8],
+    r: u32,
+    later: &'x [u32],
+    table: &'x mut LaterTable<'_>,
+) -> bool
     requires table { Table (def_at log.words.now log.bytes.now) base.now (length table.old.heads.now)
         table.old.heads.now table.old.links.now later.now }
     requires room_for_one { RoomForOne table.old.heads.now table.old.links.now (length later.now) }
@@ -116,11 +122,12 @@ fn pass(log: Log<'_>, base: &[u8], r: u32, later: &[u32], table: &mut LaterTable
         table.enter_at(false, path, later.len());
         return false;
     }
-    let above = table.look_above(log, later, path);
+    let seen = LaterDefs { log, later, table };
+    let above = seen.look_above(path);
     if kind != PROPERTY {
         return !above.deleted;
     }
-    let overwritten = table.holds(log, later, false, path, above.hash);
+    let overwritten = seen.holds(false, path, above.hash);
     table.enter(false, above.hash, later.len());
     !(above.deleted || overwritten)
 }

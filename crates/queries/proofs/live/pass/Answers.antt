@@ -1,7 +1,6 @@
 -- By the kind, the base and what is looked up (Turn).
 use mathlib.Core.Path.{◌≡◌, refl, sym, ap, ◌∙◌}
 use mathlib.Core.Bool.{true, not, cond}
-use native.Mathlib.Omega.{arith}
 use Rattle.definition_log.specs.meaning.ReadBack.{def_at}
 use Rattle.queries.specs.declared.later.Above.{Above}
 use Rattle.queries.proofs.Table.{deleted_held, overwrites_held, same_length}
@@ -55,9 +54,8 @@ pub look_above-above-requires : goal.look_above-above-requires
 look_above-above-requires c =
     let a = c.args in
     let t = a.table.now in
-    let d = deleted_held (def_at a.log.words.now a.log.bytes.now) a.base.now t.heads.now t.links.now a.later.now c.requires.room_for_one.0
-    c.requires.table in
-    record { deleted = d; sized = (c.requires.room_for_one.0, omega arith) }
+    deleted_held (def_at a.log.words.now a.log.bytes.now) a.base.now t.heads.now t.links.now a.later.now c.requires.room_for_one.0
+    c.requires.table
 
 pub returns-then-kind-ne-PROPERTY : goal.returns-then-kind-ne-PROPERTY
 returns-then-kind-ne-PROPERTY c =
@@ -75,10 +73,9 @@ pub holds-overwritten-requires : goal.holds-overwritten-requires
 holds-overwritten-requires c =
     let a = c.args in
     let t = a.table.now in
-    let h = overwrites_held (def_at a.log.words.now a.log.bytes.now) a.base.now t.heads.now t.links.now a.later.now
+    overwrites_held (def_at a.log.words.now a.log.bytes.now) a.base.now t.heads.now t.links.now a.later.now
     c.requires.room_for_one.0 c.requires.table _ (sym c.lies_under.ensures ∙ c.if-not-lies_under.false) _
-    (ap (λ (b : Above). b.hash) c.look_above-above.ensures) in
-    record { holds = h; sized = (c.requires.room_for_one.0, omega arith) }
+    (ap (λ (b : Above). b.hash) c.look_above-above.ensures)
 
 pub enter-requires : goal.enter-requires
 enter-requires c =
