@@ -8,6 +8,13 @@ ghost use Rattle.definition_log.specs.meaning.Record.{out_field, kind_of, next_o
 use crate::layout;
 use crate::limits::MOST_RECORDS;
 
+// A log as it is read: its words and its bytes.
+#[derive(Clone, Copy)]
+pub struct Log<'a> {
+    pub words: &'a [u32],
+    pub bytes: &'a [u8],
+}
+
 // Word i of a record.
 pub fn out_field(words: &[u32], r: u32, i: u32) -> u32
     ensures { result ≡ out_field words.now r i }
@@ -60,24 +67,26 @@ pub fn text_in(bytes: &[u8], start: u32, size: u32) -> &[u8]
     &behind[..behind.len().min(size as usize)]
 }
 
-// A record's first text.
-pub fn first_text<'a, 'b>(words: &'b [u32], bytes: &'a [u8], r: u32) -> &'a [u8]
-    ensures { result.now ≡ first_text words.now bytes.now r }
-{
-    text_in(
-        bytes,
-        out_field(words, r, layout::TEXT_START),
-        out_field(words, r, layout::TEXT_LENGTH),
-    )
-}
+impl<'a> Log<'a> {
+    // A record's first text.
+    pub fn first_text(self, r: u32) -> &'a [u8]
+        ensures { result.now ≡ first_text self.entry.words.now self.entry.bytes.now r }
+    {
+        text_in(
+            self.bytes,
+            out_field(self.words, r, layout::TEXT_START),
+            out_field(self.words, r, layout::TEXT_LENGTH),
+        )
+    }
 
-// A record's second text.
-pub fn second_text<'a, 'b>(words: &'b [u32], bytes: &'a [u8], r: u32) -> &'a [u8]
-    ensures { result.now ≡ second_text words.now bytes.now r }
-{
-    text_in(
-        bytes,
-        out_field(words, r, layout::SECOND_START),
-        out_field(words, r, layout::SECOND_LENGTH),
-    )
+    // A record's second text.
+    pub fn second_text(self, r: u32) -> &'a [u8]
+        ensures { result.now ≡ second_text self.entry.words.now self.entry.bytes.now r }
+    {
+        text_in(
+            self.bytes,
+            out_field(self.words, r, layout::SECOND_START),
+            out_field(self.words, r, layout::SECOND_LENGTH),
+        )
+    }
 }

@@ -17,7 +17,7 @@ use crate::kinds::{has_children, has_name_span, has_span, is_def};
 use crate::limits::{FEW_RECORDS, MOST_RECORDS};
 use crate::links::{Mark, Walk, mark_at};
 use crate::lists::one_of;
-use crate::record::{child_of, first_text, kind_of, log_count, out_field, second_text};
+use crate::record::{Log, child_of, kind_of, log_count, out_field};
 use crate::{kinds, layout};
 use paths_numbers::mir::good_path;
 
@@ -36,24 +36,24 @@ impl From<Broken> for Refusal {
 }
 
 // Row 8 as an answer: refused with the lowest record that breaks a rule.
-pub fn log_refused(words: &[u32], bytes: &[u8]) -> Result<(), Refusal>
-    ensures { told_done result ≡ sound_answer (soundness words.now bytes.now) passed }
+pub fn log_refused(log: Log<'_>) -> Result<(), Refusal>
+    ensures { told_done result ≡ sound_answer (soundness log.entry.words.now log.entry.bytes.now) passed }
 {
-    check_log(words, bytes)?;
+    check_log(log)?;
     Ok(())
 }
 
 // Row 8's test of any words and bytes.
-pub fn check_log(words: &[u32], bytes: &[u8]) -> Result<(), Broken>
-    ensures { told result ≡ soundness words.now bytes.now }
+pub fn check_log(log: Log<'_>) -> Result<(), Broken>
+    ensures { told result ≡ soundness log.entry.words.now log.entry.bytes.now }
 {
-    if wrong_count(words) {
+    if wrong_count(log.words) {
         return Err(Broken { record: 0 });
     }
-    if log_count(words) as usize <= FEW_RECORDS {
-        return check_within::<FEW_RECORDS>(words, bytes);
+    if log_count(log.words) as usize <= FEW_RECORDS {
+        return check_within::<FEW_RECORDS>(log);
     }
-    check_within::<MOST_RECORDS>(words, bytes)
+    check_within::<MOST_RECORDS>(log)
 }
 
 // Whether there are no words, or no whole records.
@@ -65,27 +65,27 @@ fn wrong_count(words: &[u32]) -> bool
 
 // The same of a log of at most N records. It is not inlined: the arrays of both calls would be on the stack at once.
 #[inline(never)]
-fn check_within<const N: usize>(words: &[u32], bytes: &[u8]) -> Result<(), Broken>
+fn check_within<const N: usize>(log: Log<'_>) -> Result<(), Broken>
     requires small { N ≤ MOST_RECORDS }
-    requires room { log_count words.now ≤ N }
-    requires whole { wrong_count words.now ≡ false }
-    ensures { told result ≡ soundness words.now bytes.now }
+    requires room { log_count log.words.now ≤ N }
+    requires whole { wrong_count log.words.now ≡ false }
+    ensures { told result ≡ soundness log.entry.words.now log.entry.bytes.now }
 {
     let mut walk = Walk {
         marks: [Mark::Unmet; N],
         queue: [0; N],
         met: 0,
     };
-    walk.all(words);
-    first_fault(words, bytes, &walk.marks)
+    walk.all(log.words);
+    first_fault(log, &walk.marks)
 }
 
 // The lowest record at fault, by the marks.
-fn first_fault(words: &[u32], bytes: &[u8], marks: &[Mark]) -> Result<(), Broken>
-    ensures { told result ≡ first_by (log_count words.now) words.now bytes.now marks.now 0 }
+fn first_fault(log: Log<'_>, marks: &[Mark]) -> Result<(), Broken>
+    ensures { told result ≡ first_by (log_count log.entry.words.now) log.entry.words.now log.entry.bytes.now marks.now 0 }
 {
-    for r in 0..log_count(words) {
-        if at_fault(words, bytes, mark_at(marks, r), r) {
+    for r in 0..log_count(log.words) {
+        if at_fault(log, mark_at(marks, r), r) {
             return Err(Broken { record: r });
         }
     }
@@ -93,27 +93,27 @@ fn first_fault(words: &[u32], bytes: &[u8], marks: &[Mark]) -> Result<(), Broken
 }
 
 // Whether a record is at fault, by its mark: record 0 for its links alone, another only if it is reached.
-fn at_fault(words: &[u32], bytes: &[u8], mark: Mark, r: u32) -> bool
-    ensures { result ≡ fault_by words.now bytes.now mark r }
+fn at_fault(log: Log<'_>, mark: Mark, r: u32) -> bool
+    ensures { result ≡ fault_by log.entry.words.now log.entry.bytes.now mark r }
 {
     if r == 0 {
-        return heads_out(words);
+        return heads_out(log.words);
     }
     match mark {
         Mark::Unmet => false,
-        Mark::Met => record_wrong(words, bytes, r),
+        Mark::Met => record_wrong(log, r),
         Mark::Wrong => true,
     }
 }
 
 // Whether a record breaks a rule, but for those on the links that lead to it.
-fn record_wrong(words: &[u32], bytes: &[u8], r: u32) -> bool
-    ensures { result ≡ record_wrong words.now bytes.now r }
+fn record_wrong(log: Log<'_>, r: u32) -> bool
+    ensures { result ≡ record_wrong log.entry.words.now log.entry.bytes.now r }
 {
-    links_out(words, r)
-        || texts_out(words, bytes, r)
-        || spans_reversed(words, r)
-        || path_wrong(words, bytes, r)
+    links_out(log.words, r)
+        || texts_out(log, r)
+        || spans_reversed(log.words, r)
+        || path_wrong(log, r)
 }
 
 // Whether one of record 0's links leads out of the log.
@@ -162,17 +162,17 @@ fn leads_out(words: &[u32], r: u32, i: u32) -> bool
 }
 
 // Whether one of a record's texts ends behind the bytes.
-fn texts_out(words: &[u32], bytes: &[u8], r: u32) -> bool
-    ensures { result ≡ texts_out words.now bytes.now r }
+fn texts_out(log: Log<'_>, r: u32) -> bool
+    ensures { result ≡ texts_out log.entry.words.now log.entry.bytes.now r }
 {
     text_out(
-        bytes,
-        out_field(words, r, layout::TEXT_START),
-        out_field(words, r, layout::TEXT_LENGTH),
+        log.bytes,
+        out_field(log.words, r, layout::TEXT_START),
+        out_field(log.words, r, layout::TEXT_LENGTH),
     ) || text_out(
-        bytes,
-        out_field(words, r, layout::SECOND_START),
-        out_field(words, r, layout::SECOND_LENGTH),
+        log.bytes,
+        out_field(log.words, r, layout::SECOND_START),
+        out_field(log.words, r, layout::SECOND_LENGTH),
     )
 }
 
@@ -209,18 +209,18 @@ fn spans_reversed_name(words: &[u32], r: u32) -> bool
 }
 
 // Whether a record's path lacks the form that its kind asks for.
-fn path_wrong(words: &[u32], bytes: &[u8], r: u32) -> bool
-    ensures { result ≡ path_wrong words.now bytes.now r }
+fn path_wrong(log: Log<'_>, r: u32) -> bool
+    ensures { result ≡ path_wrong log.entry.words.now log.entry.bytes.now r }
 {
-    let kind = kind_of(words, r);
+    let kind = kind_of(log.words, r);
     if one_of(kind, &[kinds::VERSION, kinds::PLUGIN]) {
-        return !good_path(first_text(words, bytes, r));
+        return !good_path(log.first_text(r));
     }
     if is_def(kind) {
-        return !nonempty_path(first_text(words, bytes, r));
+        return !nonempty_path(log.first_text(r));
     }
     if kind == kinds::BINDING {
-        return !nonempty_path(second_text(words, bytes, r));
+        return !nonempty_path(log.second_text(r));
     }
     false
 }

@@ -143,6 +143,11 @@ place_small room h = (place_within room h).0
 place_most : (room h : ℕ) → least_heads ≤ room → place_of room h * 2 + 1 < room
 place_most room h m = (place_within room h).1 m
 
+pub slot_small : (room : ℕ) (deleted : Bool) (h : ℕ) → slot_of room deleted h < 65536
+unfolding slot_of
+slot_small room true h = omega (arith, place_small room h)
+slot_small room false h = omega (arith, place_small room h)
+
 pub slot_most : (room : ℕ) (deleted : Bool) (h : ℕ) → least_heads ≤ room → slot_of room deleted h < room
 unfolding slot_of
 slot_most room true h m = place_most room h m

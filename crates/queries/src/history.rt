@@ -10,57 +10,45 @@ use crate::definition::{defined_by, deletes_above};
 use crate::list::fit;
 use definition_log::chain::chain;
 use definition_log::limits::{FEW_RECORDS, MOST_RECORDS};
-use definition_log::record::{first_text, log_count};
+use definition_log::record::{Log, log_count};
 use paths_numbers::text::equals;
 
 // How many definitions of a chain a path's history has. Their record numbers are written to the
 // start of a list, earliest first, if it has room for them. Each call sets up an array: 256 KB, or
 // 32 KB for a log of at most 8,192 records.
-pub fn history_list(words: &[u32], bytes: &[u8], first: u32, path: &[u8], list: &mut [u32]) -> u32
+pub fn history_list(log: Log<'_>, first: u32, path: &[u8], list: &mut [u32]) -> u32
     ensures { Listed list.old list.new result
-        (history_in words.now bytes.now first path.now) }
+        (history_in log.entry.words.now log.entry.bytes.now first path.now) }
 {
-    if log_count(words) as usize <= FEW_RECORDS {
-        return history_within::<FEW_RECORDS>(words, bytes, first, path, list);
+    if log_count(log.words) as usize <= FEW_RECORDS {
+        return history_within::<FEW_RECORDS>(log, first, path, list);
     }
-    history_within::<MOST_RECORDS>(words, bytes, first, path, list)
+    history_within::<MOST_RECORDS>(log, first, path, list)
 }
 
 // The same of a log of at most N records, not inlined, so that no array is on the stack beside a larger one.
 #[inline(never)]
-fn history_within<const N: usize>(
-    words: &[u32],
-    bytes: &[u8],
-    first: u32,
-    path: &[u8],
-    list: &mut [u32],
-) -> u32
-    requires room { log_count words.now ≤ N }
+fn history_within<const N: usize>(log: Log<'_>, first: u32, path: &[u8], list: &mut [u32]) -> u32
+    requires room { log_count log.words.now ≤ N }
     requires size { N ≤ most_records }
     ensures { Listed list.old list.new result
-        (history_in words.now bytes.now first path.now) }
+        (history_in log.entry.words.now log.entry.bytes.now first path.now) }
 {
     let mut found = [0u32; N];
-    let history = history_of(words, bytes, first, path, &mut found);
+    let history = history_of(log, first, path, &mut found);
     fit(list, history);
     history.len() as u32
 }
 
 // The record numbers of a path's history, earliest first, at the start of an array with room for them.
-fn history_of<'a>(
-    words: &[u32],
-    bytes: &[u8],
-    first: u32,
-    path: &[u8],
-    found: &'a mut [u32],
-) -> &'a [u32]
-    requires { length (history_in words.now bytes.now first path.now) ≤ length found.old }
-    ensures { result.now ≡ history_in words.now bytes.now first path.now }
+fn history_of<'a>(log: Log<'_>, first: u32, path: &[u8], found: &'a mut [u32]) -> &'a [u32]
+    requires { length (history_in log.words.now log.bytes.now first path.now) ≤ length found.old }
+    ensures { result.now ≡ history_in log.entry.words.now log.entry.bytes.now first path.now }
 {
     let mut count = 0;
     let mut defined = false;
-    for r in chain(words, first) {
-        let passed = history_at(words, bytes, r, path, defined);
+    for r in chain(log.words, first) {
+        let passed = history_at(log, r, path, defined);
         if passed.listed {
             found[count] = r;
             count += 1;
@@ -78,16 +66,16 @@ struct Passed {
 }
 
 // Whether a definition is in a path's history, and whether the path is defined after it.
-fn history_at(words: &[u32], bytes: &[u8], r: u32, path: &[u8], defined: bool) -> Passed
+fn history_at(log: Log<'_>, r: u32, path: &[u8], defined: bool) -> Passed
     ensures { result ≡ record {
-      listed = is_listed path.now (def_at words.now bytes.now r) defined;
-      defined = defined_after path.now (def_at words.now bytes.now r) defined;
+      listed = is_listed path.now (def_at log.entry.words.now log.entry.bytes.now r) defined;
+      defined = defined_after path.now (def_at log.entry.words.now log.entry.bytes.now r) defined;
     } }
 {
-    if equals(first_text(words, bytes, r), path) {
+    if equals(log.first_text(r), path) {
         return Passed {
             listed: true,
-            defined: defined_by(words, bytes, r, defined),
+            defined: defined_by(log, r, defined),
         };
     }
     if !defined {
@@ -96,7 +84,7 @@ fn history_at(words: &[u32], bytes: &[u8], r: u32, path: &[u8], defined: bool) -
             defined: false,
         };
     }
-    let deleted = deletes_above(words, bytes, r, path);
+    let deleted = deletes_above(log, r, path);
     Passed {
         listed: deleted,
         defined: !deleted,

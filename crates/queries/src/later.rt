@@ -14,6 +14,7 @@ ghost use Rattle.queries.specs.machine.Table.{RoomForOne};
 
 use crate::definition::{is_deleted_at, overwrites_at};
 use definition_log::limits::{FEW_RECORDS, MOST_RECORDS};
+use definition_log::record::Log;
 
 // The hash of "/".
 const ROOT_HASH: u32 = 47;
@@ -50,66 +51,82 @@ impl LaterTable<'_> {
         self.heads[slot] = (later + 1) as u32;
     }
 
+    // Whether a list holds a deleted node at a path, or a property or deleted property there.
+    fn finds(&self, log: Log<'_>, later: &[u32], first: u32, deleted: bool, path: &[u8]) -> bool
+        requires holds { Holds (def_at log.words.now log.bytes.now) (takes_at deleted path.now) self.now.links.now later.now first }
+        requires later_in_bounds { length later.now ≤ length self.now.links.now }
+        ensures { result ≡ any (takes_at deleted path.now)
+            (map (def_at log.entry.words.now log.entry.bytes.now) later.now) }
+    {
+        // kept: the next entry is read at the one before it, for which the library has no iterator
+        let mut e = first as usize;
+        while 0 < e {
+            if takes_at(log, later[later.len() - e], deleted, path) {
+                return true;
+            }
+            let next = self.links[e - 1];
+            e = next as usize;
+        }
+        false
+    }
+}
+
+// A table that is looked into, with a link for each of a log's later definitions.
+// kept: that it finds deleted nodes is a clause and no field, since `holds` does not ask for it.
+#[derive(Clone, Copy)]
+pub struct LaterDefs<'a, 'b> {
+    pub log: Log<'a>,
+    pub later: &'a [u32],
+    pub table: &'a LaterTable<'b>,
+    pub ghost sized: { Sized table.now.heads.now table.now.links.now later.now },
+}
+
+impl LaterDefs<'_, '_> {
     // Whether a later definition is a deleted node at a path, which has this hash, or a property or
     // deleted property there.
-    pub fn holds(
-        &self,
-        words: &[u32],
-        bytes: &[u8],
-        later: &[u32],
-        deleted: bool,
-        path: &[u8],
-        hash: u32,
-    ) -> bool
-        requires holds { Holds (def_at words.now bytes.now) (takes_at deleted path.now) self.now.links.now later.now
-            (get_or self.now.heads.now (slot_of (length self.now.heads.now) deleted hash) 0) }
-        requires sized { Sized self.now.heads.now self.now.links.now later.now }
+    pub fn holds(self, deleted: bool, path: &[u8], hash: u32) -> bool
+        requires { Holds (def_at self.log.words.now self.log.bytes.now) (takes_at deleted path.now)
+            self.table.now.links.now self.later.now
+            (get_or self.table.now.heads.now (slot_of (length self.table.now.heads.now) deleted hash) 0) }
         ensures { result ≡ any (takes_at deleted path.now)
-            (map (def_at words.now bytes.now) later.now) }
+            (map (def_at self.entry.log.words.now self.entry.log.bytes.now) self.entry.later.now) }
     {
-        let slot = slot_of(self.heads.len(), deleted, hash);
-        finds(
-            words,
-            bytes,
-            later,
-            self.links,
-            self.heads[slot],
-            deleted,
-            path,
-        )
+        let slot = slot_of(self.table.heads.len(), deleted, hash);
+        let first = self.table.heads[slot];
+        self.table.finds(self.log, self.later, first, deleted, path)
     }
 
     // Whether a later definition deletes the node at a path or one above it, and the path's hash. Each
     // byte goes into the hash, so that the loop goes byte by byte.
-    pub fn look_above(&self, words: &[u32], bytes: &[u8], later: &[u32], path: &[u8]) -> Above
-        requires deleted { Deleted (def_at words.now bytes.now) self.now.heads.now self.now.links.now later.now }
-        requires sized { Sized self.now.heads.now self.now.links.now later.now }
+    pub fn look_above(self, path: &[u8]) -> Above
+        requires { Deleted (def_at self.log.words.now self.log.bytes.now)
+            self.table.now.heads.now self.table.now.links.now self.later.now }
         ensures { result ≡ record {
           deleted = any (deletes path.now)
-              (map (def_at words.now bytes.now) later.now);
+              (map (def_at self.entry.log.words.now self.entry.log.bytes.now) self.entry.later.now);
           hash = hash_from 0 path.now;
         } }
     {
-        let mut deleted = self.root_deleted(words, bytes, later, path);
+        let mut deleted = self.root_deleted(path);
         let mut hash: u32 = 0;
         for (i, b) in path.iter().enumerate() {
             if *b == b'/' {
-                deleted = self.or_deleted(words, bytes, later, &path[..i], hash, deleted);
+                deleted = self.or_deleted(&path[..i], hash, deleted);
             }
             hash = mix(hash, *b);
         }
         Above {
-            deleted: self.or_deleted(words, bytes, later, path, hash, deleted),
+            deleted: self.or_deleted(path, hash, deleted),
             hash,
         }
     }
 
     // Whether a later definition deletes "/", where a path lies under it.
-    fn root_deleted(&self, words: &[u32], bytes: &[u8], later: &[u32], path: &[u8]) -> bool
-        requires deleted { Deleted (def_at words.now bytes.now) self.now.heads.now self.now.links.now later.now }
-        requires sized { Sized self.now.heads.now self.now.links.now later.now }
+    fn root_deleted(self, path: &[u8]) -> bool
+        requires { Deleted (def_at self.log.words.now self.log.bytes.now)
+            self.table.now.heads.now self.table.now.links.now self.later.now }
         ensures { result ≡ cond (starts_with slash path.now)
-            (any (deleted_at root) (map (def_at words.now bytes.now) later.now)) false }
+            (any (deleted_at root) (map (def_at self.entry.log.words.now self.entry.log.bytes.now) self.entry.later.now)) false }
     {
         if path.len() == 0 {
             return false;
@@ -117,26 +134,18 @@ impl LaterTable<'_> {
         if path[0] != b'/' {
             return false;
         }
-        self.or_deleted(words, bytes, later, &path[..1], ROOT_HASH, false)
+        self.or_deleted(&path[..1], ROOT_HASH, false)
     }
 
     // Whether a later definition deletes the node at a path, which has this hash, if none was found before.
-    fn or_deleted(
-        &self,
-        words: &[u32],
-        bytes: &[u8],
-        later: &[u32],
-        path: &[u8],
-        hash: u32,
-        found: bool,
-    ) -> bool
-        requires deleted { Deleted (def_at words.now bytes.now) self.now.heads.now self.now.links.now later.now }
-        requires sized { Sized self.now.heads.now self.now.links.now later.now }
+    fn or_deleted(self, path: &[u8], hash: u32, found: bool) -> bool
+        requires deleted { Deleted (def_at self.log.words.now self.log.bytes.now)
+            self.table.now.heads.now self.table.now.links.now self.later.now }
         requires hash_value { hash ≡ hash_from 0 path.now }
         ensures { result ≡ cond found true (any (deleted_at path.now)
-            (map (def_at words.now bytes.now) later.now)) }
+            (map (def_at self.entry.log.words.now self.entry.log.bytes.now) self.entry.later.now)) }
     {
-        found || self.holds(words, bytes, later, true, path, hash)
+        found || self.holds(true, path, hash)
     }
 }
 
@@ -167,40 +176,14 @@ fn place_of(heads: usize, hash: u32) -> usize
     (hash % 32768) as usize
 }
 
-// Whether a list holds a deleted node at a path, or a property or deleted property there.
-fn finds(
-    words: &[u32],
-    bytes: &[u8],
-    later: &[u32],
-    links: &[u32],
-    first: u32,
-    deleted: bool,
-    path: &[u8],
-) -> bool
-    requires holds { Holds (def_at words.now bytes.now) (takes_at deleted path.now) links.now later.now first }
-    requires later_in_bounds { length later.now ≤ length links.now }
-    ensures { result ≡ any (takes_at deleted path.now)
-        (map (def_at words.now bytes.now) later.now) }
-{
-    // kept: the next entry is read at the one before it, for which the library has no iterator
-    let mut e = first as usize;
-    while 0 < e {
-        if takes_at(words, bytes, later[later.len() - e], deleted, path) {
-            return true;
-        }
-        e = links[e - 1] as usize;
-    }
-    false
-}
-
 // Whether a definition is a deleted node at a path, or a property or deleted property there.
-fn takes_at(words: &[u32], bytes: &[u8], r: u32, deleted: bool, path: &[u8]) -> bool
-    ensures { result ≡ takes_at deleted path.now (def_at words.now bytes.now r) }
+fn takes_at(log: Log<'_>, r: u32, deleted: bool, path: &[u8]) -> bool
+    ensures { result ≡ takes_at deleted path.now (def_at log.entry.words.now log.entry.bytes.now r) }
 {
     if deleted {
-        return is_deleted_at(words, bytes, r, path);
+        return is_deleted_at(log, r, path);
     }
-    overwrites_at(words, bytes, r, path)
+    overwrites_at(log, r, path)
 }
 
 // The hash of a path.

@@ -11,7 +11,7 @@ ghost use Rattle.queries.specs.machine.Looked.{AnswersLookup, AnswersShort, anot
 use crate::mir::contains_node_in;
 use definition_log::chain::chain;
 use definition_log::kinds::NODE;
-use definition_log::record::{first_text, kind_of};
+use definition_log::record::{Log, kind_of};
 use paths_numbers::dt_node::Joined;
 use paths_numbers::mir::lies_under;
 use paths_numbers::text::equals;
@@ -27,10 +27,10 @@ pub enum Lookup {
 }
 
 // The look-up of a path.
-pub fn lookup_in(words: &[u32], bytes: &[u8], first: u32, path: &[u8]) -> Lookup
-    ensures { AnswersLookup words.now bytes.now first path.now result }
+pub fn lookup_in(log: Log<'_>, first: u32, path: &[u8]) -> Lookup
+    ensures { AnswersLookup log.entry.words.now log.entry.bytes.now first path.now result }
 {
-    if contains_node_in(words, bytes, first, path) {
+    if contains_node_in(log, first, path) {
         return Lookup::Exact;
     }
     if path.len() == 0 {
@@ -42,36 +42,36 @@ pub fn lookup_in(words: &[u32], bytes: &[u8], first: u32, path: &[u8]) -> Lookup
     if !has_components(&path[..1], &path[1..]) {
         return Lookup::NoNode;
     }
-    short_node(words, bytes, first, &path[..1], &path[1..])
+    short_node(log, first, &path[..1], &path[1..])
 }
 
 // The look-up of the path of a parent and a name.
-pub fn lookup_path(words: &[u32], bytes: &[u8], first: u32, parent: &[u8], name: &[u8]) -> Lookup
-    ensures { AnswersLookup words.now bytes.now first (joined parent.now name.now []) result }
+pub fn lookup_path(log: Log<'_>, first: u32, parent: &[u8], name: &[u8]) -> Lookup
+    ensures { AnswersLookup log.entry.words.now log.entry.bytes.now first (joined parent.now name.now []) result }
 {
     let path = Joined {
         parent,
         name,
         unit: &name[..0],
     };
-    if contains_node_in(words, bytes, first, path) {
+    if contains_node_in(log, first, path) {
         return Lookup::Exact;
     }
     if !has_components(parent, name) {
         return Lookup::NoNode;
     }
-    short_node(words, bytes, first, parent, name)
+    short_node(log, first, parent, name)
 }
 
 // The live nodes that the path of a parent and a name may mean, by their paths. Each node that matches, at
 // another path than the one found before, costs a pass over the chain.
-pub fn short_node(words: &[u32], bytes: &[u8], first: u32, parent: &[u8], name: &[u8]) -> Lookup
-    ensures { AnswersShort words.now bytes.now first
+pub fn short_node(log: Log<'_>, first: u32, parent: &[u8], name: &[u8]) -> Lookup
+    ensures { AnswersShort log.entry.words.now log.entry.bytes.now first
         (front_of parent.now ++ slash ∷ name.now) result }
 {
     let mut found = None;
-    for r in chain(words, first) {
-        if is_another(words, bytes, first, r, found, parent, name) {
+    for r in chain(log.words, first) {
+        if is_another(log, first, r, found, parent, name) {
             if found.is_some() {
                 return Lookup::Several;
             }
@@ -86,23 +86,22 @@ pub fn short_node(words: &[u32], bytes: &[u8], first: u32, parent: &[u8], name: 
 
 // Whether a definition is a node whose path is live and may be meant, and is not that of the one found before.
 fn is_another(
-    words: &[u32],
-    bytes: &[u8],
+    log: Log<'_>,
     first: u32,
     r: u32,
     found: Option<u32>,
     parent: &[u8],
     name: &[u8],
 ) -> bool
-    ensures { result ≡ another (def_at words.now bytes.now)
-        (read_defs words.now bytes.now first)
+    ensures { result ≡ another (def_at log.entry.words.now log.entry.bytes.now)
+        (read_defs log.entry.words.now log.entry.bytes.now first)
         (front_of parent.now ++ slash ∷ name.now) found r }
 {
-    if kind_of(words, r) != NODE {
+    if kind_of(log.words, r) != NODE {
         return false;
     }
-    let path = first_text(words, bytes, r);
-    if !is_elsewhere(words, bytes, found, path) {
+    let path = log.first_text(r);
+    if !is_elsewhere(log, found, path) {
         return false;
     }
     if !may_mean(parent, name, path) {
@@ -111,15 +110,15 @@ fn is_another(
     if !lies_under(path, &path[..0]) {
         return false;
     }
-    contains_node_in(words, bytes, first, path)
+    contains_node_in(log, first, path)
 }
 
 // Whether a path is not that of the node found before, if any.
-fn is_elsewhere(words: &[u32], bytes: &[u8], found: Option<u32>, path: &[u8]) -> bool
-    ensures { result ≡ elsewhere (first_text words.now bytes.now) found path.now }
+fn is_elsewhere(log: Log<'_>, found: Option<u32>, path: &[u8]) -> bool
+    ensures { result ≡ elsewhere (first_text log.entry.words.now log.entry.bytes.now) found path.now }
 {
     match found {
-        Some(r) => !equals(first_text(words, bytes, r), path),
+        Some(r) => !equals(log.first_text(r), path),
         None => true,
     }
 }

@@ -12,15 +12,15 @@ use crate::definition::{deletes_above, has_label_at, is_node_at};
 use crate::path::PathLike;
 use definition_log::chain::chain;
 use definition_log::kinds::PLUGIN;
-use definition_log::record::kind_of;
+use definition_log::record::{Log, kind_of};
 
 // Whether a chain has a live node at a path.
-pub fn contains_node_in<P: PathLike>(words: &[u32], bytes: &[u8], first: u32, path: P) -> bool
-    ensures { result ≡ contains_node (P.path path) (read_defs words.now bytes.now first) }
+pub fn contains_node_in<P: PathLike>(log: Log<'_>, first: u32, path: P) -> bool
+    ensures { result ≡ contains_node (P.path path) (read_defs log.entry.words.now log.entry.bytes.now first) }
 {
     let mut found = false;
-    for r in chain(words, first) {
-        found = contains_node_after(words, bytes, r, path, found);
+    for r in chain(log.words, first) {
+        found = contains_node_after(log, r, path, found);
     }
     found
 }
@@ -33,62 +33,42 @@ pub fn sets_overlay_in(words: &[u32], first: u32) -> bool
 }
 
 // Whether a chain has a node with a label at a path, live under a base.
-pub fn unbinds<B: PathLike>(
-    words: &[u32],
-    bytes: &[u8],
-    first: u32,
-    base: B,
-    label: &[u8],
-    path: &[u8],
-) -> bool
+pub fn unbinds<B: PathLike>(log: Log<'_>, first: u32, base: B, label: &[u8], path: &[u8]) -> bool
     ensures { result ≡ any (has_label_at label.now path.now)
-        (live (B.path base) (read_defs words.now bytes.now first)) }
+        (live (B.path base) (read_defs log.entry.words.now log.entry.bytes.now first)) }
 {
-    base.holds(path) && unbinds_in(words, bytes, first, label, path)
+    base.holds(path) && unbinds_in(log, first, label, path)
 }
 
 // Whether a chain has a node with a label at a path, live under that path.
-fn unbinds_in(words: &[u32], bytes: &[u8], first: u32, label: &[u8], path: &[u8]) -> bool
+fn unbinds_in(log: Log<'_>, first: u32, label: &[u8], path: &[u8]) -> bool
     ensures { result ≡ any (has_label_at label.now path.now)
-        (live path.now (read_defs words.now bytes.now first)) }
+        (live path.now (read_defs log.entry.words.now log.entry.bytes.now first)) }
 {
     let mut found = false;
-    for r in chain(words, first) {
-        found = unbinds_after(words, bytes, r, label, path, found);
+    for r in chain(log.words, first) {
+        found = unbinds_after(log, r, label, path, found);
     }
     found
 }
 
 // Whether a live node at a path is found after a definition.
-fn contains_node_after<P: PathLike>(
-    words: &[u32],
-    bytes: &[u8],
-    r: u32,
-    path: P,
-    found: bool,
-) -> bool
-    ensures { result ≡ node_found (P.path path) (def_at words.now bytes.now r) found }
+fn contains_node_after<P: PathLike>(log: Log<'_>, r: u32, path: P, found: bool) -> bool
+    ensures { result ≡ node_found (P.path path) (def_at log.entry.words.now log.entry.bytes.now r) found }
 {
     if found {
-        return !deletes_above(words, bytes, r, path);
+        return !deletes_above(log, r, path);
     }
-    is_node_at(words, bytes, r, path)
+    is_node_at(log, r, path)
 }
 
 // Whether a live node with a label at a path is found after a definition.
-fn unbinds_after(
-    words: &[u32],
-    bytes: &[u8],
-    r: u32,
-    label: &[u8],
-    path: &[u8],
-    found: bool,
-) -> bool
+fn unbinds_after(log: Log<'_>, r: u32, label: &[u8], path: &[u8], found: bool) -> bool
     ensures { result ≡ label_found label.now path.now
-        (def_at words.now bytes.now r) found }
+        (def_at log.entry.words.now log.entry.bytes.now r) found }
 {
     if found {
-        return !deletes_above(words, bytes, r, path);
+        return !deletes_above(log, r, path);
     }
-    has_label_at(words, bytes, r, label, path)
+    has_label_at(log, r, label, path)
 }

@@ -10,38 +10,33 @@ use crate::live::live_list;
 use crate::mir::contains_node_in;
 use definition_log::answer::Refusal;
 use definition_log::layout;
-use definition_log::record::out_field;
+use definition_log::record::{Log, out_field};
 use definition_log::sound::log_refused;
 use paths_numbers::mir::good_path;
 
 // The live definitions under a base, latest first, by their record numbers.
-pub fn iter_live_defs_under(
-    words: &[u32],
-    bytes: &[u8],
-    base: &[u8],
-    list: &mut [u32],
-) -> Result<u32, Refusal>
-    ensures result_value { told result ≡ query_answer words.now bytes.now base.now (length list.old)
-        (live_answers words.now bytes.now base.now) }
-    ensures list_after { list.new ≡ query_out words.now bytes.now base.now list.old
-        (live_answers words.now bytes.now base.now) }
+pub fn iter_live_defs_under(log: Log<'_>, base: &[u8], list: &mut [u32]) -> Result<u32, Refusal>
+    ensures result_value { told result ≡ query_answer log.entry.words.now log.entry.bytes.now base.now (length list.old)
+        (live_answers log.entry.words.now log.entry.bytes.now base.now) }
+    ensures list_after { list.new ≡ query_out log.entry.words.now log.entry.bytes.now base.now list.old
+        (live_answers log.entry.words.now log.entry.bytes.now base.now) }
 {
-    refused(words, bytes, base)?;
-    let first = out_field(words, 0, layout::FIRST_DEFINITION);
-    let count = live_list(words, bytes, first, base, list);
+    refused(log, base)?;
+    let first = out_field(log.words, 0, layout::FIRST_DEFINITION);
+    let count = live_list(log, first, base, list);
     list_answer(list.len(), count)
 }
 
 // The history of a path, earliest first, by record numbers.
-pub fn history(words: &[u32], bytes: &[u8], path: &[u8], list: &mut [u32]) -> Result<u32, Refusal>
-    ensures result_value { told result ≡ query_answer words.now bytes.now path.now (length list.old)
-        (history_answers words.now bytes.now path.now) }
-    ensures list_after { list.new ≡ query_out words.now bytes.now path.now list.old
-        (history_answers words.now bytes.now path.now) }
+pub fn history(log: Log<'_>, path: &[u8], list: &mut [u32]) -> Result<u32, Refusal>
+    ensures result_value { told result ≡ query_answer log.entry.words.now log.entry.bytes.now path.now (length list.old)
+        (history_answers log.entry.words.now log.entry.bytes.now path.now) }
+    ensures list_after { list.new ≡ query_out log.entry.words.now log.entry.bytes.now path.now list.old
+        (history_answers log.entry.words.now log.entry.bytes.now path.now) }
 {
-    refused(words, bytes, path)?;
-    let first = out_field(words, 0, layout::FIRST_DEFINITION);
-    let count = history_list(words, bytes, first, path, list);
+    refused(log, path)?;
+    let first = out_field(log.words, 0, layout::FIRST_DEFINITION);
+    let count = history_list(log, first, path, list);
     list_answer(list.len(), count)
 }
 
@@ -56,20 +51,20 @@ fn list_answer(room: usize, count: u32) -> Result<u32, Refusal>
 }
 
 // Whether a node is live at a path: returns 1 or 0.
-pub fn contains_node(words: &[u32], bytes: &[u8], path: &[u8]) -> Result<u32, Refusal>
-    ensures { told result ≡ contains_answer words.now bytes.now path.now }
+pub fn contains_node(log: Log<'_>, path: &[u8]) -> Result<u32, Refusal>
+    ensures { told result ≡ contains_answer log.entry.words.now log.entry.bytes.now path.now }
 {
-    refused(words, bytes, path)?;
-    let first = out_field(words, 0, layout::FIRST_DEFINITION);
-    let found = contains_node_in(words, bytes, first, path);
+    refused(log, path)?;
+    let first = out_field(log.words, 0, layout::FIRST_DEFINITION);
+    let found = contains_node_in(log, first, path);
     Ok(found as u32)
 }
 
 // Row 8, then row 9.
-fn refused(words: &[u32], bytes: &[u8], path: &[u8]) -> Result<(), Refusal>
-    ensures { told_done result ≡ refusal words.now bytes.now path.now }
+fn refused(log: Log<'_>, path: &[u8]) -> Result<(), Refusal>
+    ensures { told_done result ≡ refusal log.entry.words.now log.entry.bytes.now path.now }
 {
-    log_refused(words, bytes)?;
+    log_refused(log)?;
     path_refused(path)
 }
 

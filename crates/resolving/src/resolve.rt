@@ -7,7 +7,7 @@ ghost use Rattle.resolving.specs.machine.Leading.{FirstWith, ReportsMissing};
 use definition_log::chain::chain;
 use definition_log::layout;
 use definition_log::parts::Span;
-use definition_log::record::{first_text, out_field, second_text};
+use definition_log::record::{Log, out_field};
 use input::phandle::{phandle_label_at, phandle_path_at};
 use input::record::no_text;
 use input::report::Report;
@@ -50,12 +50,11 @@ pub fn resolve_phandle(
     text: &[u8],
     r: u32,
     read: Result<MirPhandleTarget, Report>,
-    out: &[u32],
-    bytes: &[u8],
+    log: Log<'_>,
     binds: u32,
     defs: u32,
 ) -> Result<Leads, Missing>
-    ensures { AnswersPhandle words.now text.now r read out.now bytes.now binds defs result }
+    ensures { AnswersPhandle words.now text.now r read log.entry.words.now log.entry.bytes.now binds defs result }
 {
     let Ok(kind) = read else {
         return Err(Missing::NoLabel);
@@ -63,42 +62,36 @@ pub fn resolve_phandle(
     let label = phandle_label_at(words, text, r);
     let path = phandle_path_at(words, text, r);
     match kind {
-        MirPhandleTarget::Label => resolve_label(out, bytes, binds, label),
-        MirPhandleTarget::LabelPath => resolve_below(out, bytes, binds, defs, label, path),
-        MirPhandleTarget::Path => resolve_path(out, bytes, defs, path),
+        MirPhandleTarget::Label => resolve_label(log, binds, label),
+        MirPhandleTarget::LabelPath => resolve_below(log, binds, defs, label, path),
+        MirPhandleTarget::Path => resolve_path(log, defs, path),
     }
 }
 
 // Where a reference of a log leads, by its record.
-pub fn resolve_target(
-    out: &[u32],
-    bytes: &[u8],
-    binds: u32,
-    defs: u32,
-    r: u32,
-) -> Result<Leads, Missing>
-    ensures { AnswersTarget out.now bytes.now binds defs r result }
+pub fn resolve_target(log: Log<'_>, binds: u32, defs: u32, r: u32) -> Result<Leads, Missing>
+    ensures { AnswersTarget log.entry.words.now log.entry.bytes.now binds defs r result }
 {
-    let n = out_field(out, r, layout::N);
-    let label = first_text(out, bytes, r);
-    let path = second_text(out, bytes, r);
+    let n = out_field(log.words, r, layout::N);
+    let label = log.first_text(r);
+    let path = log.second_text(r);
     if n == 1 {
-        return resolve_label(out, bytes, binds, label);
+        return resolve_label(log, binds, label);
     }
     if n == 2 {
-        return resolve_below(out, bytes, binds, defs, label, path);
+        return resolve_below(log, binds, defs, label, path);
     }
     if n == 3 {
-        return resolve_path(out, bytes, defs, path);
+        return resolve_path(log, defs, path);
     }
     Err(Missing::NoLabel)
 }
 
 // Where a label leads.
-pub fn resolve_label(out: &[u32], bytes: &[u8], binds: u32, label: &[u8]) -> Result<Leads, Missing>
-    ensures { AnswersLabel out.now bytes.now binds label.now result }
+pub fn resolve_label(log: Log<'_>, binds: u32, label: &[u8]) -> Result<Leads, Missing>
+    ensures { AnswersLabel log.entry.words.now log.entry.bytes.now binds label.now result }
 {
-    let Some(found) = first_with(out, bytes, binds, label) else {
+    let Some(found) = first_with(log, binds, label) else {
         return Err(Missing::NoLabel);
     };
     Ok(Leads::Bound(found.number))
@@ -106,21 +99,20 @@ pub fn resolve_label(out: &[u32], bytes: &[u8], binds: u32, label: &[u8]) -> Res
 
 // Where a path below a label leads.
 pub fn resolve_below(
-    out: &[u32],
-    bytes: &[u8],
+    log: Log<'_>,
     binds: u32,
     defs: u32,
     label: &[u8],
     path: &[u8],
 ) -> Result<Leads, Missing>
-    ensures { AnswersBelow out.now bytes.now binds defs label.now path.now result }
+    ensures { AnswersBelow log.entry.words.now log.entry.bytes.now binds defs label.now path.now result }
 {
-    let Some(found) = first_with(out, bytes, binds, label) else {
+    let Some(found) = first_with(log, binds, label) else {
         return Err(Missing::NoLabel);
     };
     let number = found.number;
-    let base = second_text(out, bytes, number);
-    match lookup_path(out, bytes, defs, base, path) {
+    let base = log.second_text(number);
+    match lookup_path(log, defs, base, path) {
         Lookup::Exact => Ok(Leads::BoundPath(number)),
         Lookup::Node(node) => Ok(Leads::Node(node)),
         Lookup::NoNode => Err(Missing::NoNodeBelow(NODE_NOT_FOUND, number)),
@@ -129,10 +121,10 @@ pub fn resolve_below(
 }
 
 // Where a path leads.
-pub fn resolve_path(out: &[u32], bytes: &[u8], defs: u32, path: &[u8]) -> Result<Leads, Missing>
-    ensures { AnswersPath out.now bytes.now defs path.now result }
+pub fn resolve_path(log: Log<'_>, defs: u32, path: &[u8]) -> Result<Leads, Missing>
+    ensures { AnswersPath log.entry.words.now log.entry.bytes.now defs path.now result }
 {
-    match lookup_in(out, bytes, defs, path) {
+    match lookup_in(log, defs, path) {
         Lookup::Exact => Ok(Leads::AtPath),
         Lookup::Node(r) => Ok(Leads::Node(r)),
         Lookup::NoNode => Err(Missing::NoNode(NODE_NOT_FOUND)),
@@ -141,12 +133,12 @@ pub fn resolve_path(out: &[u32], bytes: &[u8], defs: u32, path: &[u8]) -> Result
 }
 
 // The first record of a chain with this first text: a label's first binding, a definition with a path.
-pub fn first_with(out: &[u32], bytes: &[u8], first: u32, text: &[u8]) -> Option<Found>
-    ensures { FirstWith out.now bytes.now first text.now result }
+pub fn first_with(log: Log<'_>, first: u32, text: &[u8]) -> Option<Found>
+    ensures { FirstWith log.entry.words.now log.entry.bytes.now first text.now result }
 {
     let mut previous = 0;
-    for r in chain(out, first) {
-        if equals(first_text(out, bytes, r), text) {
+    for r in chain(log.words, first) {
+        if equals(log.first_text(r), text) {
             return Some(Found {
                 number: r,
                 previous,

@@ -1,15 +1,10 @@
 -- What one pass over a chain does at a record. These are the steps of the code, and no part of what the queries mean.
-use Rattle.std.specs.Prelude.{ℕ, Bool, true, false, cond, List, eqb}
+use Rattle.std.specs.Prelude.{ℕ, Bool, true, false, cond, List}
 use Rattle.paths_numbers.specs.meaning.Text.{same}
 use Rattle.definition_log.specs.meaning.Contents.{Def}
-use Rattle.definition_log.specs.meaning.Record.{leads}
 use Rattle.queries.specs.meaning.Live.{deletes, node_at}
 use Rattle.queries.specs.meaning.Labels.{has_label_at}
 use Rattle.queries.specs.meaning.History.{defined_by}
-
--- whether a chain of which so many records may be left has one at r
-unfoldable pub goes_on : List ℕ → ℕ → ℕ → Bool
-goes_on words r left = cond (eqb left 0) false (leads words r)
 
 -- what is found after a definition that sets or clears it
 abbrev pub found_after : Bool → Bool → Bool → Bool

@@ -9,4 +9,4 @@ unfolding soundness
 returns-then-wrong_count c = let e = sym c.wrong_count.ensures ∙ c.if-wrong_count.true in rw e refl
 
 pub check_within-requires-2-clause-room : goal.check_within-requires-2-clause-room
-check_within-requires-2-clause-room c = count_most c.args.words.now
+check_within-requires-2-clause-room c = count_most c.args.log.words.now

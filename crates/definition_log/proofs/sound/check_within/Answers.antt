@@ -5,4 +5,5 @@ use Rattle.definition_log.proofs.sound.check_within.Goals as goal
 
 pub returns : goal.returns
 returns g c =
-    checked g.row.N c.args.words.now c.args.bytes.now _ _ _ _ c.all.ensures c.first_fault.ensures refl refl c.requires.room c.requires.whole
+    let l = c.args.log in
+    checked g.row.N l.words.now l.bytes.now _ _ _ _ c.all.ensures c.first_fault.ensures refl refl c.requires.room c.requires.whole

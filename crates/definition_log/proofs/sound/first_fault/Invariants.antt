@@ -6,4 +6,7 @@ use Rattle.definition_log.specs.machine.Walk.{first_by}
 use Rattle.definition_log.proofs.sound.first_fault.Given as goal
 
 abbrev pub invariant-loop-r : goal.invariant-loop-r
-invariant-loop-r l = first_by (log_count l.words) l.words l.bytes l.marks 0 ≡ first_by (log_count l.words - l.r) l.words l.bytes l.marks l.r
+invariant-loop-r l =
+    let w = l.log.words.now in
+    let b = l.log.bytes.now in
+    first_by (log_count w) w b l.marks 0 ≡ first_by (log_count w - l.r) w b l.marks l.r

@@ -8,11 +8,11 @@ pub returns-then-kind_of-eq-DELETED_NODE : goal.returns-then-kind_of-eq-DELETED_
 returns-then-kind_of-eq-DELETED_NODE g c =
     let a = c.args in
     c.lies_under.ensures
-    ∙ rw (deletes_at a.words.now a.bytes.now a.r (g.P.PathLike.path a.path), c.first_text.ensures, ← c.kind_of.ensures)
+    ∙ rw (deletes_at a.log.words.now a.log.bytes.now a.r (g.P.PathLike.path a.path), c.first_text.ensures, ← c.kind_of.ensures)
     (simp (eq-eqb _ _ c.if-kind_of-eq-DELETED_NODE.true))
 
 pub returns-else-kind_of-eq-DELETED_NODE : goal.returns-else-kind_of-eq-DELETED_NODE
 returns-else-kind_of-eq-DELETED_NODE g c =
     let a = c.args in
-    rw (deletes_at a.words.now a.bytes.now a.r (g.P.PathLike.path a.path), ← c.kind_of.ensures)
+    rw (deletes_at a.log.words.now a.log.bytes.now a.r (g.P.PathLike.path a.path), ← c.kind_of.ensures)
     (simp (ne_eqb _ _ c.if-kind_of-eq-DELETED_NODE.false))

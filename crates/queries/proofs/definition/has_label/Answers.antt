@@ -15,7 +15,7 @@ pub returns : goal.returns
 unfolding read_labels
 returns c =
     let a = c.args in
-    any_from_yields_List (λ r. same a.label.now (first_text a.words.now a.bytes.now r)) c.any.new.self _ _ c.any.ensures.ran
-    (YieldsList-from_first (λ x. x) chain_left (chain_of a.words.now a.first) c.chain.ensures)
+    any_from_yields_List (λ r. same a.label.now (first_text a.log.words.now a.log.bytes.now r)) c.any.new.self _ _ c.any.ensures.ran
+    (YieldsList-from_first (λ x. x) chain_left (chain_of a.log.words.now a.first) c.chain.ensures)
     (λ x b q k. search (rules, tests))
-    ∙ any_map (same a.label.now) (first_text a.words.now a.bytes.now) (chain_of a.words.now a.first)
+    ∙ any_map (same a.label.now) (first_text a.log.words.now a.log.bytes.now) (chain_of a.log.words.now a.first)

@@ -15,8 +15,8 @@ pub returns-then-equals : goal.returns-then-equals
 unfolding is_listed defined_after
 returns-then-equals c =
     let a = c.args in
-    let s : same (def_at a.words.now a.bytes.now a.r).path a.path.now ≡ true = ap (λ (p : List ℕ). same p a.path.now)
-    (path_at_lem a.words.now a.bytes.now a.r ∙ sym c.first_text.ensures)
+    let s : same (def_at a.log.words.now a.log.bytes.now a.r).path a.path.now ≡ true = ap (λ (p : List ℕ). same p a.path.now)
+    (path_at_lem a.log.words.now a.log.bytes.now a.r ∙ sym c.first_text.ensures)
     ∙ sym c.equals.ensures ∙ c.if-equals.true in
     rw (s, c.defined_by.ensures) refl
 
@@ -24,8 +24,8 @@ pub returns-then-not-defined : goal.returns-then-not-defined
 unfolding is_listed defined_after
 returns-then-not-defined c =
     let a = c.args in
-    let s : same (def_at a.words.now a.bytes.now a.r).path a.path.now ≡ false = ap (λ (p : List ℕ). same p a.path.now)
-    (path_at_lem a.words.now a.bytes.now a.r ∙ sym c.first_text.ensures)
+    let s : same (def_at a.log.words.now a.log.bytes.now a.r).path a.path.now ≡ false = ap (λ (p : List ℕ). same p a.path.now)
+    (path_at_lem a.log.words.now a.log.bytes.now a.r ∙ sym c.first_text.ensures)
     ∙ sym c.equals.ensures ∙ c.if-equals.false in
     rw (s, c.if-not-defined.true) refl
 
@@ -33,8 +33,8 @@ pub returns : goal.returns
 unfolding is_listed defined_after
 returns c =
     let a = c.args in
-    let s : same (def_at a.words.now a.bytes.now a.r).path a.path.now ≡ false = ap (λ (p : List ℕ). same p a.path.now)
-    (path_at_lem a.words.now a.bytes.now a.r ∙ sym c.first_text.ensures)
+    let s : same (def_at a.log.words.now a.log.bytes.now a.r).path a.path.now ≡ false = ap (λ (p : List ℕ). same p a.path.now)
+    (path_at_lem a.log.words.now a.log.bytes.now a.r ∙ sym c.first_text.ensures)
     ∙ sym c.equals.ensures ∙ c.if-equals.false in
     rw (s, c.if-not-defined.false, c.deletes_above-deleted.ensures)
-    (by_test (deletes a.path.now (def_at a.words.now a.bytes.now a.r)) (λ t. rw t refl) (λ t. rw t refl))
+    (by_test (deletes a.path.now (def_at a.log.words.now a.log.bytes.now a.r)) (λ t. rw t refl) (λ t. rw t refl))

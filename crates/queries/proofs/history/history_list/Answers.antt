@@ -3,4 +3,4 @@ use Rattle.queries.proofs.Chain.{count_most}
 use Rattle.queries.proofs.history.history_list.Goals as goal
 
 pub history_within-requires-2-clause-room : goal.history_within-requires-2-clause-room
-history_within-requires-2-clause-room c = count_most c.args.words.now
+history_within-requires-2-clause-room c = count_most c.args.log.words.now

@@ -15,7 +15,7 @@ pub bounds-found-count : goal.bounds-found-count
 bounds-found-count c =
     let a = c.args in
     let l = c.loop-r in
-    let e = history_listed (def_at a.words.now a.bytes.now) l.defined a.path.now c.in-Some.ensures.steps refl
+    let e = history_listed (def_at a.log.words.now a.log.bytes.now) l.defined a.path.now c.in-Some.ensures.steps refl
     (sym (ap (λ (p : Passed). p.listed) c.history_at-passed.ensures) ∙ c.if-passed.true) in
     room_for_next l.found l.count l.invariant.1 e l.invariant.0 (omega (arith, c.requires, l.auto.found))
 
@@ -23,7 +23,7 @@ pub loop-r-preserved-then-passed : goal.loop-r-preserved-then-passed
 loop-r-preserved-then-passed c =
     let a = c.args in
     let l = c.loop-r in
-    let e = history_listed (def_at a.words.now a.bytes.now) l.defined a.path.now c.in-Some.ensures.steps
+    let e = history_listed (def_at a.log.words.now a.log.bytes.now) l.defined a.path.now c.in-Some.ensures.steps
     (ap (λ (p : Passed). p.defined) c.history_at-passed.ensures)
     (sym (ap (λ (p : Passed). p.listed) c.history_at-passed.ensures) ∙ c.if-passed.true) in
     let h = room_for_next l.found l.count l.invariant.1 e l.invariant.0 (omega (arith, c.requires, l.auto.found)) in
@@ -33,7 +33,7 @@ pub loop-r-preserved : goal.loop-r-preserved
 loop-r-preserved c =
     let a = c.args in
     let l = c.loop-r in
-    let e = history_passed (def_at a.words.now a.bytes.now) l.defined a.path.now c.in-Some.ensures.steps
+    let e = history_passed (def_at a.log.words.now a.log.bytes.now) l.defined a.path.now c.in-Some.ensures.steps
     (ap (λ (p : Passed). p.defined) c.history_at-passed.ensures)
     (sym (ap (λ (p : Passed). p.listed) c.history_at-passed.ensures) ∙ c.if-passed.false) in
     (l.invariant.0, l.invariant.1 ∙ rw e refl)

@@ -10,6 +10,8 @@ use Rattle.queries.specs.machine.Lists.{history_in}
 use Rattle.queries.proofs.history.history_of.Given as goal
 
 abbrev pub invariant-loop-r : goal.invariant-loop-r
-invariant-loop-r l = (l.count ≤ length l.found)
-    × (history_in l.words l.bytes l.first l.path ≡ take l.count l.found ++ history_numbers (def_at l.words l.bytes) l.defined l.path
-    (chain_left l.r-iterator))
+invariant-loop-r l =
+    let w = l.log.words.now in
+    let b = l.log.bytes.now in
+    (l.count ≤ length l.found)
+    × (history_in w b l.first l.path ≡ take l.count l.found ++ history_numbers (def_at w b) l.defined l.path (chain_left l.r-iterator))

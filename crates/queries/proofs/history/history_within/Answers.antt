@@ -14,8 +14,8 @@ history_of-history-requires g c =
     let a = c.args in
     omega (
       arith,
-      history_most (def_at a.words.now a.bytes.now) false a.path.now (chain_of a.words.now a.first),
-      chain_most a.words.now a.first,
+      history_most (def_at a.log.words.now a.log.bytes.now) false a.path.now (chain_of a.log.words.now a.first),
+      chain_most a.log.words.now a.first,
       c.requires.room,
       length-replicate {A = ℕ} g.row.N 0,
     )
@@ -25,8 +25,8 @@ overflow_cast-result g c =
     let a = c.args in
     omega (
       arith,
-      history_most (def_at a.words.now a.bytes.now) false a.path.now (chain_of a.words.now a.first),
-      chain_most a.words.now a.first,
+      history_most (def_at a.log.words.now a.log.bytes.now) false a.path.now (chain_of a.log.words.now a.first),
+      chain_most a.log.words.now a.first,
       c.requires.room,
       c.requires.size,
       ap length c.history_of-history.ensures,

@@ -3,4 +3,4 @@ use Rattle.queries.proofs.Chain.{count_most}
 use Rattle.queries.proofs.live.live_list.Goals as goal
 
 pub live_within-requires-2-clause-room : goal.live_within-requires-2-clause-room
-live_within-requires-2-clause-room c = count_most c.args.words.now
+live_within-requires-2-clause-room c = count_most c.args.log.words.now

@@ -17,8 +17,8 @@ loop-i-init c =
       refl,
       refl,
       rw (drop-length a.order.now)
-          (table_start (def_at a.words.now a.bytes.now) a.base.now a.table.now.heads.now a.table.now.links.now c.requires.zeros),
-      sym (live_none (def_at a.words.now a.bytes.now) a.base.now a.order.now),
+          (table_start (def_at a.log.words.now a.log.bytes.now) a.base.now a.table.now.heads.now a.table.now.links.now c.requires.zeros),
+      sym (live_none (def_at a.log.words.now a.log.bytes.now) a.base.now a.order.now),
     )
 
 pub pass-requires-clause-table : goal.pass-requires-clause-table
@@ -33,8 +33,9 @@ loop-i-preserved-then-pass c =
     let l = c.loop-i in
     let n : l.i - 1 + 1 ≡ l.i = omega (arith, c.loop-i-test.true) in
     let q = rw (n, part_on a.order.now l.i) at c.pass.ensures in
-    let before = one_before (def_at a.words.now a.bytes.now) a.base.now a.order.now l.i c.loop-i-test.true (omega (arith, l.invariant.0)) in
-    let e = live_taken (def_at a.words.now a.bytes.now) a.base.now a.order.now l.i c.loop-i-test.true (omega (arith, l.invariant.0))
+    let def = def_at a.log.words.now a.log.bytes.now in
+    let before = one_before def a.base.now a.order.now l.i c.loop-i-test.true (omega (arith, l.invariant.0)) in
+    let e = live_taken def a.base.now a.order.now l.i c.loop-i-test.true (omega (arith, l.invariant.0))
     (sym q.value ∙ c.if-pass.true) in (
       omega (arith, l.invariant.0, c.loop-i-test.true),
       q.lengths.0 ∙ l.invariant.1,
@@ -51,8 +52,9 @@ loop-i-preserved c =
     let l = c.loop-i in
     let n : l.i - 1 + 1 ≡ l.i = omega (arith, c.loop-i-test.true) in
     let q = rw (n, part_on a.order.now l.i) at c.pass.ensures in
-    let before = one_before (def_at a.words.now a.bytes.now) a.base.now a.order.now l.i c.loop-i-test.true (omega (arith, l.invariant.0)) in
-    let e = live_passed (def_at a.words.now a.bytes.now) a.base.now a.order.now l.i c.loop-i-test.true (omega (arith, l.invariant.0))
+    let def = def_at a.log.words.now a.log.bytes.now in
+    let before = one_before def a.base.now a.order.now l.i c.loop-i-test.true (omega (arith, l.invariant.0)) in
+    let e = live_passed def a.base.now a.order.now l.i c.loop-i-test.true (omega (arith, l.invariant.0))
     (sym q.value ∙ c.if-pass.false) in (
       omega (arith, l.invariant.0),
       q.lengths.0 ∙ l.invariant.1,

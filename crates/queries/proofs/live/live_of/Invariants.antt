@@ -8,8 +8,10 @@ use Rattle.queries.specs.machine.Table.{Table}
 use Rattle.queries.proofs.live.live_of.Given as goal
 
 abbrev pub invariant-loop-i : goal.invariant-loop-i
-invariant-loop-i l = (l.count + l.i ≤ length l.order)
+invariant-loop-i l =
+    let def = def_at l.log.words.now l.log.bytes.now in
+    (l.count + l.i ≤ length l.order)
     × (length l.table.heads.now ≡ length l.fn.table.heads.now)
     × (length l.table.links.now ≡ length l.fn.table.links.now)
-    × Table (def_at l.words l.bytes) l.base (length l.table.heads.now) l.table.heads.now l.table.links.now (drop l.i l.order)
-    × (take l.count l.live ≡ live_numbers (def_at l.words l.bytes) l.base (drop l.i l.order))
+    × Table def l.base (length l.table.heads.now) l.table.heads.now l.table.links.now (drop l.i l.order)
+    × (take l.count l.live ≡ live_numbers def l.base (drop l.i l.order))

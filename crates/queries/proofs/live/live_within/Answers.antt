@@ -12,7 +12,7 @@ pub live_of-live-requires : goal.live_of-live-requires
 live_of-live-requires g c =
     let a = c.args in
     room_zeros g.row.N c.chain_order-order.result.now c.requires.table_size.0 c.requires.table_size.1
-    (omega (arith, ap length c.chain_order-order.ensures, chain_most a.words.now a.first, c.requires.room))
+    (omega (arith, ap length c.chain_order-order.ensures, chain_most a.log.words.now a.first, c.requires.room))
 
 pub overflow_cast-result : goal.overflow_cast-result
 overflow_cast-result g c =
@@ -20,9 +20,9 @@ overflow_cast-result g c =
     omega (
       arith,
       ap length c.live_of-live.ensures,
-      live_most (def_at a.words.now a.bytes.now) a.base.now c.chain_order-order.result.now,
+      live_most (def_at a.log.words.now a.log.bytes.now) a.base.now c.chain_order-order.result.now,
       ap length c.chain_order-order.ensures,
-      chain_most a.words.now a.first,
+      chain_most a.log.words.now a.first,
       c.requires.room,
       c.requires.table_size.1,
     )

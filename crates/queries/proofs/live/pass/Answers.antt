@@ -1,7 +1,6 @@
 -- By the kind, the base and what is looked up (Turn).
 use mathlib.Core.Path.{◌≡◌, refl, sym, ap, ◌∙◌}
 use mathlib.Core.Bool.{true, not, cond}
-use native.Mathlib.Omega.{arith}
 use Rattle.definition_log.specs.meaning.ReadBack.{def_at}
 use Rattle.queries.specs.declared.later.Above.{Above}
 use Rattle.queries.proofs.Table.{deleted_held, overwrites_held, same_length}
@@ -12,7 +11,7 @@ use Rattle.queries.proofs.live.pass.Goals.{then-above, else-above}
 pub returns-then-kind-eq-DELETED_NODE : goal.returns-then-kind-eq-DELETED_NODE
 returns-then-kind-eq-DELETED_NODE c =
     let a = c.args in
-    let told = turn_deleted_node a.words.now a.bytes.now a.r a.base.now a.table.now.heads.now a.table.now.links.now a.later.now _
+    let told = turn_deleted_node a.log.words.now a.log.bytes.now a.r a.base.now a.table.now.heads.now a.table.now.links.now a.later.now _
     c.kind_of-kind.ensures _
     c.first_text-path.ensures c.requires.room_for_one.0 c.requires.room_for_one.1 c.requires.table
     c.if-kind-eq-DELETED_NODE.true _ _
@@ -27,7 +26,7 @@ returns-then-kind-eq-DELETED_NODE c =
 pub returns-then-not-lies_under : goal.returns-then-not-lies_under
 returns-then-not-lies_under c =
     let a = c.args in
-    let told = turn_outside a.words.now a.bytes.now a.r a.base.now a.table.now.heads.now a.table.now.links.now a.later.now _
+    let told = turn_outside a.log.words.now a.log.bytes.now a.r a.base.now a.table.now.heads.now a.table.now.links.now a.later.now _
     c.kind_of-kind.ensures _ c.first_text-path.ensures c.requires.room_for_one.0 c.requires.room_for_one.1 c.requires.table
     c.if-kind-eq-DELETED_NODE.false (sym c.lies_under.ensures ∙ c.if-not-lies_under.true) in
     record { value = told.0; table_2 = told.1; lengths = (refl, refl) }
@@ -35,7 +34,8 @@ returns-then-not-lies_under c =
 pub returns-then-kind-eq-DELETED_PROPERTY : goal.returns-then-kind-eq-DELETED_PROPERTY
 returns-then-kind-eq-DELETED_PROPERTY c =
     let a = c.args in
-    let told = turn_deleted_property a.words.now a.bytes.now a.r a.base.now a.table.now.heads.now a.table.now.links.now a.later.now _
+    let told = turn_deleted_property a.log.words.now a.log.bytes.now a.r a.base.now a.table.now.heads.now
+    a.table.now.links.now a.later.now _
     c.kind_of-kind.ensures _
     c.first_text-path.ensures c.requires.room_for_one.0 c.requires.room_for_one.1
     c.requires.table c.if-kind-eq-DELETED_NODE.false
@@ -54,14 +54,13 @@ pub look_above-above-requires : goal.look_above-above-requires
 look_above-above-requires c =
     let a = c.args in
     let t = a.table.now in
-    let d = deleted_held (def_at a.words.now a.bytes.now) a.base.now t.heads.now t.links.now a.later.now c.requires.room_for_one.0
-    c.requires.table in
-    record { deleted = d; sized = (c.requires.room_for_one.0, omega arith) }
+    deleted_held (def_at a.log.words.now a.log.bytes.now) a.base.now t.heads.now t.links.now a.later.now c.requires.room_for_one.0
+    c.requires.table
 
 pub returns-then-kind-ne-PROPERTY : goal.returns-then-kind-ne-PROPERTY
 returns-then-kind-ne-PROPERTY c =
     let a = c.args in
-    let told = turn_other a.words.now a.bytes.now a.r a.base.now a.table.now.heads.now a.table.now.links.now a.later.now _
+    let told = turn_other a.log.words.now a.log.bytes.now a.r a.base.now a.table.now.heads.now a.table.now.links.now a.later.now _
     c.kind_of-kind.ensures _
     c.first_text-path.ensures c.requires.room_for_one.0 c.requires.room_for_one.1 c.requires.table
     c.if-kind-eq-DELETED_NODE.false
@@ -74,10 +73,9 @@ pub holds-overwritten-requires : goal.holds-overwritten-requires
 holds-overwritten-requires c =
     let a = c.args in
     let t = a.table.now in
-    let h = overwrites_held (def_at a.words.now a.bytes.now) a.base.now t.heads.now t.links.now a.later.now
+    overwrites_held (def_at a.log.words.now a.log.bytes.now) a.base.now t.heads.now t.links.now a.later.now
     c.requires.room_for_one.0 c.requires.table _ (sym c.lies_under.ensures ∙ c.if-not-lies_under.false) _
-    (ap (λ (b : Above). b.hash) c.look_above-above.ensures) in
-    record { holds = h; sized = (c.requires.room_for_one.0, omega arith) }
+    (ap (λ (b : Above). b.hash) c.look_above-above.ensures)
 
 pub enter-requires : goal.enter-requires
 enter-requires c =
@@ -91,7 +89,7 @@ returns c =
       | then-above w ↦ w.result-is ∙ rw w.if-above.true refl
       | else-above w ↦ w.result-is ∙ rw w.if-above.false refl
     ] in
-    let t = turn_property a.words.now a.bytes.now a.r a.base.now a.table.now.heads.now a.table.now.links.now a.later.now _
+    let t = turn_property a.log.words.now a.log.bytes.now a.r a.base.now a.table.now.heads.now a.table.now.links.now a.later.now _
     c.kind_of-kind.ensures _
     c.first_text-path.ensures c.requires.room_for_one.0 c.requires.room_for_one.1 c.requires.table
     c.if-kind-eq-DELETED_NODE.false (sym

@@ -13,7 +13,7 @@ use Rattle.queries.proofs.lookup.is_another.Goals as goal
 pub returns-then-kind_of-ne-NODE : goal.returns-then-kind_of-ne-NODE
 returns-then-kind_of-ne-NODE c =
     let a = c.args in
-    let t = by_tests_lem a.words.now a.bytes.now (read_defs a.words.now a.bytes.now a.first)
+    let t = by_tests_lem a.log.words.now a.log.bytes.now (read_defs a.log.words.now a.log.bytes.now a.first)
     (front_of a.parent.now ++ slash ∷ a.name.now) a.found a.r in
     let k = ap (λ (x : ℕ). eqb x 1) (sym c.kind_of.ensures) ∙ ne_eqb _ 1 c.if-kind_of-ne-NODE.true in
     sym (t ∙ rw k refl)
@@ -21,7 +21,7 @@ returns-then-kind_of-ne-NODE c =
 pub returns-then-not-is_elsewhere : goal.returns-then-not-is_elsewhere
 returns-then-not-is_elsewhere c =
     let a = c.args in
-    let t = by_tests_lem a.words.now a.bytes.now (read_defs a.words.now a.bytes.now a.first)
+    let t = by_tests_lem a.log.words.now a.log.bytes.now (read_defs a.log.words.now a.log.bytes.now a.first)
     (front_of a.parent.now ++ slash ∷ a.name.now) a.found a.r in
     let k = ap (λ (x : ℕ). eqb x 1) (sym c.kind_of.ensures)
     ∙ eq-eqb _ 1 c.if-kind_of-ne-NODE.false in
@@ -32,7 +32,7 @@ returns-then-not-is_elsewhere c =
 pub returns-then-not-may_mean : goal.returns-then-not-may_mean
 returns-then-not-may_mean c =
     let a = c.args in
-    let t = by_tests_lem a.words.now a.bytes.now (read_defs a.words.now a.bytes.now a.first)
+    let t = by_tests_lem a.log.words.now a.log.bytes.now (read_defs a.log.words.now a.log.bytes.now a.first)
     (front_of a.parent.now ++ slash ∷ a.name.now) a.found a.r in
     let k = ap (λ (x : ℕ). eqb x 1) (sym c.kind_of.ensures)
     ∙ eq-eqb _ 1 c.if-kind_of-ne-NODE.false in
@@ -44,7 +44,7 @@ returns-then-not-may_mean c =
 pub returns-then-not-lies_under : goal.returns-then-not-lies_under
 returns-then-not-lies_under c =
     let a = c.args in
-    let t = by_tests_lem a.words.now a.bytes.now (read_defs a.words.now a.bytes.now a.first)
+    let t = by_tests_lem a.log.words.now a.log.bytes.now (read_defs a.log.words.now a.log.bytes.now a.first)
     (front_of a.parent.now ++ slash ∷ a.name.now) a.found a.r in
     let k = ap (λ (x : ℕ). eqb x 1) (sym c.kind_of.ensures)
     ∙ eq-eqb _ 1 c.if-kind_of-ne-NODE.false in
@@ -58,7 +58,7 @@ returns-then-not-lies_under c =
 pub returns : goal.returns
 returns c =
     let a = c.args in
-    let t = by_tests_lem a.words.now a.bytes.now (read_defs a.words.now a.bytes.now a.first)
+    let t = by_tests_lem a.log.words.now a.log.bytes.now (read_defs a.log.words.now a.log.bytes.now a.first)
     (front_of a.parent.now ++ slash ∷ a.name.now) a.found a.r in
     let k = ap (λ (x : ℕ). eqb x 1) (sym c.kind_of.ensures) ∙ eq-eqb _ 1 c.if-kind_of-ne-NODE.false in
     let w = c.first_text-path.ensures in

@@ -5,7 +5,7 @@ use Rattle.queries.proofs.lookup.short_node.Goals as goal
 pub loop-r-init : goal.loop-r-init
 loop-r-init c =
     let a = c.args in
-    passing_start a.words.now a.bytes.now a.first _ _
+    passing_start a.log.words.now a.log.bytes.now a.first _ _
     (rw c.into_iter-r-iterator.ensures.into_iter_gives c.chain-r-items.ensures)
 
 pub returns-then-is_some : goal.returns-then-is_some

@@ -7,5 +7,5 @@ use Rattle.queries.proofs.Picked.{Passing}
 use Rattle.queries.proofs.lookup.short_node.Given as goal
 
 abbrev pub invariant-loop-r : goal.invariant-loop-r
-invariant-loop-r l = Passing l.words l.bytes l.first (front_of l.parent ++ slash ∷ l.name) l.found
+invariant-loop-r l = Passing l.log.words.now l.log.bytes.now l.first (front_of l.parent ++ slash ∷ l.name) l.found
     (chain_left l.r-iterator)

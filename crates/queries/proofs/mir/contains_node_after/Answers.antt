@@ -8,11 +8,11 @@ use Rattle.queries.proofs.mir.contains_node_after.Goals as goal
 pub returns-then-found : goal.returns-then-found
 returns-then-found g c =
     let a = c.args in
-    ap not c.deletes_above.ensures ∙ after_found (nodes_at (g.P.PathLike.path a.path)) (def_at a.words.now a.bytes.now a.r) a.found
+    ap not c.deletes_above.ensures ∙ after_found (nodes_at (g.P.PathLike.path a.path)) (def_at a.log.words.now a.log.bytes.now a.r) a.found
     c.if-found.true
 
 pub returns : goal.returns
 returns g c =
     let a = c.args in
-    c.is_node_at.ensures ∙ after_none (nodes_at (g.P.PathLike.path a.path)) (def_at a.words.now a.bytes.now a.r) a.found
+    c.is_node_at.ensures ∙ after_none (nodes_at (g.P.PathLike.path a.path)) (def_at a.log.words.now a.log.bytes.now a.r) a.found
     c.if-found.false

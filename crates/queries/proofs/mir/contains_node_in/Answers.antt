@@ -9,19 +9,19 @@ pub loop-r-init : goal.loop-r-init
 unfolding read_defs contains_node
 loop-r-init g c =
     let a = c.args in
-    live_found_at (nodes_at (g.P.PathLike.path a.path)) (map (def_at a.words.now a.bytes.now) (chain_of a.words.now a.first))
+    live_found_at (nodes_at (g.P.PathLike.path a.path)) (map (def_at a.log.words.now a.log.bytes.now) (chain_of a.log.words.now a.first))
     ∙ rw (c.into_iter-r-iterator.ensures.into_iter_gives, c.chain-r-items.ensures) refl
 
 pub loop-r-preserved : goal.loop-r-preserved
 loop-r-preserved g c =
     let a = c.args in
     let p = g.P.PathLike.path a.path in
-    found_step (def_at a.words.now a.bytes.now) (node_at p) (deletes p) c.loop-r.found c.loop-r.invariant
+    found_step (def_at a.log.words.now a.log.bytes.now) (node_at p) (deletes p) c.loop-r.found c.loop-r.invariant
     c.in-Some.ensures.steps c.contains_node_after-found.ensures
 
 pub returns : goal.returns
 returns g c =
     let a = c.args in
     let p = g.P.PathLike.path a.path in
-    found_end (def_at a.words.now a.bytes.now) (node_at p) (deletes p) c.loop-r.found c.loop-r.invariant
+    found_end (def_at a.log.words.now a.log.bytes.now) (node_at p) (deletes p) c.loop-r.found c.loop-r.invariant
     c.in-None.ensures.steps.0

@@ -9,6 +9,6 @@ use Rattle.queries.proofs.mir.contains_node_in.Given as goal
 
 abbrev pub invariant-loop-r : goal.invariant-loop-r
 invariant-loop-r g l =
-    contains_node (g.P.PathLike.path l.path) (read_defs l.words l.bytes l.first)
+    contains_node (g.P.PathLike.path l.path) (read_defs l.log.words.now l.log.bytes.now l.first)
     ≡ found_from (node_at (g.P.PathLike.path l.path)) (deletes (g.P.PathLike.path l.path)) l.found
-    (map (def_at l.words l.bytes) (chain_left l.r-iterator))
+    (map (def_at l.log.words.now l.log.bytes.now) (chain_left l.r-iterator))

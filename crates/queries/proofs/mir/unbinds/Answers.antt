@@ -8,10 +8,10 @@ pub returns-then-holds : goal.returns-then-holds
 returns-then-holds g c =
     let a = c.args in
     c.unbinds_in.ensures ∙ sym (live_base (labels_at a.label.now a.path.now) (g.B.PathLike.path a.base)
-    (read_defs a.words.now a.bytes.now a.first) ∙ rw (sym c.holds.ensures ∙ c.if-holds.true) refl)
+    (read_defs a.log.words.now a.log.bytes.now a.first) ∙ rw (sym c.holds.ensures ∙ c.if-holds.true) refl)
 
 pub returns-else-holds : goal.returns-else-holds
 returns-else-holds g c =
     let a = c.args in
     c.if-holds.false ∙ sym (live_base (labels_at a.label.now a.path.now) (g.B.PathLike.path a.base)
-    (read_defs a.words.now a.bytes.now a.first) ∙ rw (sym c.holds.ensures ∙ c.if-holds.false) refl)
+    (read_defs a.log.words.now a.log.bytes.now a.first) ∙ rw (sym c.holds.ensures ∙ c.if-holds.false) refl)

@@ -9,10 +9,10 @@ pub returns-then-found : goal.returns-then-found
 returns-then-found c =
     let a = c.args in
     ap not c.deletes_above.ensures ∙ after_found (labels_at a.label.now a.path.now)
-    (def_at a.words.now a.bytes.now a.r) a.found c.if-found.true
+    (def_at a.log.words.now a.log.bytes.now a.r) a.found c.if-found.true
 
 pub returns : goal.returns
 returns c =
     let a = c.args in
-    c.has_label_at.ensures ∙ after_none (labels_at a.label.now a.path.now) (def_at a.words.now a.bytes.now a.r)
+    c.has_label_at.ensures ∙ after_none (labels_at a.label.now a.path.now) (def_at a.log.words.now a.log.bytes.now a.r)
     a.found c.if-found.false

@@ -11,5 +11,6 @@ use Rattle.queries.proofs.mir.unbinds_in.Given as goal
 
 abbrev pub invariant-loop-r : goal.invariant-loop-r
 invariant-loop-r l =
-    any (has_label_at l.label l.path) (live l.path (read_defs l.words l.bytes l.first))
-    ≡ found_from (has_label_at l.label l.path) (deletes l.path) l.found (map (def_at l.words l.bytes) (chain_left l.r-iterator))
+    any (has_label_at l.label l.path) (live l.path (read_defs l.log.words.now l.log.bytes.now l.first))
+    ≡ found_from (has_label_at l.label l.path) (deletes l.path) l.found
+    (map (def_at l.log.words.now l.log.bytes.now) (chain_left l.r-iterator))

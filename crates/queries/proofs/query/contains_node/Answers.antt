@@ -11,7 +11,7 @@ pub returns-in_err-refused : goal.returns-in_err-refused
 returns-in_err-refused c =
     let a = c.args in
     let p = err_from_is_err_and c.from_residual.result c.from_residual.ensures.1 in
-    rw (p.1, p.2) (contains_refused a.words.now a.bytes.now a.path.now _ c.in_err-refused.ensures (refused_number _))
+    rw (p.1, p.2) (contains_refused a.log.words.now a.log.bytes.now a.path.now _ c.in_err-refused.ensures (refused_number _))
 
 -- a truth as a number
 as_number : (t : Bool) → bool_byte t ≡ cond t 1 0
@@ -21,5 +21,5 @@ as_number false = refl
 pub returns : goal.returns
 returns c =
     let a = c.args in
-    contains_answered a.words.now a.bytes.now a.path.now _ _ _ _ c.in_ok-refused.ensures refl c.out_field-first.ensures
+    contains_answered a.log.words.now a.log.bytes.now a.path.now _ _ _ _ c.in_ok-refused.ensures refl c.out_field-first.ensures
     c.contains_node_in-found.ensures (as_number c.contains_node_in-found.result)

@@ -11,21 +11,21 @@ use Rattle.queries.proofs.query.iter_live_defs_under.Goals as goal
 pub returns-in_err-refused : goal.returns-in_err-refused
 returns-in_err-refused c =
     let a = c.args in
-    let x = live_answers a.words.now a.bytes.now a.base.now in
+    let x = live_answers a.log.words.now a.log.bytes.now a.base.now in
     let e = c.in_err-refused.ensures in
     let p = err_from_is_err_and c.from_residual.result c.from_residual.ensures.1 in
     record {
-      result_value = rw (p.1, p.2) (refused_answer a.words.now a.bytes.now a.base.now a.list.now x _ e (refused_number _));
-      list_after = refused_out a.words.now a.bytes.now a.base.now a.list.now x _ e (refused_number _);
+      result_value = rw (p.1, p.2) (refused_answer a.log.words.now a.log.bytes.now a.base.now a.list.now x _ e (refused_number _));
+      list_after = refused_out a.log.words.now a.log.bytes.now a.base.now a.list.now x _ e (refused_number _);
     }
 
 pub returns : goal.returns
 returns c =
     let a = c.args in
-    let of = live_of a.words.now a.bytes.now a.base.now _ c.out_field-first.ensures in
+    let of = live_of a.log.words.now a.log.bytes.now a.base.now _ c.out_field-first.ensures in
     let e = c.in_ok-refused.ensures in
     let l = c.live_list-count in record {
-      result_value = listed_answer a.words.now a.bytes.now a.base.now a.list.now _ _ e _ _ _ refl (l.ensures.0 ∙ ap length of)
+      result_value = listed_answer a.log.words.now a.log.bytes.now a.base.now a.list.now _ _ e _ _ _ refl (l.ensures.0 ∙ ap length of)
           l.auto.list c.list_answer.ensures;
-      list_after = fitted_out a.words.now a.bytes.now a.base.now a.list.now _ _ e _ refl (l.ensures.1 ∙ ap (fitted a.list.now) of);
+      list_after = fitted_out a.log.words.now a.log.bytes.now a.base.now a.list.now _ _ e _ refl (l.ensures.1 ∙ ap (fitted a.list.now) of);
     }

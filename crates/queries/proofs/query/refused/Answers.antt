@@ -9,9 +9,9 @@ pub returns-in_err-log_refused : goal.returns-in_err-log_refused
 returns-in_err-log_refused c =
     let a = c.args in
     let p = err_from_is_err_and c.from_residual.result c.from_residual.ensures.1 in
-    rw (p.1, p.2) (refused_log_lem a.words.now a.bytes.now a.path.now _ c.in_err-log_refused.ensures (refused_number _))
+    rw (p.1, p.2) (refused_log_lem a.log.words.now a.log.bytes.now a.path.now _ c.in_err-log_refused.ensures (refused_number _))
 
 pub returns : goal.returns
 returns c =
     let a = c.args in
-    refused_path_lem a.words.now a.bytes.now a.path.now _ c.in_ok-log_refused.ensures _ refl c.path_refused.ensures
+    refused_path_lem a.log.words.now a.log.bytes.now a.path.now _ c.in_ok-log_refused.ensures _ refl c.path_refused.ensures

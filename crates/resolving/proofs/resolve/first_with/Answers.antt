@@ -6,7 +6,7 @@ pub loop-r-init : goal.loop-r-init
 loop-r-init c =
     let a = c.args in
     rw (c.into_iter-r-iterator.ensures.into_iter_gives, c.chain-r-items.ensures)
-    (passed_none a.out.now a.bytes.now a.first a.text.now)
+    (passed_none a.log.words.now a.log.bytes.now a.first a.text.now)
 
 pub returns-then-equals : goal.returns-then-equals
 returns-then-equals c =

@@ -4,4 +4,4 @@ use Rattle.resolving.proofs.Leading.{Passed}
 use Rattle.resolving.proofs.resolve.first_with.Given as goal
 
 abbrev pub invariant-loop-r : goal.invariant-loop-r
-invariant-loop-r l = Passed l.out l.bytes l.first l.text l.previous (chain_left l.r-iterator)
+invariant-loop-r l = Passed l.log.words.now l.log.bytes.now l.first l.text l.previous (chain_left l.r-iterator)

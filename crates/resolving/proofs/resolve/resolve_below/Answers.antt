@@ -6,7 +6,7 @@ use Rattle.resolving.proofs.resolve.resolve_below.Goals as goal
 pub returns-in_default : goal.returns-in_default
 returns-in_default c =
     let a = c.args in
-    (no_label_below a.out.now a.bytes.now a.label.now a.path.now a.binds c.in_default.ensures _, no_label_in)
+    (no_label_below a.log.words.now a.log.bytes.now a.label.now a.path.now a.binds c.in_default.ensures _, no_label_in)
 
 pub returns-in-Exact : goal.returns-in-Exact
 returns-in-Exact c = answers_below c.in-Some.ensures c.lookup_path.result _

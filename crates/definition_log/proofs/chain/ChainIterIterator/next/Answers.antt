@@ -1,12 +1,11 @@
 -- What is left of the chain, by the step (ChainLeft).
-use Prim.Native.Nat.{ℕ, ◌<◌}
-use mathlib.Core.Path.{◌≡◌, ap}
-use mathlib.Core.List.{List, ◌∷◌}
+use Prim.Native.Nat.{ℕ}
+use mathlib.Core.Path.{ap}
 use native.Mathlib.Omega.{arith}
 use lib.ListN.{length}
 use Rattle.std.specs.Prelude.{Option, Some, None}
 use Rattle.std.specs.Iterator.{MakesProgress, YieldsFirst, item_count}
-use Rattle.definition_log.specs.machine.ChainLeft.{walk_left, chain_left}
+use Rattle.definition_log.specs.machine.ChainLeft.{chain_left}
 use Rattle.definition_log.specs.declared.chain.ChainIter.{ChainIter}
 use Rattle.definition_log.proofs.ChainLeft.{yielded}
 use Rattle.definition_log.proofs.chain.ChainIterIterator.next.Goals as goal

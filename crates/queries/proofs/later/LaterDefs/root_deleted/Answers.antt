@@ -4,7 +4,7 @@ use native.Mathlib.Omega.{arith}
 use lib.Seq.{length-take-le}
 use mathlib.Core.Path.{refl}
 use Rattle.queries.proofs.Fronts.{first_none, first_other, first_slash, root_hash}
-use Rattle.queries.proofs.later.LaterTable.root_deleted.Goals as goal
+use Rattle.queries.proofs.later.LaterDefs.root_deleted.Goals as goal
 
 pub returns-then-path-eq0 : goal.returns-then-path-eq0
 returns-then-path-eq0 c = rw (first_none c.args.path.now c.if-path-eq0.true) refl
@@ -21,7 +21,7 @@ pub or_deleted-requires : goal.or_deleted-requires
 or_deleted-requires c =
     let a = c.args in
     let f = first_slash a.path.now c.if-path-eq0.false c.if-path-ne47.false in
-    record { deleted = c.requires.deleted; sized = c.requires.sized; hash_value = rw f.1 (sym root_hash) }
+    record { deleted = c.requires; hash_value = rw f.1 (sym root_hash) }
 
 pub returns : goal.returns
 returns c =

@@ -7,13 +7,14 @@ use lib.ListN.{length, drop}
 use Rattle.definition_log.specs.meaning.ReadBack.{def_at}
 use Rattle.paths_numbers.specs.meaning.Lists.{any}
 use Rattle.queries.specs.machine.Table.{Holds, takes_at}
-use Rattle.queries.proofs.later.finds.Given as goal
+use Rattle.queries.proofs.later.LaterTable.finds.Given as goal
 
 abbrev pub invariant-loop-e : goal.invariant-loop-e
-invariant-loop-e l = (l.e ≤ length l.later)
-    × (any (takes_at l.deleted l.path) (map (def_at l.words l.bytes) l.later) ≡ any (takes_at l.deleted l.path)
-    (map (def_at l.words l.bytes) (drop (length l.later - l.e) l.later))) × Holds (def_at l.words l.bytes) (takes_at l.deleted l.path) l.links
-    (drop (length l.later - l.e) l.later) l.e
+invariant-loop-e l =
+    let def = def_at l.log.words.now l.log.bytes.now in
+    let wanted = takes_at l.deleted l.path in
+    let rest = drop (length l.later - l.e) l.later in
+    (l.e ≤ length l.later) × (any wanted (map def l.later) ≡ any wanted (map def rest)) × Holds def wanted l.self.links.now rest l.e
 
 abbrev pub decreases-loop-e : goal.decreases-loop-e
 decreases-loop-e l = l.e
