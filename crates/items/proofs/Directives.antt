@@ -6,7 +6,7 @@ use mathlib.Core.List.{List, [], ◌∷◌}
 use mathlib.Core.Option.{Option, some, none}
 use native.Mathlib.Omega.{arith}
 use borrow.Author.Tests.{ne_eqb}
-use Rattle.std.specs.Prelude.{Result, Ok, Err}
+use Rattle.std.specs.Prelude.{Result, Ok, Err, Some, None}
 use Rattle.paths_numbers.specs.meaning.Path.{joined}
 use Rattle.paths_numbers.specs.meaning.Reference.{Target}
 use Rattle.paths_numbers.proofs.Texts.{not_both}
@@ -99,7 +99,7 @@ module _ (t : Target) (rec : Tree) (span : Span) (c : LowerCtx) {out bytes l p :
         → first_binding l s.binds ≡ some (second_text out bytes r)
     first_in h r q = ap (first_binding l) (sym (represents_bindings h n)) ∙ i.first r q
 
-    pub target_bound : {d : LowerCtx} {w b : List ℕ} (r : ℕ) → v ≡ Ok (R.Bound r) → DeletesBound false l p span c d out bytes w b
+    pub target_bound : {d : LowerCtx} {w b : List ℕ} (r : ℕ) → v ≡ Ok (R.Bound r) → DeletesBound None l span c d out bytes w b
         → Deletes t rec span c d out bytes w b
     unfolding resolution
     target_bound r q x =
@@ -108,7 +108,7 @@ module _ (t : Target) (rec : Tree) (span : Span) (c : LowerCtx) {out bytes l p :
               rw (resolved h ∙ ap (resolution out bytes l p) q) (x.deletes k s (second_text out bytes r) h n (first_in h r (ap bound_by q)));
         }
 
-    pub target_below_lem : {d : LowerCtx} {w b : List ℕ} (r : ℕ) → v ≡ Ok (R.BoundPath r) → DeletesBound true l p span c d out bytes w b
+    pub target_below_lem : {d : LowerCtx} {w b : List ℕ} (r : ℕ) → v ≡ Ok (R.BoundPath r) → DeletesBound (Some p) l span c d out bytes w b
         → Deletes t rec span c d out bytes w b
     unfolding resolution
     target_below_lem r q x =
