@@ -3,6 +3,7 @@ use Prim.Native.Nat.{ℕ}
 use mathlib.Core.Path.{◌≡◌, refl, ap, subst, ◌∙◌}
 use mathlib.Core.Bool.{Bool, true, false, cond}
 use mathlib.Core.List.{List, [], ◌∷◌, ◌++◌, map}
+use Rattle.std.specs.Borrow.{Bor}
 use Rattle.paths_numbers.specs.meaning.Text.{same}
 use Rattle.paths_numbers.specs.meaning.Path.{joined}
 use Rattle.paths_numbers.proofs.Texts.{by_test, not_both, both}
@@ -50,19 +51,19 @@ module _ {c : LowerCtx} {words bytes : List ℕ} (z : c.short ≡ true) where
   short_under {f = f} g = record { lowers = λ k p s r. stays_over (f p s) (λ q. (q, refl, refl)) z ((g p).records s) ((g p).bytes s) r }
 
 -- by a name under a path
-pub deletes_named : {parent : PathAt} {name unit : List ℕ} (span : LogSpan) {c d e : LowerCtx} {words bytes w b v u : List ℕ}
+pub deletes_named : {parent : PathAt} {name unit : Bor (List ℕ)} (span : LogSpan) {c d e : LowerCtx} {words bytes w b v u : List ℕ}
     → c.short ≡ false
-    → UnbindsAll (Named parent) name unit c d words bytes w b
-    → Steps d e w b v u (define (bare_def D.DeletedNode span span (joined (path_in d.bytes b parent) name unit)))
-    → LowersAt parent c e words bytes v u (λ p s. delete_node (joined p name unit) (meant span) s)
+    → UnbindsAll (Named parent name unit) c d words bytes w b
+    → Steps d e w b v u (define (bare_def D.DeletedNode span span (joined (path_in d.bytes b parent) name.now unit.now)))
+    → LowersAt parent c e words bytes v u (λ p s. delete_node (joined p name.now unit.now) (meant span) s)
 unfolding delete_node
 deletes_named {parent} {name} {unit} span {e = e} {v = v} {u} n x f =
     record {
       lowers = λ k p s r.
           let k' = with_place (record { at = parent; path = p }) k in
-          let q = joined p name unit in
-          let y = x.unbinds k' s q r n (at_named parent p k refl refl) in
-          subst (λ (z : List ℕ). Represents k' e v u (define (bare (joined z name unit) deleted_node (meant span)) (unbind q s)))
+          let q = joined p name.now unit.now in
+          let y = x.unbinds k' s q r n (at_named parent name unit p k refl refl) in
+          subst (λ (z : List ℕ). Represents k' e v u (define (bare (joined z name.now unit.now) deleted_node (meant span)) (unbind q s)))
           (place_reads y.0 y.1)
           (f.steps k' (unbind q s) y.0 y.1);
     }
@@ -107,37 +108,37 @@ no_definition words bytes t (n ∷ ns) h =
     by_test (has_text words bytes t n) (λ q. absurd (not_both (rw q refl) h)) (λ q. rw q (no_definition words bytes t ns (rw q at h)))
 
 -- by a live node's path
-pub deletes_at : {path : List ℕ} (span : LogSpan) {number previous : ℕ} {c d e : LowerCtx} {words bytes w b v u : List ℕ}
-    → UnbindsAll Given path path c d words bytes w b → FirstAt w b d.defs.first path number previous
+pub deletes_at : {path : Bor (List ℕ)} (span : LogSpan) {number previous : ℕ} {c d e : LowerCtx} {words bytes w b v u : List ℕ}
+    → UnbindsAll (Given path) c d words bytes w b → FirstAt w b d.defs.first path.now number previous
     → Steps d e w b v u (define (bare_def D.DeletedNode span span (path_in d.bytes b (placed_in w number 2))))
-    → DeletesAt path (meant span) c e words bytes v u
+    → DeletesAt path.now (meant span) c e words bytes v u
 unfolding delete_node unbind
 deletes_at {path} span {number} {e = e} {v = v} {u} x at g =
     record {
       deletes = λ k s r n h.
-          let y = x.unbinds k s path r n (at_given refl) in
-          subst (λ (q : List ℕ). Represents k e v u (define (bare q deleted_node (meant span)) (unbind path s)))
+          let y = x.unbinds k s path.now r n (at_given path refl) in
+          subst (λ (q : List ℕ). Represents k e v u (define (bare q deleted_node (meant span)) (unbind path.now s)))
           (def_path y.0 y.1 at.before at.after number at.chain ∙ at.has)
-          (g.steps k (unbind path s) y.0 y.1);
+          (g.steps k (unbind path.now s) y.0 y.1);
     }
 
 -- a live node's path that no definition has: there is none
-pub never_at : {path : List ℕ} {span : Span} {c d : LowerCtx} {words bytes w b : List ℕ}
-    → UnbindsAll Given path path c d words bytes w b → any (has_text w b path) (chain_of w d.defs.first) ≡ false
-    → DeletesAt path span c d words bytes w b
+pub never_at : {path : Bor (List ℕ)} {span : Span} {c d : LowerCtx} {words bytes w b : List ℕ}
+    → UnbindsAll (Given path) c d words bytes w b → any (has_text w b path.now) (chain_of w d.defs.first) ≡ false
+    → DeletesAt path.now span c d words bytes w b
 unfolding unbind read_defs
 never_at {path} {d = d} {w = w} {b} x m =
     record {
       deletes = λ k s r n h.
-          let y = x.unbinds k s path r n (at_given refl) in
-          let there : any (λ (q : Def). same q.path path) (read_defs w b d.defs.first) ≡ true = ap
-          (any (λ (q : Def). same q.path path)) (represents_defs y.0 y.1) ∙ contains_path path s.defs h in
-          absurd (not_both there (no_definition w b path (chain_of w d.defs.first) m));
+          let y = x.unbinds k s path.now r n (at_given path refl) in
+          let there : any (λ (q : Def). same q.path path.now) (read_defs w b d.defs.first) ≡ true = ap
+          (any (λ (q : Def). same q.path path.now)) (represents_defs y.0 y.1) ∙ contains_path path.now s.defs h in
+          absurd (not_both there (no_definition w b path.now (chain_of w d.defs.first) m));
     }
 
 -- by a definition of it, whose path stands at a place while bindings go
-pub deletes_there : (r : ℕ) (span : LogSpan) {place : PathAt} {name unit : List ℕ} {c d e : LowerCtx} {words bytes w b v u : List ℕ}
-    → place ≡ placed_in words r 2 → UnbindsAll (There place) name unit c d words bytes w b
+pub deletes_there : (r : ℕ) (span : LogSpan) {place : PathAt} {c d e : LowerCtx} {words bytes w b v u : List ℕ}
+    → place ≡ placed_in words r 2 → UnbindsAll (There place) c d words bytes w b
     → Steps d e w b v u (define (bare_def D.DeletedNode span span (path_in d.bytes b place)))
     → DeletesThere r (meant span) c e words bytes v u
 unfolding delete_node

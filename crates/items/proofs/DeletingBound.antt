@@ -8,6 +8,7 @@ use native.Mathlib.Omega.{arith}
 use borrow.Author.Tests.{eq-eqb}
 use lib.ListN.{length, length-append, length-map}
 use lib.Seq.{append_snoc}
+use Rattle.std.specs.Borrow.{Bor}
 use Rattle.paths_numbers.specs.meaning.Text.{same}
 use Rattle.paths_numbers.specs.meaning.Path.{joined}
 use Rattle.paths_numbers.proofs.Texts.{by_test, not_both, same_refl}
@@ -34,8 +35,9 @@ use Rattle.resolving.specs.meaning.Resolve.{first_binding}
 use Rattle.items.specs.meaning.Unbind.{binds_label_of, without, unbind}
 use Rattle.items.specs.meaning.Lower.{bare, delete_node}
 use Rattle.resolving.specs.machine.Leading.{has_text, FirstAt}
-use Rattle.items.specs.machine.Unbinding.{base_of, goes_with, stop_of, with_binds, passed, ahead, BaseAt, at_bound, at_below, Stays}
-use Rattle.items.specs.machine.Unbinding.{Walk, Unbinds, bound_base, bound_path, FirstOfLabel, UnbindsOthers, UnbindsBehind, UnlinksFirst}
+use Rattle.items.specs.machine.Unbinding.{base_of, goes_with, text_of, stop_of, with_binds, passed, ahead, BaseAt, at_bound, at_below}
+use Rattle.items.specs.machine.Unbinding.{Stays, Walk, Unbinds, bound_base, bound_path, FirstOfLabel, UnbindsOthers, UnbindsBehind}
+use Rattle.items.specs.machine.Unbinding.{UnlinksFirst}
 use Rattle.items.specs.machine.Deleting.{DeletesBound, DefinesBound}
 use Rattle.items.specs.declared.unbind.Base.{Base}
 use Rattle.items.specs.declared.unbind.Unbound.{Unbound}
@@ -156,15 +158,15 @@ module _ (l : List ℕ) {c : LowerCtx} {words bytes : List ℕ} (m : any (has_te
             (λ t. absurd (search_finds l h t x.path (first_some g) m));
       }
 
-  pub never_others : (below : Bool) (name unit : List ℕ) → UnbindsOthers below name unit l c c words bytes words bytes
-  never_others below name unit =
+  pub never_others : (below : Maybe (List ℕ)) → UnbindsOthers below l c c words bytes words bytes
+  never_others below =
       record { unbinds = λ k s xs x ys h n g. absurd (search_finds l h n x.path (first_some g) m) }
 
-  pub never_defined : (below : Bool) (path : List ℕ) (span : Span) → DefinesBound below l path span c c words bytes words bytes
-  never_defined below path span = record { defines = λ k s p h n e. absurd (search_finds l h n p e m) }
+  pub never_defined : (below : Maybe (List ℕ)) (span : Span) → DefinesBound below l span c c words bytes words bytes
+  never_defined below span = record { defines = λ k s p h n e. absurd (search_finds l h n p e m) }
 
-  pub never_deleted : (below : Bool) (path : List ℕ) (span : Span) → DeletesBound below l path span c c words bytes words bytes
-  never_deleted below path span = record { deletes = λ k s p h n e. absurd (search_finds l h n p e m) }
+  pub never_deleted : (below : Maybe (List ℕ)) (span : Span) → DeletesBound below l span c c words bytes words bytes
+  never_deleted below span = record { deletes = λ k s p h n e. absurd (search_finds l h n p e m) }
 
 -- the deletion, at its path
 module _ {l : List ℕ} {number previous : ℕ} {c : LowerCtx} {words bytes : List ℕ}
@@ -177,48 +179,47 @@ module _ {l : List ℕ} {number previous : ℕ} {c : LowerCtx} {words bytes : Li
       let i : second_text words bytes number ≡ p = cc in
       binding_path h n at.before at.after number at.chain ∙ i
 
-  pub defines_below : (span : LogSpan) (below : Bool) {path : List ℕ} {d : LowerCtx} {w b : List ℕ} → below ≡ true
+  pub defines_below : (span : LogSpan) (name : List ℕ) {d : LowerCtx} {w b : List ℕ}
       → Steps c d words bytes w b (define (bare_def D.DeletedNode span span
-      (joined (path_in c.bytes bytes (placed_in words number 4)) path [])))
-      → DefinesBound below l path (meant span) c d words bytes w b
-  defines_below span below {path} {d} {w} {b} t g =
+      (joined (path_in c.bytes bytes (placed_in words number 4)) name [])))
+      → DefinesBound (Some name) l (meant span) c d words bytes w b
+  defines_below span name {d} {w} {b} g =
       record {
         defines = λ k s p h n e.
-            rw t
-            (subst (λ (q : List ℕ). Represents k d w b (define (bare (joined q path []) deleted_node (meant span)) s)) (path_read h n p e)
-            (g.steps k s h n));
+            subst (λ (q : List ℕ). Represents k d w b (define (bare (joined q name []) deleted_node (meant span)) s)) (path_read h n p e)
+            (g.steps k s h n);
       }
 
-  pub defines_whole : (span : LogSpan) (below : Bool) (path : List ℕ) {d : LowerCtx} {w b : List ℕ} → below ≡ false
+  pub defines_whole : (span : LogSpan) {d : LowerCtx} {w b : List ℕ}
       → Steps c d words bytes w b (define (bare_def D.DeletedNode span span (path_in c.bytes bytes (placed_in words number 4))))
-      → DefinesBound below l path (meant span) c d words bytes w b
-  defines_whole span below path {d} {w} {b} t g =
+      → DefinesBound None l (meant span) c d words bytes w b
+  defines_whole span {d} {w} {b} g =
       record {
         defines = λ k s p h n e.
-            rw t (subst (λ (q : List ℕ). Represents k d w b (define (bare q deleted_node (meant span)) s)) (path_read h n p e)
-            (g.steps k s h n));
+            subst (λ (q : List ℕ). Represents k d w b (define (bare q deleted_node (meant span)) s)) (path_read h n p e)
+            (g.steps k s h n);
       }
 
 -- the base by a binding of the log
-base_by : (below : Bool) {k : Context} {w b name unit : List ℕ} {until : Maybe (List ℕ)} {ns ms : List ℕ} (r : ℕ) (p : List ℕ)
-    → p ≡ bound_path below (second_text w b r) name unit
-    → Stays w b until r ns ms → BaseAt k w b name unit until ns ms p (bound_base below r)
-base_by true r p e m = at_below r m e
-base_by false r p e m = at_bound r m e
+base_by : (below : Maybe (Bor (List ℕ))) {k : Context} {w b : List ℕ} {until : Maybe (List ℕ)} {ns ms : List ℕ} (r : ℕ) (p : List ℕ)
+    → p ≡ bound_path (text_of below) (second_text w b r)
+    → Stays w b until r ns ms → BaseAt k w b until ns ms p (bound_base below r)
+base_by None r p e m = at_bound r m e
+base_by (Some name) r p e m = at_below r name m e
 
 member_here : (r : ℕ) (xs ys : List ℕ) → one_of r (xs ++ r ∷ ys) ≡ true
 unfolding one_of
 member_here r xs ys = member_behind r xs (r ∷ ys) (rw (eq-eqb r r refl) refl)
 
 -- all others taken out: first those before it, then those behind it
-module _ (below : Bool) {name unit l : List ℕ} {number before : ℕ} {c : LowerCtx} {words bytes w b : List ℕ} {from : Cursor} {up : Unbound}
-    (at : FirstAt words bytes c.binds.first l number before) (q : from ≡ record { next = c.binds.first; left = log_count words })
-    (one : Unbinds (bound_base below number) name unit (Some l) c words bytes w b 0 from up)
+module _ (below : Maybe (Bor (List ℕ))) {l : List ℕ} {number before : ℕ} {c : LowerCtx} {words bytes w b : List ℕ} {from : Cursor}
+    {up : Unbound} (at : FirstAt words bytes c.binds.first l number before) (q : from ≡ record { next = c.binds.first; left = log_count words })
+    (one : Unbinds (bound_base below number) (Some l) c words bytes w b 0 from up)
     {k : Context} {s : State} {xs : List Binding} {x : Binding} {ys : List Binding} (h : Represents k c words bytes s)
     (n : c.short ≡ false) (g : FirstOfLabel l s xs x ys)
   where
     abbrev p : List ℕ
-    p = bound_path below x.path name unit
+    p = bound_path (text_of below) x.path
 
     abbrev ds : List Def
     ds = live p s.defs
@@ -229,12 +230,12 @@ module _ (below : Bool) {name unit l : List ℕ} {number before : ℕ} {c : Lowe
         ∙ ap (first_binding l) (sym (represents_bindings h n)) ∙ label_there words bytes l at in
         cc
 
-    walked : Walk (bound_base below number) name unit (Some l) k s [] p up.ctx w b up.previous one.last.next one.last.left
+    walked : Walk (bound_base below number) (Some l) k s [] p up.ctx w b up.previous one.last.next one.last.left
     unfolding binding_at
     walked =
         one.walks k s [] p
         (walk_start h n q
-        (base_by below number p (ap (λ (v : List ℕ). bound_path below v name unit) path_of_lem)
+        (base_by below number p (ap (bound_path (text_of below)) path_of_lem)
         (ahead (rw at.chain (member_here number at.before at.after)) (rw at.has (same_refl l)))))
 
     -- the walk stops at it
@@ -256,7 +257,7 @@ module _ (below : Bool) {name unit l : List ℕ} {number before : ℕ} {c : Lowe
       abbrev vs : List Binding
       vs = map (binding_at w b) later
 
-      at_it : Walk (bound_base below number) name unit (Some l) k s [] p up.ctx w b up.previous r one.last.left
+      at_it : Walk (bound_base below number) (Some l) k s [] p up.ctx w b up.previous r one.last.left
       at_it = walk_here step walked
 
       here : chain_from one.last.left w r ≡ r ∷ later
@@ -281,11 +282,11 @@ module _ (below : Bool) {name unit l : List ℕ} {number before : ℕ} {c : Lowe
       so_far : Represents k up.ctx w b s₁
       so_far = subst (λ (v : List Binding). Represents k up.ctx w b (with_binds s v)) (rw (todo_there, append_snoc) refl) at_it.now
 
-      behind_start : Walk (bound_base below r) name unit None k s₁ front p up.ctx w b r up.rest.next up.rest.left
+      behind_start : Walk (bound_base below r) None k s₁ front p up.ctx w b r up.rest.next up.rest.left
       unfolding without any binding_at
       behind_start =
-          subst (λ (i : ℕ). Walk (bound_base below r) name unit None k s₁ front p up.ctx w b r i up.rest.left) (sym step.next)
-          (subst (λ (i : ℕ). Walk (bound_base below r) name unit None k s₁ front p up.ctx w b r (next_of w r) i) (sym step.left)
+          subst (λ (i : ℕ). Walk (bound_base below r) None k s₁ front p up.ctx w b r i up.rest.left) (sym step.next)
+          (subst (λ (i : ℕ). Walk (bound_base below r) None k s₁ front p up.ctx w b r (next_of w r) i) (sym step.left)
           (record {
             done = [];
             todo = vs;
@@ -298,13 +299,13 @@ module _ (below : Bool) {name unit l : List ℕ} {number before : ℕ} {c : Lowe
                 ∙ sym (length-append (without ds at_it.done) (u ∷ [])));
             last_is = sym (last_snoc at_it.ns r);
             room = omega (arith, goes_left w r one.last.left step.going, length-append at_it.ns (r ∷ []), at_it.room);
-            at = base_by below r p (ap (λ (v : Binding). bound_path below v.path name unit) same_first.firsts)
+            at = base_by below r p (ap (λ (v : Binding). bound_path (text_of below) v.path) same_first.firsts)
                 (passed (member_here r at_it.ns []));
             unlabelled = refl;
           }))
 
       pub others_gone : {v t : List ℕ} {behind : Unbound}
-          → Unbinds (bound_base below r) name unit None up.ctx w b v t r up.rest behind
+          → Unbinds (bound_base below r) None up.ctx w b v t r up.rest behind
           → Represents k behind.ctx v t (with_binds s (without ds xs ++ x ∷ without ds ys)) × (behind.ctx.short ≡ false)
       others_gone {v} {t} {behind} two =
           let o = two.walks k s₁ front p behind_start in
@@ -316,23 +317,23 @@ module _ (below : Bool) {name unit l : List ℕ} {number before : ℕ} {c : Lowe
           )
 
 -- so in any state
-pub others_all : (below : Bool) {name unit l : List ℕ} {number before : ℕ} {c d : LowerCtx} {words bytes w b v t : List ℕ} {from : Cursor}
-    (up : Unbound) {base : Base} → FirstAt words bytes c.binds.first l number before
+pub others_all : (below : Maybe (Bor (List ℕ))) {l : List ℕ} {number before : ℕ} {c d : LowerCtx} {words bytes w b v t : List ℕ}
+    {from : Cursor} (up : Unbound) {base : Base} → FirstAt words bytes c.binds.first l number before
     → from ≡ record { next = c.binds.first; left = log_count words } → base ≡ bound_base below number
-    → Unbinds base name unit (Some l) c words bytes w b 0 from up → UnbindsBehind below name unit up d w b v t
-    → UnbindsOthers below name unit l c d words bytes v t
-others_all below {name} {unit} {l} {number} {c = c} {d} {words} {bytes} {w} {b} {v} {t} {from} up at q i one two =
+    → Unbinds base (Some l) c words bytes w b 0 from up → UnbindsBehind below up d w b v t
+    → UnbindsOthers (text_of below) l c d words bytes v t
+others_all below {l} {number} {c = c} {d} {words} {bytes} {w} {b} {v} {t} {from} up at q i one two =
     record { unbinds = λ k s xs x ys h n g. by_here k s xs x ys h n g up.here refl up_to.ends }
   where
-    up_to : Unbinds (bound_base below number) name unit (Some l) c words bytes w b 0 from up
-    up_to = subst (λ (z : Base). Unbinds z name unit (Some l) c words bytes w b 0 from up) i one
+    up_to : Unbinds (bound_base below number) (Some l) c words bytes w b 0 from up
+    up_to = subst (λ (z : Base). Unbinds z (Some l) c words bytes w b 0 from up) i one
 
     by_here : (k : Context) (s : State) (xs : List Binding) (x : Binding) (ys : List Binding) → Represents k c words bytes s
         → c.short ≡ false → FirstOfLabel l s xs x ys → (here : Maybe ℕ) → up.here ≡ here
         → MatchOption here (Stopped w up_to.last up.rest)
         (λ r. Stepped w up_to.last up.rest r × (stop_of (Some l) (binding_at w b r) ≡ true))
-        → Represents k d v t (with_binds s (without (live (bound_path below x.path name unit) s.defs) xs ++ x
-        ∷ without (live (bound_path below x.path name unit) s.defs) ys)) × (d.short ≡ false)
+        → Represents k d v t (with_binds s (without (live (bound_path (text_of below) x.path) s.defs) xs ++ x
+        ∷ without (live (bound_path (text_of below) x.path) s.defs) ys)) × (d.short ≡ false)
     by_here k s xs x ys h n g None e m = absurd (never_ends below at q up_to h n g m)
     by_here k s xs x ys h n g (Some r) e m =
         let y = two.some_here r e in
@@ -350,16 +351,16 @@ without_named l ds (x ∷ xs) h =
     by_test (any (binds_label_of x) ds) (λ t. rw t rest) (λ t. rw (t, q) rest))
 
 -- the base by a binding, as it is read
-base_bound : (below : Bool) (used : ℕ) (words bytes name unit : List ℕ) (r : ℕ)
-    → base_of used words bytes name unit (bound_base below r) ≡ bound_path below (second_text words bytes r) name unit
+base_bound : (below : Maybe (Bor (List ℕ))) (used : ℕ) (words bytes : List ℕ) (r : ℕ)
+    → base_of used words bytes (bound_base below r) ≡ bound_path (text_of below) (second_text words bytes r)
 unfolding base_of
-base_bound true used words bytes name unit r = refl
-base_bound false used words bytes name unit r = refl
+base_bound None used words bytes r = refl
+base_bound (Some name) used words bytes r = refl
 
 -- the whole deletion
-module _ (span : LogSpan) (below : Bool) {l path : List ℕ} {number previous : ℕ} {c d e : LowerCtx} {words bytes w b v u : List ℕ}
-    (at : FirstAt words bytes c.binds.first l number previous)
-    (others : UnbindsOthers below path [] l c d words bytes w b) (made : DefinesBound below l path (meant span) d e w b v u)
+module _ (span : LogSpan) (below : Maybe (Bor (List ℕ))) {l : List ℕ} {number previous : ℕ} {c d e : LowerCtx}
+    {words bytes w b v u : List ℕ} (at : FirstAt words bytes c.binds.first l number previous)
+    (others : UnbindsOthers (text_of below) l c d words bytes w b) (made : DefinesBound (text_of below) l (meant span) d e w b v u)
   where
     module _ {k : Context} {s : State} (p : List ℕ) (h : Represents k c words bytes s) (n : c.short ≡ false)
         (q : first_binding l s.binds ≡ some p) where
@@ -379,7 +380,7 @@ module _ (span : LogSpan) (below : Bool) {l path : List ℕ} {number previous : 
       path_is = let i : some this.path ≡ some p = sym (first_some first_is_lem) ∙ q in cc
 
       abbrev base : List ℕ
-      base = bound_path below p path []
+      base = bound_path (text_of below) p
 
       abbrev nodes : List Def
       nodes = live base s.defs
@@ -390,8 +391,8 @@ module _ (span : LogSpan) (below : Bool) {l path : List ℕ} {number previous : 
       unbound : Represents k d w b (with_binds s left_over) × (d.short ≡ false)
       unbound =
           subst
-          (λ (i : List ℕ). Represents k d w b (with_binds s (without (live (bound_path below i path []) s.defs) before ++ this
-          ∷ without (live (bound_path below i path []) s.defs) after)) × (d.short ≡ false))
+          (λ (i : List ℕ). Represents k d w b (with_binds s (without (live (bound_path (text_of below) i) s.defs) before ++ this
+          ∷ without (live (bound_path (text_of below) i) s.defs) after)) × (d.short ≡ false))
           path_is (others.unbinds k s before this after h n first_is_lem)
 
       none_before : any (named l) (without nodes before) ≡ false
@@ -404,10 +405,10 @@ module _ (span : LogSpan) (below : Bool) {l path : List ℕ} {number previous : 
       made_so = made.defines k (with_binds s left_over) p unbound.0 unbound.1
           (first_path l (without nodes before) this (without nodes after) none_before first_is_lem.labelled ∙ ap some path_is)
 
-      goes_as : goes_with words bytes c.defs.first (base_of c.bytes words bytes path [] (bound_base below number))
+      goes_as : goes_with words bytes c.defs.first (base_of c.bytes words bytes (bound_base below number))
           number ≡ any (binds_label_of this) nodes
       unfolding goes_with binding_at
-      goes_as = rw (base_bound below c.bytes words bytes path [] number, path_is, represents_defs h n) refl
+      goes_as = rw (base_bound below c.bytes words bytes number, path_is, represents_defs h n) refl
 
       all_without : without nodes s.binds ≡ without nodes before ++ without nodes (this ∷ after)
       all_without = ap (without nodes) first_is_lem.binds ∙ without_append nodes before (this ∷ after)
@@ -425,11 +426,11 @@ module _ (span : LogSpan) (below : Bool) {l path : List ℕ} {number previous : 
           (record { binds = refl; others = none_before; labelled = first_is_lem.labelled }))
 
     abbrev tested : Bool
-    tested = goes_with words bytes c.defs.first (base_of c.bytes words bytes path [] (bound_base below number)) number
+    tested = goes_with words bytes c.defs.first (base_of c.bytes words bytes (bound_base below number)) number
 
-    pub deletes_left : tested ≡ false → DeletesBound below l path (meant span) c e words bytes v u
+    pub deletes_left : tested ≡ false → DeletesBound (text_of below) l (meant span) c e words bytes v u
     deletes_left t = record { deletes = λ k s p h n q. keeps p h n q (sym (goes_as p h n q) ∙ t) }
 
     pub deletes_first : {g : LowerCtx} {y x : List ℕ} → UnlinksFirst l e g v u y x → tested ≡ true
-        → DeletesBound below l path (meant span) c g words bytes y x
+        → DeletesBound (text_of below) l (meant span) c g words bytes y x
     deletes_first z t = record { deletes = λ k s p h n q. goes_too p h n q z (sym (goes_as p h n q) ∙ t) }

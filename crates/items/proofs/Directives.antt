@@ -103,7 +103,7 @@ module _ (t : Target) (rec : Tree) (span : Span) (c : LowerCtx) {out bytes l p :
         → first_binding l s.binds ≡ some (second_text out bytes r)
     first_in h r q = ap (first_binding l) (sym (represents_bindings h n)) ∙ i.first r q
 
-    pub target_bound : {d : LowerCtx} {w b : List ℕ} (r : ℕ) → v ≡ Ok (R.Bound r) → DeletesBound false l p span c d out bytes w b
+    pub target_bound : {d : LowerCtx} {w b : List ℕ} (r : ℕ) → v ≡ Ok (R.Bound r) → DeletesBound None l span c d out bytes w b
         → Deletes t rec span c d out bytes w b
     unfolding resolution
     target_bound r q x =
@@ -112,7 +112,7 @@ module _ (t : Target) (rec : Tree) (span : Span) (c : LowerCtx) {out bytes l p :
               rw (resolved h ∙ ap (resolution out bytes l p) q) (x.deletes k s (second_text out bytes r) h n (first_in h r (ap bound_by q)));
         }
 
-    pub target_below_lem : {d : LowerCtx} {w b : List ℕ} (r : ℕ) → v ≡ Ok (R.BoundPath r) → DeletesBound true l p span c d out bytes w b
+    pub target_below_lem : {d : LowerCtx} {w b : List ℕ} (r : ℕ) → v ≡ Ok (R.BoundPath r) → DeletesBound (Some p) l span c d out bytes w b
         → Deletes t rec span c d out bytes w b
     unfolding resolution
     target_below_lem r q x =

@@ -14,8 +14,6 @@ use Rattle.making.specs.declared.ctx.LowerCtx.{LowerCtx}
 use Rattle.definition_log.specs.meaning.Contents.{Def, Binding}
 use Rattle.definition_log.specs.meaning.Record.{one_of, next_of, first_text, second_text, leads, log_count}
 use Rattle.definition_log.specs.meaning.ReadBack.{chain_from, chain_of, binding_at, read_bindings, read_defs}
-use Rattle.making.specs.declared.place.PathAt.{PathAt}
-use Rattle.making.specs.machine.PathPlaces.{path_in}
 use Rattle.making.specs.meaning.State.{State}
 use Rattle.making.specs.machine.Adding.{remove_at, unbind_at}
 use Rattle.making.specs.machine.Represents.{Context, Represents, last_number, Unlinks}
@@ -32,7 +30,6 @@ use Rattle.items.specs.machine.Unbinding.{base_of, goes_with, stop_of, with_bind
 use Rattle.items.specs.machine.Unbinding.{at_named, at_there, at_given, at_bound, at_below, Walk, Unbinds}
 use Rattle.items.specs.declared.unbind.Unbound.{Unbound}
 use Rattle.items.specs.declared.unbind.Base.{Base}
-use Rattle.items.specs.declared.unbind.Base.TheVariants.{Named, There, Given, Bound, BoundPath}
 use Rattle.resolving.proofs.Leading.{last_snoc, any_append}
 
 -- lists: two that are equal in two parts, the first of which are as long
@@ -157,15 +154,15 @@ chain_ahead left v w next first ns h fits e = go (chain_from left v next) refl
         ∙ ap (take left) whole ∙ take_all left (m ∷ ms) long ∙ sym q
 
 -- the base is read as its path
-base_reads : {k : Context} {w b name unit : List ℕ} {until : Maybe (List ℕ)} {ns ms p : List ℕ} {base : Base} {d : LowerCtx} {t : State}
-    → BaseAt k w b name unit until ns ms p base → Represents k d w b t → d.short ≡ false → base_of d.bytes w b name unit base ≡ p
+base_reads : {k : Context} {w b : List ℕ} {until : Maybe (List ℕ)} {ns ms p : List ℕ} {base : Base} {d : LowerCtx} {t : State}
+    → BaseAt k w b until ns ms p base → Represents k d w b t → d.short ≡ false → base_of d.bytes w b base ≡ p
 unfolding base_of
-base_reads {w = w} {b} {name} {unit} {d = d} {t} (at_named place parent k e q) h n =
-    ap (λ (x : List ℕ). joined x name unit) (place_reads (subst (λ (y : Context). Represents y d w b t) e h) n) ∙ sym q
+base_reads {w = w} {b} {d = d} {t} (at_named place name unit parent k e q) h n =
+    ap (λ (x : List ℕ). joined x name.now unit.now) (place_reads (subst (λ (y : Context). Represents y d w b t) e h) n) ∙ sym q
 base_reads {w = w} {b} {d = d} {t} (at_there place k e) h n = place_reads (subst (λ (y : Context). Represents y d w b t) e h) n
-base_reads (at_given q) h n = sym q
+base_reads (at_given path q) h n = sym q
 base_reads (at_bound r m q) h n = sym q
-base_reads (at_below r m q) h n = sym q
+base_reads (at_below r name m q) h n = sym q
 
 -- it is still, after a binding was passed, and after one was taken out
 module _ (w b : List ℕ) (until : Maybe (List ℕ)) (r x : ℕ) (ns ms : List ℕ) where
@@ -203,30 +200,30 @@ module _ (w b : List ℕ) (until : Maybe (List ℕ)) (r x : ℕ) (ns ms : List �
     stays_taken (passed h) = passed h
     stays_taken (ahead h s) = ahead (not_this h s) (ap (stop_of until) (same_binding (ahead h s)) ∙ s)
 
-module _ {k : Context} {w b name unit : List ℕ} {until : Maybe (List ℕ)} {x : ℕ} {ns ms p : List ℕ} where
-  base_passed : {base : Base} → BaseAt k w b name unit until ns (x ∷ ms) p base
-      → BaseAt k w b name unit until (ns ++ x ∷ []) ms p base
-  base_passed (at_named place parent k' e q) = at_named place parent k' e q
+module _ {k : Context} {w b : List ℕ} {until : Maybe (List ℕ)} {x : ℕ} {ns ms p : List ℕ} where
+  base_passed : {base : Base} → BaseAt k w b until ns (x ∷ ms) p base
+      → BaseAt k w b until (ns ++ x ∷ []) ms p base
+  base_passed (at_named place name unit parent k' e q) = at_named place name unit parent k' e q
   base_passed (at_there place k' e) = at_there place k' e
-  base_passed (at_given q) = at_given q
+  base_passed (at_given path q) = at_given path q
   base_passed (at_bound r m q) = at_bound r (stays_passed w b until r x ns ms m) q
-  base_passed (at_below r m q) = at_below r (stays_passed w b until r x ns ms m) q
+  base_passed (at_below r name m q) = at_below r name (stays_passed w b until r x ns ms m) q
 
   module _ {v c : List ℕ} (other : stop_of until (binding_at w b x) ≡ false)
       (agree : map (binding_at v c) (ns ++ ms) ≡ map (binding_at w b) (ns ++ ms)) where
-    base_taken : {base : Base} → BaseAt k w b name unit until ns (x ∷ ms) p base → BaseAt k v c name unit until ns ms p base
-    base_taken (at_named place parent k' e q) = at_named place parent k' e q
+    base_taken : {base : Base} → BaseAt k w b until ns (x ∷ ms) p base → BaseAt k v c until ns ms p base
+    base_taken (at_named place name unit parent k' e q) = at_named place name unit parent k' e q
     base_taken (at_there place k' e) = at_there place k' e
-    base_taken (at_given q) = at_given q
+    base_taken (at_given path q) = at_given path q
     base_taken (at_bound r m q) = at_bound r (stays_taken w b until r x ns ms v c other agree m)
         (q ∙ same_path_lem w b until r x ns ms v c other agree m)
-    base_taken (at_below r m q) = at_below r (stays_taken w b until r x ns ms v c other agree m)
-        (q ∙ ap (λ (y : List ℕ). joined y name unit) (same_path_lem w b until r x ns ms v c other agree m))
+    base_taken (at_below r name m q) = at_below r name (stays_taken w b until r x ns ms v c other agree m)
+        (q ∙ ap (λ (y : List ℕ). joined y name.now []) (same_path_lem w b until r x ns ms v c other agree m))
 
 -- one turn of a walk
-module _ {base : Base} {name unit : List ℕ} {until : Maybe (List ℕ)} {k : Context} {s : State} {front : List Binding} {p : List ℕ}
+module _ {base : Base} {until : Maybe (List ℕ)} {k : Context} {s : State} {front : List Binding} {p : List ℕ}
     {d : LowerCtx} {w b : List ℕ} {previous r left : ℕ}
-    (o : Walk base name unit until k s front p d w b previous r left)
+    (o : Walk base until k s front p d w b previous r left)
   where
     abbrev ds : List Def
     ds = live p s.defs
@@ -269,20 +266,20 @@ module _ {base : Base} {name unit : List ℕ} {until : Maybe (List ℕ)} {k : Co
       room_here : left ≡ suc (left - 1)
       room_here = omega (arith, goes_left w r left goes_here)
 
-      at_here : BaseAt k w b name unit until o.ns (r ∷ later) p base
-      at_here = subst (λ (l : List ℕ). BaseAt k w b name unit until o.ns l p base) chain_here o.at
+      at_here : BaseAt k w b until o.ns (r ∷ later) p base
+      at_here = subst (λ (l : List ℕ). BaseAt k w b until o.ns l p base) chain_here o.at
 
       unlabelled_here : any (stop_of until) (o.done ++ x ∷ []) ≡ false
       unfolding any
       unlabelled_here = any_append (stop_of until) o.done (x ∷ []) o.unlabelled ∙ rw other refl
 
       -- whether it goes
-      goes_as : goes_with w b d.defs.first (base_of d.bytes w b name unit base) r ≡ any (binds_label_of x) ds
+      goes_as : goes_with w b d.defs.first (base_of d.bytes w b base) r ≡ any (binds_label_of x) ds
       unfolding goes_with
       goes_as = rw (base_reads o.at o.now o.going, represents_defs o.now o.going) refl
 
-      pub walk_leave : goes_with w b d.defs.first (base_of d.bytes w b name unit base) r ≡ false → (next : ℕ) → next ≡ next_of w r
-          → Walk base name unit until k s front p d w b r next (left - 1)
+      pub walk_leave : goes_with w b d.defs.first (base_of d.bytes w b base) r ≡ false → (next : ℕ) → next ≡ next_of w r
+          → Walk base until k s front p d w b r next (left - 1)
       walk_leave f next e =
           let still : front ++ without ds (o.done ++ x ∷ []) ≡ kept ++ x
           ∷ [] = rw (without_left ds o.done x (sym goes_as ∙ f), append_assoc) refl in
@@ -333,8 +330,8 @@ module _ {base : Base} {name unit : List ℕ} {until : Maybe (List ℕ)} {k : Co
             ap (map (binding_at w₁ b₁)) (sym done_so.2) ∙ represents_bindings now_so done_so.1
             ∙ ap (λ (l : List Binding). l ++ ahead_of) (sym kept_is) ∙ sym (map-append (binding_at w b) o.ns later)
 
-        pub walk_take : goes_with w b d.defs.first (base_of d.bytes w b name unit base) r ≡ true
-            → Walk base name unit until k s front p d₁ w₁ b₁ previous next (left - 1)
+        pub walk_take : goes_with w b d.defs.first (base_of d.bytes w b base) r ≡ true
+            → Walk base until k s front p d₁ w₁ b₁ previous next (left - 1)
         walk_take f =
             let gone = without_gone ds o.done x (sym goes_as ∙ f) in
             record {
@@ -348,33 +345,33 @@ module _ {base : Base} {name unit : List ℕ} {until : Maybe (List ℕ)} {k : Co
               sized = rw gone o.sized;
               last_is = o.last_is;
               room = rw q (omega (arith, room_here, o.room));
-              at = subst (λ (l : List ℕ). BaseAt k w₁ b₁ name unit until o.ns l p base) (sym ahead_so)
+              at = subst (λ (l : List ℕ). BaseAt k w₁ b₁ until o.ns l p base) (sym ahead_so)
                   (base_taken other agree_so at_here);
               unlabelled = unlabelled_here;
             }
 
       -- either way
       pub walk_on : {d₁ : LowerCtx} {w₁ b₁ : List ℕ} {previous₁ : ℕ}
-          → Passes d d₁ w b w₁ b₁ (base_of d.bytes w b name unit base) previous r previous₁
+          → Passes d d₁ w b w₁ b₁ (base_of d.bytes w b base) previous r previous₁
           → log_count w₁ ≡ log_count w → (next : ℕ) → next ≡ next_of w r
-          → Walk base name unit until k s front p d₁ w₁ b₁ previous₁ next (left - 1)
+          → Walk base until k s front p d₁ w₁ b₁ previous₁ next (left - 1)
       walk_on (takes f u) q next e = walk_take u q next e f
       walk_on (leaves f i j l) q next e = rw (i, j, l) (walk_leave f next e)
 
 -- along a step of the walk
-module _ {base : Base} {name unit : List ℕ} {until : Maybe (List ℕ)} {k : Context} {s : State} {front : List Binding} {p : List ℕ}
+module _ {base : Base} {until : Maybe (List ℕ)} {k : Context} {s : State} {front : List Binding} {p : List ℕ}
     {d : LowerCtx} {w b : List ℕ} {previous r : ℕ} {from to : Cursor} (step : Stepped w from to r)
-    (o : Walk base name unit until k s front p d w b previous from.next from.left)
+    (o : Walk base until k s front p d w b previous from.next from.left)
   where
-    pub walk_here : Walk base name unit until k s front p d w b previous r from.left
-    walk_here = subst (λ (n : ℕ). Walk base name unit until k s front p d w b previous n from.left) step.here o
+    pub walk_here : Walk base until k s front p d w b previous r from.left
+    walk_here = subst (λ (n : ℕ). Walk base until k s front p d w b previous n from.left) step.here o
 
     pub walk_step : stop_of until (binding_at w b r) ≡ false → {d₁ : LowerCtx} {w₁ b₁ : List ℕ} {previous₁ : ℕ}
-        → Passes d d₁ w b w₁ b₁ (base_of d.bytes w b name unit base) previous r previous₁
+        → Passes d d₁ w b w₁ b₁ (base_of d.bytes w b base) previous r previous₁
         → log_count w₁ ≡ log_count w
-        → Walk base name unit until k s front p d₁ w₁ b₁ previous₁ to.next to.left
+        → Walk base until k s front p d₁ w₁ b₁ previous₁ to.next to.left
     walk_step n {d₁} {w₁} {b₁} {previous₁} q e =
-        subst (λ (j : ℕ). Walk base name unit until k s front p d₁ w₁ b₁ previous₁ to.next j) (sym step.left)
+        subst (λ (j : ℕ). Walk base until k s front p d₁ w₁ b₁ previous₁ to.next j) (sym step.left)
         (walk_on walk_here step.going n q e to.next step.next)
 
 -- a state with its own bindings
@@ -382,11 +379,11 @@ with_own : (s : State) → with_binds s s.binds ≡ s
 with_own s = refl
 
 -- the start of a walk, at the first binding
-pub walk_start : {base : Base} {name unit : List ℕ} {until : Maybe (List ℕ)} {k : Context} {s : State} {p : List ℕ} {c : LowerCtx}
+pub walk_start : {base : Base} {until : Maybe (List ℕ)} {k : Context} {s : State} {p : List ℕ} {c : LowerCtx}
     {words bytes : List ℕ} {from : Cursor}
     → Represents k c words bytes s → c.short ≡ false → from ≡ record { next = c.binds.first; left = log_count words }
-    → BaseAt k words bytes name unit until [] (chain_of words c.binds.first) p base
-    → Walk base name unit until k s [] p c words bytes 0 from.next from.left
+    → BaseAt k words bytes until [] (chain_of words c.binds.first) p base
+    → Walk base until k s [] p c words bytes 0 from.next from.left
 unfolding without chain_of last_number any
 walk_start {s = s} h n e a =
     rw e
@@ -406,9 +403,9 @@ walk_start {s = s} h n e a =
     })
 
 -- and its end, behind the last
-module _ {base : Base} {name unit : List ℕ} {until : Maybe (List ℕ)} {k : Context} {s : State} {front : List Binding} {p : List ℕ}
+module _ {base : Base} {until : Maybe (List ℕ)} {k : Context} {s : State} {front : List Binding} {p : List ℕ}
     {d : LowerCtx} {w b : List ℕ} {previous : ℕ} {last rest : Cursor}
-    (o : Walk base name unit until k s front p d w b previous last.next last.left) (t : Stopped w last rest)
+    (o : Walk base until k s front p d w b previous last.next last.left) (t : Stopped w last rest)
   where
     pub nothing_left : o.todo ≡ []
     nothing_left = sym (todo_is o) ∙ ap (map (binding_at w b)) (stops w last.next last.left t.stops)
@@ -420,8 +417,8 @@ module _ {base : Base} {name unit : List ℕ} {until : Maybe (List ℕ)} {k : Co
         subst (λ (l : List Binding). Represents k d w b (with_binds s l)) (rw (nothing_left, append-nil, all) refl) o.now
 
 -- a walk up to no label is one to the end
-pub to_the_end : {base : Base} {name unit : List ℕ} {c : LowerCtx} {words bytes w b : List ℕ} {previous : ℕ} {from : Cursor} {u : Unbound}
-    (x : Unbinds base name unit None c words bytes w b previous from u) → Stopped w x.last u.rest
+pub to_the_end : {base : Base} {c : LowerCtx} {words bytes w b : List ℕ} {previous : ℕ} {from : Cursor} {u : Unbound}
+    (x : Unbinds base None c words bytes w b previous from u) → Stopped w x.last u.rest
 to_the_end {w = w} {b} {u = u} x = go u.here x.ends
   where
     go : (here : Maybe ℕ)
@@ -431,9 +428,9 @@ to_the_end {w = w} {b} {u = u} x = go u.here x.ends
     go (Some r) m = absurd (not_both m.1 refl)
 
 -- a walk along all bindings
-pub unbinds_all : {base : Base} {name unit : List ℕ} {until : Maybe (List ℕ)} {k : Context} {s : State} {p : List ℕ} {d : LowerCtx}
+pub unbinds_all : {base : Base} {until : Maybe (List ℕ)} {k : Context} {s : State} {p : List ℕ} {d : LowerCtx}
     {w b : List ℕ} {previous : ℕ} {last rest : Cursor}
-    → Walk base name unit until k s [] p d w b previous last.next last.left → Stopped w last rest
+    → Walk base until k s [] p d w b previous last.next last.left → Stopped w last rest
     → Represents k d w b (unbind p s)
 unfolding unbind
 unbinds_all {s = s} o t = walk_ended o t s.binds refl
@@ -444,31 +441,9 @@ unfolding log_count
 count_same v w e = rw e refl
 
 -- whether a binding goes, by how its texts and the base are read
-pub goes_by : {t : Bool} {l q x : List ℕ} (used : ℕ) (words bytes name unit : List ℕ) (defs : ℕ) (base : Base) (r : ℕ)
-    → t ≡ any (has_label_at l q) (live x (read_defs words bytes defs))
-    → l ≡ first_text words bytes r → q ≡ second_text words bytes r → x ≡ base_of used words bytes name unit base
-    → t ≡ goes_with words bytes defs (base_of used words bytes name unit base) r
+pub goes_by : {t : Bool} {l q : List ℕ} (words bytes : List ℕ) (defs : ℕ) (base : List ℕ) (r : ℕ)
+    → t ≡ any (has_label_at l q) (live base (read_defs words bytes defs))
+    → l ≡ first_text words bytes r → q ≡ second_text words bytes r
+    → t ≡ goes_with words bytes defs base r
 unfolding goes_with binding_at
-goes_by used words bytes name unit defs base r e a b c = e ∙ rw (a, b, c) refl
-
-module _ (used : ℕ) (words bytes name unit : List ℕ) (base : Base) where
-  pub base_named : (p : PathAt) → base ≡ Named p → joined (path_in used bytes p) name unit ≡ base_of used words bytes name unit base
-  unfolding base_of
-  base_named p e = sym (ap (base_of used words bytes name unit) e)
-
-  pub base_there : (p : PathAt) → base ≡ There p → path_in used bytes p ≡ base_of used words bytes name unit base
-  unfolding base_of
-  base_there p e = sym (ap (base_of used words bytes name unit) e)
-
-  pub base_given : base ≡ Given → name ≡ base_of used words bytes name unit base
-  unfolding base_of
-  base_given e = sym (ap (base_of used words bytes name unit) e)
-
-  pub base_binding : (r : ℕ) (x : List ℕ) → x ≡ second_text words bytes r → base ≡ Bound r → x ≡ base_of used words bytes name unit base
-  unfolding base_of
-  base_binding r x i e = i ∙ sym (ap (base_of used words bytes name unit) e)
-
-  pub base_below : (r : ℕ) (x : List ℕ) → x ≡ second_text words bytes r → base ≡ BoundPath r
-      → joined x name unit ≡ base_of used words bytes name unit base
-  unfolding base_of
-  base_below r x i e = ap (λ (y : List ℕ). joined y name unit) i ∙ sym (ap (base_of used words bytes name unit) e)
+goes_by words bytes defs base r e a b = e ∙ rw (a, b) refl

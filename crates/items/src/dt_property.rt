@@ -1,6 +1,5 @@
 // Properties and their values (lower_dt_property, lower_prop_value, lower_cell_list and lower_cell of
-// dt_property.rs). A property is made before its values; `keep` says whether it is, and without it
-// only diagnostics are made.
+// dt_property.rs). A property is made before its values.
 ghost use Rattle.std.specs.Prelude.{◌≡◌, ◌<◌, true, cond, []};
 ghost use Rattle.paths_numbers.specs.meaning.Cell.{bits_of};
 ghost use Rattle.paths_numbers.specs.meaning.Reading as R;
@@ -32,6 +31,15 @@ use paths_numbers::codes::PROPERTY_OUTSIDE;
 use paths_numbers::dt_property::BitsSize;
 use paths_numbers::phandle::MirPhandleTarget;
 
+// What the values of a property are lowered by: the input, the level, and whether the property is made.
+// Where it is not, what is reported of its values is reported all the same.
+#[derive(Clone, Copy)]
+struct Filling<'a> {
+    input: Input<'a>,
+    level: u32,
+    keep: bool,
+}
+
 // Lowers a property under a path. A state that ran short stays as it is.
 pub fn lower_dt_property(
     input: Input<'_>,
@@ -59,16 +67,9 @@ pub fn lower_dt_property(
     let name = input.parts(r).full_name();
     let keep = is_named(name);
     let made = define_property(input, r, parent, name, keep, out, bytes, ctx);
-    let filled = lower_prop_values(
-        input,
-        second_at(input.words, r),
-        keep,
-        nesting - 1,
-        out,
-        bytes,
-        made,
-        level,
-    );
+    let filling = Filling { input, level, keep };
+    let values = second_at(input.words, r);
+    let filled = filling.lower_prop_values(values, nesting - 1, out, bytes, made);
     emit_name(input.words, input.text, name, out, bytes, filled)
 }
 
@@ -111,228 +112,194 @@ fn define_property(
     )
 }
 
-// The values of a chain, in order.
-fn lower_prop_values(
-    input: Input<'_>,
-    first: u32,
-    keep: bool,
-    nesting: u32,
-    out: &mut [u32],
-    bytes: &mut [u8],
-    ctx: LowerCtx,
-    level: u32,
-) -> LowerCtx
-    requires chain_in { ChainIn input.words.now input.text.now first nesting }
-    ensures { FillsProperty keep ctx result out.old bytes.old out.new bytes.new
-        (lower_values level (chain_at input.entry.words.now input.entry.text.now first)) }
-{
-    let mut next = ctx;
-    for r in input.chain(first) {
-        next = lower_prop_value(input, r, keep, nesting, out, bytes, next, level);
+impl Filling<'_> {
+    // The values of a chain, in order.
+    fn lower_prop_values(
+        self,
+        first: u32,
+        nesting: u32,
+        out: &mut [u32],
+        bytes: &mut [u8],
+        ctx: LowerCtx,
+    ) -> LowerCtx
+        requires chain_in { ChainIn self.input.words.now self.input.text.now first nesting }
+        ensures { FillsProperty self.entry.keep ctx result out.old bytes.old out.new bytes.new
+            (lower_values self.entry.level (chain_at self.entry.input.words.now self.entry.input.text.now first)) }
+    {
+        let mut next = ctx;
+        for r in self.input.chain(first) {
+            next = self.lower_prop_value(r, nesting, out, bytes, next);
+        }
+        next
     }
-    next
-}
 
-// A value, or what is reported of it.
-fn lower_prop_value(
-    input: Input<'_>,
-    r: u32,
-    keep: bool,
-    nesting: u32,
-    out: &mut [u32],
-    bytes: &mut [u8],
-    ctx: LowerCtx,
-    level: u32,
-) -> LowerCtx
-    requires record_in { RecordIn input.words.now input.text.now r nesting }
-    ensures { FillsProperty keep ctx result out.old bytes.old out.new bytes.new
-        (lower_value level (record_at input.entry.words.now input.entry.text.now r)) }
-{
-    match input.read_value(r) {
-        Ok(Value::Plain(value)) => push_value(
-            input.words,
-            input.text,
-            r,
-            value,
-            keep,
-            out,
-            bytes,
-            ctx,
-        ),
-        Ok(Value::CellList(size)) => lower_cell_list(
-            input, r, size, keep, nesting, out, bytes, ctx, level,
-        ),
-        Err(report) => emit_report(input.words, input.text, report, out, bytes, ctx),
+    // A value, or what is reported of it.
+    fn lower_prop_value(
+        self,
+        r: u32,
+        nesting: u32,
+        out: &mut [u32],
+        bytes: &mut [u8],
+        ctx: LowerCtx,
+    ) -> LowerCtx
+        requires record_in { RecordIn self.input.words.now self.input.text.now r nesting }
+        ensures { FillsProperty self.entry.keep ctx result out.old bytes.old out.new bytes.new
+            (lower_value self.entry.level (record_at self.entry.input.words.now self.entry.input.text.now r)) }
+    {
+        match self.input.read_value(r) {
+            Ok(Value::Plain(value)) => self.push_value(r, value, out, bytes, ctx),
+            Ok(Value::CellList(size)) => self.lower_cell_list(r, size, nesting, out, bytes, ctx),
+            Err(report) => {
+                emit_report(self.input.words, self.input.text, report, out, bytes, ctx)
+            }
+        }
     }
-}
 
-// A value without cells, where it is kept.
-fn push_value(
-    words: &[u32],
-    text: &[u8],
-    r: u32,
-    value: PlainValue,
-    keep: bool,
-    out: &mut [u32],
-    bytes: &mut [u8],
-    ctx: LowerCtx,
-) -> LowerCtx
-    ensures { FillsProperty keep ctx result out.old bytes.old out.new bytes.new
-        (plain_made words.now text.now r value) }
-{
-    if !keep {
-        return ctx;
+    // A value without cells, where it is kept.
+    fn push_value(
+        self,
+        r: u32,
+        value: PlainValue,
+        out: &mut [u32],
+        bytes: &mut [u8],
+        ctx: LowerCtx,
+    ) -> LowerCtx
+        ensures { FillsProperty self.entry.keep ctx result out.old bytes.old out.new bytes.new
+            (plain_made self.entry.input.words.now self.entry.input.text.now r value) }
+    {
+        if !self.keep {
+            return ctx;
+        }
+        let words = self.input.words;
+        let text = self.input.text;
+        match value {
+            PlainValue::String => ctx.add_string(out, bytes, text_at(words, text, r)),
+            PlainValue::Bytestring => ctx.add_bytestring(out, bytes, text_at(words, text, r)),
+            PlainValue::Phandle(kind) => ctx.add_phandle(
+                out,
+                bytes,
+                kind,
+                phandle_label_at(words, text, r),
+                phandle_path_at(words, text, r),
+            ),
+        }
     }
-    match value {
-        PlainValue::String => ctx.add_string(out, bytes, text_at(words, text, r)),
-        PlainValue::Bytestring => ctx.add_bytestring(out, bytes, text_at(words, text, r)),
-        PlainValue::Phandle(kind) => ctx.add_phandle(
+
+    // A cell list of a width, and its cells.
+    fn lower_cell_list(
+        self,
+        r: u32,
+        size: BitsSize,
+        nesting: u32,
+        out: &mut [u32],
+        bytes: &mut [u8],
+        ctx: LowerCtx,
+    ) -> LowerCtx
+        requires record_in { RecordIn self.input.words.now self.input.text.now r nesting }
+        ensures { FillsProperty self.entry.keep ctx result out.old bytes.old out.new bytes.new
+            (sized_list self.entry.level (span_at self.entry.input.words.now r)
+            (parts_at self.entry.input.words.now self.entry.input.text.now r) (R.value size)) }
+    {
+        let made = self.push_cell_list(size, out, bytes, ctx);
+        let cells = child_at(self.input.words, r);
+        self.lower_cells(cells, size, nesting - 1, out, bytes, made)
+    }
+
+    // An empty cell list, where it is kept.
+    fn push_cell_list(
+        self,
+        size: BitsSize,
+        out: &mut [u32],
+        bytes: &mut [u8],
+        ctx: LowerCtx,
+    ) -> LowerCtx
+        ensures { FillsProperty self.entry.keep ctx result out.old bytes.old out.new bytes.new
+            (one (cell_list (bits_of size) [])) }
+    {
+        if !self.keep {
+            return ctx;
+        }
+        ctx.add_cell_list(out, bytes, size.bits())
+    }
+
+    // The cells of a chain, in order.
+    fn lower_cells(
+        self,
+        first: u32,
+        size: BitsSize,
+        nesting: u32,
+        out: &mut [u32],
+        bytes: &mut [u8],
+        ctx: LowerCtx,
+    ) -> LowerCtx
+        requires chain_in { ChainIn self.input.words.now self.input.text.now first nesting }
+        ensures { FillsCells self.entry.keep ctx result out.old bytes.old out.new bytes.new
+            (lower_cells self.entry.level size (chain_at self.entry.input.words.now self.entry.input.text.now first)) }
+    {
+        let mut next = ctx;
+        for r in self.input.chain(first) {
+            next = self.lower_cell(r, size, nesting, out, bytes, next);
+        }
+        next
+    }
+
+    // A cell of a width, or what is reported of it.
+    fn lower_cell(
+        self,
+        r: u32,
+        size: BitsSize,
+        nesting: u32,
+        out: &mut [u32],
+        bytes: &mut [u8],
+        ctx: LowerCtx,
+    ) -> LowerCtx
+        requires record_in { RecordIn self.input.words.now self.input.text.now r nesting }
+        ensures { FillsCells self.entry.keep ctx result out.old bytes.old out.new bytes.new
+            (lower_cell self.entry.level size (record_at self.entry.input.words.now self.entry.input.text.now r)) }
+    {
+        match self.input.read_cell(r, size, nesting, self.level) {
+            Ok(CellValue::Number(n)) => self.push_number(n, out, bytes, ctx),
+            Ok(CellValue::Phandle(kind)) => self.push_reference(r, kind, out, bytes, ctx),
+            Err(failed) => {
+                emit_report(self.input.words, self.input.text, failed, out, bytes, ctx)
+            }
+        }
+    }
+
+    // A number in the last cell list, where it is kept.
+    fn push_number(self, n: u64, out: &mut [u32], bytes: &mut [u8], ctx: LowerCtx) -> LowerCtx
+        ensures { FillsCells self.entry.keep ctx result out.old bytes.old out.new bytes.new
+            (one (number n)) }
+    {
+        if !self.keep {
+            return ctx;
+        }
+        let low = (n % 4294967296) as u32;
+        let high = (n / 4294967296) as u32;
+        ctx.add_number(out, bytes, low, high)
+    }
+
+    // A reference in the last cell list, where it is kept.
+    fn push_reference(
+        self,
+        r: u32,
+        kind: MirPhandleTarget,
+        out: &mut [u32],
+        bytes: &mut [u8],
+        ctx: LowerCtx,
+    ) -> LowerCtx
+        ensures { FillsCells self.entry.keep ctx result out.old bytes.old out.new bytes.new
+            (one (reference (named_at kind self.entry.input.words.now self.entry.input.text.now r))) }
+    {
+        if !self.keep {
+            return ctx;
+        }
+        ctx.add_reference(
             out,
             bytes,
             kind,
-            phandle_label_at(words, text, r),
-            phandle_path_at(words, text, r),
-        ),
+            phandle_label_at(self.input.words, self.input.text, r),
+            phandle_path_at(self.input.words, self.input.text, r),
+        )
     }
-}
-
-// A cell list of a width, and its cells.
-fn lower_cell_list(
-    input: Input<'_>,
-    r: u32,
-    size: BitsSize,
-    keep: bool,
-    nesting: u32,
-    out: &mut [u32],
-    bytes: &mut [u8],
-    ctx: LowerCtx,
-    level: u32,
-) -> LowerCtx
-    requires record_in { RecordIn input.words.now input.text.now r nesting }
-    ensures { FillsProperty keep ctx result out.old bytes.old out.new bytes.new
-        (sized_list level (span_at input.entry.words.now r) (parts_at input.entry.words.now input.entry.text.now r) (R.value size)) }
-{
-    let made = push_cell_list(size, keep, out, bytes, ctx);
-    lower_cells(
-        input,
-        child_at(input.words, r),
-        size,
-        keep,
-        nesting - 1,
-        out,
-        bytes,
-        made,
-        level,
-    )
-}
-
-// An empty cell list, where it is kept.
-fn push_cell_list(
-    size: BitsSize,
-    keep: bool,
-    out: &mut [u32],
-    bytes: &mut [u8],
-    ctx: LowerCtx,
-) -> LowerCtx
-    ensures { FillsProperty keep ctx result out.old bytes.old out.new bytes.new
-        (one (cell_list (bits_of size) [])) }
-{
-    if !keep {
-        return ctx;
-    }
-    ctx.add_cell_list(out, bytes, size.bits())
-}
-
-// The cells of a chain, in order.
-fn lower_cells(
-    input: Input<'_>,
-    first: u32,
-    size: BitsSize,
-    keep: bool,
-    nesting: u32,
-    out: &mut [u32],
-    bytes: &mut [u8],
-    ctx: LowerCtx,
-    level: u32,
-) -> LowerCtx
-    requires chain_in { ChainIn input.words.now input.text.now first nesting }
-    ensures { FillsCells keep ctx result out.old bytes.old out.new bytes.new
-        (lower_cells level size (chain_at input.entry.words.now input.entry.text.now first)) }
-{
-    let mut next = ctx;
-    for r in input.chain(first) {
-        next = lower_cell(input, r, size, keep, nesting, out, bytes, next, level);
-    }
-    next
-}
-
-// A cell of a width, or what is reported of it.
-fn lower_cell(
-    input: Input<'_>,
-    r: u32,
-    size: BitsSize,
-    keep: bool,
-    nesting: u32,
-    out: &mut [u32],
-    bytes: &mut [u8],
-    ctx: LowerCtx,
-    level: u32,
-) -> LowerCtx
-    requires record_in { RecordIn input.words.now input.text.now r nesting }
-    ensures { FillsCells keep ctx result out.old bytes.old out.new bytes.new
-        (lower_cell level size (record_at input.entry.words.now input.entry.text.now r)) }
-{
-    match input.read_cell(r, size, nesting, level) {
-        Ok(CellValue::Number(n)) => push_number(n, keep, out, bytes, ctx),
-        Ok(CellValue::Phandle(kind)) => push_reference(
-            input.words,
-            input.text,
-            r,
-            kind,
-            keep,
-            out,
-            bytes,
-            ctx,
-        ),
-        Err(failed) => emit_report(input.words, input.text, failed, out, bytes, ctx),
-    }
-}
-
-// A number in the last cell list, where it is kept.
-fn push_number(n: u64, keep: bool, out: &mut [u32], bytes: &mut [u8], ctx: LowerCtx) -> LowerCtx
-    ensures { FillsCells keep ctx result out.old bytes.old out.new bytes.new
-        (one (number n)) }
-{
-    if !keep {
-        return ctx;
-    }
-    let low = (n % 4294967296) as u32;
-    let high = (n / 4294967296) as u32;
-    ctx.add_number(out, bytes, low, high)
-}
-
-// A reference in the last cell list, where it is kept.
-fn push_reference(
-    words: &[u32],
-    text: &[u8],
-    r: u32,
-    kind: MirPhandleTarget,
-    keep: bool,
-    out: &mut [u32],
-    bytes: &mut [u8],
-    ctx: LowerCtx,
-) -> LowerCtx
-    ensures { FillsCells keep ctx result out.old bytes.old out.new bytes.new
-        (one (reference (named_at kind words.now text.now r))) }
-{
-    if !keep {
-        return ctx;
-    }
-    ctx.add_reference(
-        out,
-        bytes,
-        kind,
-        phandle_label_at(words, text, r),
-        phandle_path_at(words, text, r),
-    )
 }

@@ -16,6 +16,7 @@ ghost use Rattle.items.specs.meaning.Lower.{delete_node, delete_resolved, delete
 ghost use Rattle.items.specs.meaning.Lower.{delete_property_named, lower_directive};
 ghost use Rattle.resolving.specs.machine.Lowers.{Lowers, LowersAt};
 ghost use Rattle.items.specs.machine.Deleting.{DeletesAt, DeletesThere, DeletesBound, DefinesBound};
+ghost use Rattle.items.specs.machine.Unbinding.{text_of};
 
 use crate::directive::{DELETE_NODE, DELETE_PROPERTY, INCLUDE, PLUGIN, VERSION};
 use crate::report::{NO_SPAN, emit_name, emit_report};
@@ -114,7 +115,8 @@ fn delete_named(
     if ctx.short {
         return ctx;
     }
-    let without = unbind_all(ctx, out, bytes, Base::Named(parent), name, unit);
+    let base = Base::Named { parent, name, unit };
+    let without = unbind_all(ctx, out, bytes, base);
     without.define(
         out,
         bytes,
@@ -175,8 +177,8 @@ fn delete_target(
     let defs = ctx.defs.first;
     let leads = resolve_phandle(words, text, r, Ok(kind), out, bytes, binds, defs);
     match leads {
-        Ok(Leads::Bound(_)) => delete_bound(ctx, out, bytes, false, label, path, span),
-        Ok(Leads::BoundPath(_)) => delete_bound(ctx, out, bytes, true, label, path, span),
+        Ok(Leads::Bound(_)) => delete_bound(ctx, out, bytes, None, label, span),
+        Ok(Leads::BoundPath(_)) => delete_bound(ctx, out, bytes, Some(path), label, span),
         Ok(Leads::AtPath) => delete_at(ctx, out, bytes, path, span),
         Ok(Leads::Node(n)) => delete_there(ctx, out, bytes, n, span),
         Err(_) => report_unresolved(ctx, out, bytes, leads, label, path, at),
@@ -216,7 +218,7 @@ fn delete_at(ctx: LowerCtx, out: &mut [u32], bytes: &mut [u8], path: &[u8], span
     ensures { DeletesAt path.now (meant span) ctx result out.old bytes.old out.new
         bytes.new }
 {
-    let without = unbind_all(ctx, out, bytes, Base::Given, path, path);
+    let without = unbind_all(ctx, out, bytes, Base::Given(path));
     let Some(found) = first_with(out, bytes, without.defs.first, path) else {
         return without;
     };
@@ -228,9 +230,8 @@ fn delete_at(ctx: LowerCtx, out: &mut [u32], bytes: &mut [u8], path: &[u8], span
 fn delete_there(ctx: LowerCtx, out: &mut [u32], bytes: &mut [u8], r: u32, span: Span) -> LowerCtx
     ensures { DeletesThere r (meant span) ctx result out.old bytes.old out.new bytes.new }
 {
-    let none: [u8; 0] = [];
     let place = first_place(out, r);
-    let without = unbind_all(ctx, out, bytes, Base::There(place), &none, &none);
+    let without = unbind_all(ctx, out, bytes, Base::There(place));
     without.define_at(out, bytes, DefKind::DeletedNode, span, span, place)
 }
 
@@ -239,23 +240,20 @@ fn delete_bound(
     ctx: LowerCtx,
     out: &mut [u32],
     bytes: &mut [u8],
-    below: bool,
+    below: Option<&[u8]>,
     label: &[u8],
-    path: &[u8],
     span: Span,
 ) -> LowerCtx
-    ensures { DeletesBound below label.now path.now (meant span) ctx result out.old bytes.old
+    ensures { DeletesBound (text_of below.entry) label.now (meant span) ctx result out.old bytes.old
         out.new bytes.new }
 {
-    let unit = no_text(path);
     let Some(found) = first_with(out, bytes, ctx.binds.first, label) else {
         return ctx;
     };
     let number = found.number;
-    let base = bound_base(below, number);
-    let goes = goes_with(ctx, out, bytes, base, path, unit, number);
-    let without = unbind_others(ctx, out, bytes, below, path, unit, label);
-    let made = define_bound(without, out, bytes, below, label, path, span);
+    let goes = goes_with(ctx, out, bytes, bound_base(below, number), number);
+    let without = unbind_others(ctx, out, bytes, below, label);
+    let made = define_bound(without, out, bytes, below, label, span);
     if goes {
         return unlink_first(made, out, bytes, label);
     }
@@ -267,21 +265,19 @@ fn define_bound(
     ctx: LowerCtx,
     out: &mut [u32],
     bytes: &mut [u8],
-    below: bool,
+    below: Option<&[u8]>,
     label: &[u8],
-    path: &[u8],
     span: Span,
 ) -> LowerCtx
-    ensures { DefinesBound below label.now path.now (meant span) ctx result out.old bytes.old
+    ensures { DefinesBound (text_of below.entry) label.now (meant span) ctx result out.old bytes.old
         out.new bytes.new }
 {
     let Some(found) = first_with(out, bytes, ctx.binds.first, label) else {
         return ctx;
     };
     let place = second_place(out, found.number);
-    if below {
-        let unit = no_text(path);
-        return ctx.define(
+    match below {
+        Some(path) => ctx.define(
             out,
             bytes,
             DefKind::DeletedNode,
@@ -289,8 +285,8 @@ fn define_bound(
             span,
             place,
             path,
-            unit,
-        );
+            b"",
+        ),
+        None => ctx.define_at(out, bytes, DefKind::DeletedNode, span, span, place),
     }
-    ctx.define_at(out, bytes, DefKind::DeletedNode, span, span, place)
 }

@@ -1,11 +1,6 @@
 // The bindings that a deletion takes out of the log: those of live nodes' labels to their paths.
 ghost use Rattle.std.specs.Prelude.{◌≡◌, false};
-ghost use Rattle.making.specs.machine.PathPlaces.{path_in};
-ghost use Rattle.paths_numbers.specs.meaning.Lists.{any};
-ghost use Rattle.queries.specs.meaning.Labels.{has_label_at};
-ghost use Rattle.queries.specs.meaning.Live.{live};
-ghost use Rattle.paths_numbers.specs.meaning.Path.{joined};
-ghost use Rattle.definition_log.specs.meaning.ReadBack.{binding_at, read_defs};
+ghost use Rattle.definition_log.specs.meaning.ReadBack.{binding_at};
 ghost use Rattle.items.specs.machine.Unbinding.{base_of, goes_with, text_of, stop_of, Passes, Unbinds, UnbindsAll, bound_base};
 ghost use Rattle.items.specs.machine.Unbinding.{UnbindsOthers, UnbindsBehind, UnlinksFirst};
 
@@ -18,15 +13,19 @@ use paths_numbers::text::equals;
 use queries::mir::unbinds;
 use resolving::resolve::first_with;
 
-// The path of a deletion: of a name below a place, that of a place, the name itself, a binding's path, or of
-// the name below that.
+// The path of a deletion: of a name and a unit address below a place, that of a place, one that is given, a
+// binding's path, or of a name below that.
 #[derive(Clone, Copy)]
-pub enum Base {
-    Named(PathAt),
+pub enum Base<'a> {
+    Named {
+        parent: PathAt,
+        name: &'a [u8],
+        unit: &'a [u8],
+    },
     There(PathAt),
-    Given,
+    Given(&'a [u8]),
     Bound(u32),
-    BoundPath(u32),
+    BoundPath(u32, &'a [u8]),
 }
 
 // After one binding: the state, and the last binding that is left before the next.
@@ -51,14 +50,12 @@ pub fn unbind(
     ctx: LowerCtx,
     out: &mut [u32],
     bytes: &mut [u8],
-    base: Base,
-    name: &[u8],
-    unit: &[u8],
+    base: Base<'_>,
     until: Option<&[u8]>,
     before: u32,
     from: Walk,
 ) -> Unbound
-    ensures { Unbinds base name.now unit.now (text_of until.entry) ctx out.old
+    ensures { Unbinds base.entry (text_of until.entry) ctx out.old
         bytes.old out.new bytes.new before from result }
 {
     let mut d = ctx;
@@ -73,7 +70,7 @@ pub fn unbind(
                 rest: walk,
             };
         }
-        let one = unbind_one(d, out, bytes, base, name, unit, previous, r);
+        let one = unbind_one(d, out, bytes, base, previous, r);
         d = one.ctx;
         previous = one.previous;
     }
@@ -100,17 +97,15 @@ fn unbind_one(
     ctx: LowerCtx,
     out: &mut [u32],
     bytes: &mut [u8],
-    base: Base,
-    name: &[u8],
-    unit: &[u8],
+    base: Base<'_>,
     previous: u32,
     r: u32,
 ) -> Unlinked
     ensures { Passes ctx result.ctx out.old bytes.old out.new bytes.new
-        (base_of ctx.bytes out.old bytes.old name.now unit.now base) previous r
+        (base_of ctx.bytes out.old bytes.old base.entry) previous r
         result.previous }
 {
-    if goes_with(ctx, out, bytes, base, name, unit, r) {
+    if goes_with(ctx, out, bytes, base, r) {
         return Unlinked {
             ctx: ctx.unlink_binding(out, bytes, previous, r),
             previous,
@@ -120,102 +115,56 @@ fn unbind_one(
 }
 
 // Whether a binding goes with what is deleted.
-pub fn goes_with(
-    ctx: LowerCtx,
-    out: &[u32],
-    bytes: &[u8],
-    base: Base,
-    name: &[u8],
-    unit: &[u8],
-    r: u32,
-) -> bool
+#[tactic(auto, using(crate::proofs::Unbinding::goes_by), unfolding(crate::specs::machine::Unbinding::base_of))]
+pub fn goes_with(ctx: LowerCtx, out: &[u32], bytes: &[u8], base: Base<'_>, r: u32) -> bool
     ensures { result ≡ goes_with out.now bytes.now ctx.defs.first
-        (base_of ctx.bytes out.now bytes.now name.now unit.now base) r }
+        (base_of ctx.bytes out.now bytes.now base.entry) r }
 {
     let label = first_text(out, bytes, r);
     let path = second_text(out, bytes, r);
     let defs = ctx.defs.first;
     match base {
-        Base::Named(place) => unbinds_named(ctx, out, bytes, place, name, unit, label, path),
-        Base::There(place) => unbinds_there(ctx, out, bytes, place, label, path),
-        Base::Given => unbinds(out, bytes, defs, name, label, path),
+        Base::Named { parent, name, unit } => {
+            let parent = parent.text(ctx.bytes, bytes);
+            let named = Joined { parent, name, unit };
+            unbinds(out, bytes, defs, named, label, path)
+        }
+        Base::There(place) => {
+            let there = place.text(ctx.bytes, bytes);
+            unbinds(out, bytes, defs, there, label, path)
+        }
+        Base::Given(given) => unbinds(out, bytes, defs, given, label, path),
         Base::Bound(b) => unbinds(out, bytes, defs, second_text(out, bytes, b), label, path),
-        Base::BoundPath(b) => {
+        Base::BoundPath(b, name) => {
             let parent = second_text(out, bytes, b);
-            let below = Joined { parent, name, unit };
+            let below = Joined {
+                parent,
+                name,
+                unit: b"",
+            };
             unbinds(out, bytes, defs, below, label, path)
         }
     }
 }
 
-// The same of a label and a path, where the base is a name below a place.
-fn unbinds_named(
-    ctx: LowerCtx,
-    out: &[u32],
-    bytes: &[u8],
-    place: PathAt,
-    name: &[u8],
-    unit: &[u8],
-    label: &[u8],
-    path: &[u8],
-) -> bool
-    ensures { result ≡ any (has_label_at label.now path.now)
-        (live (joined (path_in ctx.bytes bytes.now place) name.now unit.now)
-        (read_defs out.now bytes.now ctx.defs.first)) }
-{
-    let parent = place.text(ctx.bytes, bytes);
-    unbinds(
-        out,
-        bytes,
-        ctx.defs.first,
-        Joined { parent, name, unit },
-        label,
-        path,
-    )
-}
-
-// The same where the base is the path of a place.
-fn unbinds_there(
-    ctx: LowerCtx,
-    out: &[u32],
-    bytes: &[u8],
-    place: PathAt,
-    label: &[u8],
-    path: &[u8],
-) -> bool
-    ensures { result ≡ any (has_label_at label.now path.now)
-        (live (path_in ctx.bytes bytes.now place)
-        (read_defs out.now bytes.now ctx.defs.first)) }
-{
-    let base = place.text(ctx.bytes, bytes);
-    unbinds(out, bytes, ctx.defs.first, base, label, path)
-}
-
 // Takes out all bindings that go with what is deleted.
-pub fn unbind_all(
-    ctx: LowerCtx,
-    out: &mut [u32],
-    bytes: &mut [u8],
-    base: Base,
-    name: &[u8],
-    unit: &[u8],
-) -> LowerCtx
-    ensures { UnbindsAll base name.now unit.now ctx result out.old bytes.old out.new
+pub fn unbind_all(ctx: LowerCtx, out: &mut [u32], bytes: &mut [u8], base: Base<'_>) -> LowerCtx
+    ensures { UnbindsAll base.entry ctx result out.old bytes.old out.new
         bytes.new }
 {
     let binds = Walk::new(out, ctx.binds.first);
-    let all = unbind(ctx, out, bytes, base, name, unit, None, 0, binds);
+    let all = unbind(ctx, out, bytes, base, None, 0, binds);
     all.ctx
 }
 
 // The path of a binding, or of a name below it.
-pub fn bound_base(below: bool, r: u32) -> Base
-    ensures { result ≡ bound_base below r }
+pub fn bound_base(below: Option<&[u8]>, r: u32) -> Base<'_>
+    ensures { result ≡ bound_base below.entry r }
 {
-    if below {
-        return Base::BoundPath(r);
+    match below {
+        Some(name) => Base::BoundPath(r, name),
+        None => Base::Bound(r),
     }
-    Base::Bound(r)
 }
 
 // Takes out all bindings but the label's first that go with what is deleted, whose path is that
@@ -224,12 +173,10 @@ pub fn unbind_others(
     ctx: LowerCtx,
     out: &mut [u32],
     bytes: &mut [u8],
-    below: bool,
-    name: &[u8],
-    unit: &[u8],
+    below: Option<&[u8]>,
     label: &[u8],
 ) -> LowerCtx
-    ensures { UnbindsOthers below name.now unit.now label.now ctx result out.old
+    ensures { UnbindsOthers (text_of below.entry) label.now ctx result out.old
         bytes.old out.new bytes.new }
 {
     let Some(found) = first_with(out, bytes, ctx.binds.first, label) else {
@@ -237,25 +184,18 @@ pub fn unbind_others(
     };
     let base = bound_base(below, found.number);
     let binds = Walk::new(out, ctx.binds.first);
-    let up = unbind(ctx, out, bytes, base, name, unit, Some(label), 0, binds);
-    unbind_behind(up, out, bytes, below, name, unit)
+    let up = unbind(ctx, out, bytes, base, Some(label), 0, binds);
+    unbind_behind(up, out, bytes, below)
 }
 
 // The same behind the binding at which the walk stopped.
-fn unbind_behind(
-    up: Unbound,
-    out: &mut [u32],
-    bytes: &mut [u8],
-    below: bool,
-    name: &[u8],
-    unit: &[u8],
-) -> LowerCtx
-    ensures { UnbindsBehind below name.now unit.now up result out.old bytes.old out.new bytes.new }
+fn unbind_behind(up: Unbound, out: &mut [u32], bytes: &mut [u8], below: Option<&[u8]>) -> LowerCtx
+    ensures { UnbindsBehind below.entry up result out.old bytes.old out.new bytes.new }
 {
     match up.here {
         Some(r) => {
             let base = bound_base(below, r);
-            let behind = unbind(up.ctx, out, bytes, base, name, unit, None, r, up.rest);
+            let behind = unbind(up.ctx, out, bytes, base, None, r, up.rest);
             behind.ctx
         }
         None => up.ctx,

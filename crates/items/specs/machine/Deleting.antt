@@ -1,5 +1,5 @@
 -- What the deletions by a reference that leads somewhere do to the log in hand.
-use Rattle.std.specs.Prelude.{ℕ, ◌≡◌, Bool, true, false, List, []}
+use Rattle.std.specs.Prelude.{ℕ, ◌≡◌, true, false, List, Option as Maybe}
 use Rattle.std.proofs.Math.Option.{some}
 use Rattle.making.specs.declared.ctx.LowerCtx.{LowerCtx}
 use Rattle.definition_log.specs.meaning.Contents.{Span, deleted_node}
@@ -23,13 +23,13 @@ pub record DeletesThere (r : ℕ) (span : Span) (c d : LowerCtx) (words bytes w 
       → Represents k d w b (delete_node (first_text words bytes r) span s)
 
 -- of the path of a label's first binding, or of a path below that
-pub record DeletesBound (below : Bool) (label path : List ℕ) (span : Span) (c d : LowerCtx) (words bytes w b : List ℕ) : Type 0 where
+pub record DeletesBound (below : Maybe (List ℕ)) (label : List ℕ) (span : Span) (c d : LowerCtx) (words bytes w b : List ℕ) : Type 0 where
   pub deletes : (k : Context) (s : State) (p : List ℕ) → Represents k c words bytes s → c.short ≡ false
       → first_binding label s.binds ≡ some p
-      → Represents k d w b (delete_node (bound_path below p path []) span s)
+      → Represents k d w b (delete_node (bound_path below p) span s)
 
 -- the deletion itself
-pub record DefinesBound (below : Bool) (label path : List ℕ) (span : Span) (c d : LowerCtx) (words bytes w b : List ℕ) : Type 0 where
+pub record DefinesBound (below : Maybe (List ℕ)) (label : List ℕ) (span : Span) (c d : LowerCtx) (words bytes w b : List ℕ) : Type 0 where
   pub defines : (k : Context) (s : State) (p : List ℕ) → Represents k c words bytes s → c.short ≡ false
       → first_binding label s.binds ≡ some p
-      → Represents k d w b (define (bare (bound_path below p path []) deleted_node span) s)
+      → Represents k d w b (define (bare (bound_path below p) deleted_node span) s)

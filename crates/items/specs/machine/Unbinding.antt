@@ -1,5 +1,5 @@
 -- The removal of bindings as it goes along their chain.
-use Rattle.std.specs.Prelude.{ℕ, ◌+◌, ◌≤◌, ◌≡◌, Bool, true, false, cond, List, [], ◌∷◌, ◌++◌, length}
+use Rattle.std.specs.Prelude.{ℕ, ◌+◌, ◌≤◌, ◌≡◌, Bool, true, false, List, [], ◌∷◌, ◌++◌, length}
 use Rattle.std.specs.Prelude.{Option as Maybe, Some, None, MatchOption}
 use Rattle.std.specs.Borrow.{Bor}
 use Rattle.paths_numbers.specs.meaning.Text.{same}
@@ -21,13 +21,14 @@ use Rattle.items.specs.declared.unbind.Base.{Base}
 use Rattle.items.specs.declared.unbind.Base.TheVariants.{Named, There, Given, Bound, BoundPath}
 use Rattle.items.specs.declared.unbind.Unbound.{Unbound}
 
--- a path as it is read: of a name below a place, that of a place, the name itself, a binding's path, or of the name below that
-unfoldable pub base_of : ℕ → List ℕ → List ℕ → List ℕ → List ℕ → Base → List ℕ
-base_of used words bytes name unit (Named p) = joined (path_in used bytes p) name unit
-base_of used words bytes name unit (There p) = path_in used bytes p
-base_of used words bytes name unit Given = name
-base_of used words bytes name unit (Bound r) = second_text words bytes r
-base_of used words bytes name unit (BoundPath r) = joined (second_text words bytes r) name unit
+-- a path as it is read: of a name and a unit address below a place, that of a place, one that is given, a binding's path, or of a name
+-- below that
+unfoldable pub base_of : ℕ → List ℕ → List ℕ → Base → List ℕ
+base_of used words bytes (Named p name unit) = joined (path_in used bytes p) name.now unit.now
+base_of used words bytes (There p) = path_in used bytes p
+base_of used words bytes (Given path) = path.now
+base_of used words bytes (Bound r) = second_text words bytes r
+base_of used words bytes (BoundPath r name) = joined (second_text words bytes r) name.now []
 
 -- whether binding r is one of a live node's label to its path, at or under a base
 unfoldable pub goes_with : List ℕ → List ℕ → ℕ → List ℕ → ℕ → Bool
@@ -59,20 +60,20 @@ pub data Stays (w b : List ℕ) (until : Maybe (List ℕ)) (r : ℕ) (ns ms : Li
   ahead : one_of r ms ≡ true → stop_of until (binding_at w b r) ≡ true → Stays w b until r ns ms
 
 -- what is read as the base is this path, and stays so
-pub data BaseAt (k : Context) (w b name unit : List ℕ) (until : Maybe (List ℕ)) (ns ms : List ℕ) (p : List ℕ) : Base → Type 0 where
-  at_named : (place : PathAt) (parent : List ℕ) (k' : Context) → k ≡ with_place (record { at = place; path = parent }) k'
-      → p ≡ joined parent name unit
-      → BaseAt k w b name unit until ns ms p (Named place)
+pub data BaseAt (k : Context) (w b : List ℕ) (until : Maybe (List ℕ)) (ns ms : List ℕ) (p : List ℕ) : Base → Type 0 where
+  at_named : (place : PathAt) (name unit : Bor (List ℕ)) (parent : List ℕ) (k' : Context)
+      → k ≡ with_place (record { at = place; path = parent }) k' → p ≡ joined parent name.now unit.now
+      → BaseAt k w b until ns ms p (Named place name unit)
   at_there : (place : PathAt) (k' : Context) → k ≡ with_place (record { at = place; path = p }) k'
-      → BaseAt k w b name unit until ns ms p (There place)
-  at_given : p ≡ name → BaseAt k w b name unit until ns ms p Given
-  at_bound : (r : ℕ) → Stays w b until r ns ms → p ≡ second_text w b r → BaseAt k w b name unit until ns ms p (Bound r)
-  at_below : (r : ℕ) → Stays w b until r ns ms → p ≡ joined (second_text w b r) name unit
-      → BaseAt k w b name unit until ns ms p (BoundPath r)
+      → BaseAt k w b until ns ms p (There place)
+  at_given : (path : Bor (List ℕ)) → p ≡ path.now → BaseAt k w b until ns ms p (Given path)
+  at_bound : (r : ℕ) → Stays w b until r ns ms → p ≡ second_text w b r → BaseAt k w b until ns ms p (Bound r)
+  at_below : (r : ℕ) (name : Bor (List ℕ)) → Stays w b until r ns ms → p ≡ joined (second_text w b r) name.now []
+      → BaseAt k w b until ns ms p (BoundPath r name)
 
 -- a walk along the bindings of what the log said at first, of which those in `front` are left alone: `previous` and r are the last record
 -- passed and the next, of which so many may be left
-pub record Walk (base : Base) (name unit : List ℕ) (until : Maybe (List ℕ)) (k : Context) (s : State) (front : List Binding)
+pub record Walk (base : Base) (until : Maybe (List ℕ)) (k : Context) (s : State) (front : List Binding)
     (p : List ℕ) (d : LowerCtx) (w b : List ℕ) (previous r left : ℕ) : Type 0 where
   pub done : List Binding
   pub todo : List Binding
@@ -84,31 +85,32 @@ pub record Walk (base : Base) (name unit : List ℕ) (until : Maybe (List ℕ)) 
   pub sized : length ns ≡ length (front ++ without (live p s.defs) done)
   pub last_is : previous ≡ last_number ns
   pub room : left + length ns ≤ log_count w
-  pub at : BaseAt k w b name unit until ns (chain_from left w r) p base
+  pub at : BaseAt k w b until ns (chain_from left w r) p base
   pub unlabelled : any (stop_of until) done ≡ false
 
 -- a walk to its end, or to the binding at which it stops
-pub record Unbinds (base : Base) (name unit : List ℕ) (until : Maybe (List ℕ)) (c : LowerCtx) (words bytes w b : List ℕ)
+pub record Unbinds (base : Base) (until : Maybe (List ℕ)) (c : LowerCtx) (words bytes w b : List ℕ)
     (previous : ℕ) (from : Cursor) (u : Unbound) : Type 0 where
   pub last : Cursor
   pub walks : (k : Context) (s : State) (front : List Binding) (p : List ℕ)
-      → Walk base name unit until k s front p c words bytes previous from.next from.left
-      → Walk base name unit until k s front p u.ctx w b u.previous last.next last.left
+      → Walk base until k s front p c words bytes previous from.next from.left
+      → Walk base until k s front p u.ctx w b u.previous last.next last.left
   pub ends : MatchOption u.here (Stopped w last u.rest) (λ r. Stepped w last u.rest r × (stop_of until (binding_at w b r) ≡ true))
 
 -- all bindings of the live nodes at or under a base
-pub record UnbindsAll (base : Base) (name unit : List ℕ) (c d : LowerCtx) (words bytes w b : List ℕ) : Type 0 where
+pub record UnbindsAll (base : Base) (c d : LowerCtx) (words bytes w b : List ℕ) : Type 0 where
   pub unbinds : (k : Context) (s : State) (p : List ℕ) → Represents k c words bytes s → c.short ≡ false
-      → BaseAt k words bytes name unit None [] (chain_of words c.binds.first) p base
+      → BaseAt k words bytes None [] (chain_of words c.binds.first) p base
       → Represents k d w b (unbind p s) × (d.short ≡ false)
 
--- a path by a binding
-abbrev pub bound_base : Bool → ℕ → Base
-bound_base true r = BoundPath r
-bound_base false r = Bound r
+-- a binding's path, or that of a name below it
+abbrev pub bound_base : Maybe (Bor (List ℕ)) → ℕ → Base
+bound_base None r = Bound r
+bound_base (Some name) r = BoundPath r name
 
-abbrev pub bound_path : Bool → List ℕ → List ℕ → List ℕ → List ℕ
-bound_path below p name unit = cond below (joined p name unit) p
+abbrev pub bound_path : Maybe (List ℕ) → List ℕ → List ℕ
+bound_path None p = p
+bound_path (Some name) p = joined p name []
 
 -- x is the first binding of a label
 pub record FirstOfLabel (label : List ℕ) (s : State) (xs : List Binding) (x : Binding) (ys : List Binding) : Type 0 where
@@ -117,17 +119,17 @@ pub record FirstOfLabel (label : List ℕ) (s : State) (xs : List Binding) (x : 
   pub labelled : same x.label label ≡ true
 
 -- all but that one
-pub record UnbindsOthers (below : Bool) (name unit label : List ℕ) (c d : LowerCtx) (words bytes w b : List ℕ) : Type 0 where
+pub record UnbindsOthers (below : Maybe (List ℕ)) (label : List ℕ) (c d : LowerCtx) (words bytes w b : List ℕ) : Type 0 where
   pub unbinds : (k : Context) (s : State) (xs : List Binding) (x : Binding) (ys : List Binding) → Represents k c words bytes s
       → c.short ≡ false → FirstOfLabel label s xs x ys
-      → Represents k d w b (with_binds s (without (live (bound_path below x.path name unit) s.defs) xs ++ x
-      ∷ without (live (bound_path below x.path name unit) s.defs) ys)) × (d.short ≡ false)
+      → Represents k d w b (with_binds s (without (live (bound_path below x.path) s.defs) xs ++ x
+      ∷ without (live (bound_path below x.path) s.defs) ys)) × (d.short ≡ false)
 
 -- those behind the one at which a walk stopped
-pub record UnbindsBehind (below : Bool) (name unit : List ℕ) (up : Unbound) (d : LowerCtx) (words bytes w b : List ℕ) : Type 0 where
+pub record UnbindsBehind (below : Maybe (Bor (List ℕ))) (up : Unbound) (d : LowerCtx) (words bytes w b : List ℕ) : Type 0 where
   pub none_here : up.here ≡ None → (d ≡ up.ctx) × (w ≡ words) × (b ≡ bytes)
   pub some_here : (r : ℕ) → up.here ≡ Some r
-      → (behind : Unbound) × (Unbinds (bound_base below r) name unit None up.ctx words bytes w b r up.rest behind) × (d ≡ behind.ctx)
+      → (behind : Unbound) × (Unbinds (bound_base below r) None up.ctx words bytes w b r up.rest behind) × (d ≡ behind.ctx)
 
 -- and that one
 pub record UnlinksFirst (label : List ℕ) (c d : LowerCtx) (words bytes w b : List ℕ) : Type 0 where

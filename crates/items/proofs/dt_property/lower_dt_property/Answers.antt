@@ -29,7 +29,7 @@ overflow_sub-nesting c = let s = c in omega (
 
 pub lower_prop_values-filled-requires : goal.lower_prop_values-filled-requires
 lower_prop_values-filled-requires c = let s = c in record {
-  chain_in = rw c.second_at.ensures (second_in s.args.input.words.now s.args.input.text.now s.args.input.linked s.args.r
+  chain_in = rw c.second_at-values.ensures (second_in s.args.input.words.now s.args.input.text.now s.args.input.linked s.args.r
       s.args.nesting s.requires.record_in);
 }
 
@@ -45,7 +45,7 @@ returns c = let s = c
     c.is_named-keep.result
     (c.is_named-keep.ensures words text)
     c.define_property-made.ensures (rw
-    c.second_at.ensures at
+    c.second_at-values.ensures at
     c.lower_prop_values-filled.ensures)
     c.emit_name.ensures
     c.if-ctx.false

@@ -15,11 +15,7 @@ returns-in-Ok-Bound c =
     (c.resolve_phandle-leads.ensures.0 _ refl)
     c.resolve_phandle-leads.ensures.1 _
     (c.in-Ok-Bound.is ∙ ap Ok (rw c.in-Ok-Bound.is at c.in-Ok-Bound.field-0-is))
-    (rw (
-      c.phandle_label_at-label.ensures,
-      c.phandle_path_at-path.ensures,
-    ) at
-    c.delete_bound.ensures)
+    (rw c.phandle_label_at-label.ensures at c.delete_bound.ensures)
 
 pub returns-in-Ok-BoundPath : goal.returns-in-Ok-BoundPath
 returns-in-Ok-BoundPath c =

@@ -12,8 +12,8 @@ use Rattle.items.proofs.unbind.unbind.Given as goal
 abbrev pub invariant-loop-r : goal.invariant-loop-r
 invariant-loop-r l = (length l.out ≡ length l.initial.out) × (length l.bytes ≡ length l.initial.bytes)
     × ((k : Context) (s : State) (front : List Binding) (p : List ℕ)
-    → Walk l.base l.name l.unit (text_of l.until) k s front p l.initial.d l.initial.out l.initial.bytes l.before l.fn.from.next l.fn.from.left
-    → Walk l.base l.name l.unit (text_of l.until) k s front p l.d l.out l.bytes l.previous l.walk.next l.walk.left)
+    → Walk l.base (text_of l.until) k s front p l.initial.d l.initial.out l.initial.bytes l.before l.fn.from.next l.fn.from.left
+    → Walk l.base (text_of l.until) k s front p l.d l.out l.bytes l.previous l.walk.next l.walk.left)
 
 abbrev pub decreases-loop-r : goal.decreases-loop-r
 decreases-loop-r l = l.walk.left

@@ -9,15 +9,15 @@ use Rattle.input.specs.meaning.Property.{lower_cells}
 use Rattle.input.specs.machine.ChainLeft.{trees_of, chain_left}
 use Rattle.items.specs.machine.Filled.{FillsCells}
 use Rattle.items.proofs.ChainWalked.{RecordsIn}
-use Rattle.items.proofs.dt_property.lower_cells.Given as goal
+use Rattle.items.proofs.dt_property.Filling.lower_cells.Given as goal
 
 abbrev pub invariant-loop-r : goal.invariant-loop-r
 invariant-loop-r l =
-    RecordsIn l.input.words.now l.input.text.now l.nesting (chain_left l.r-iterator)
+    RecordsIn l.self.input.words.now l.self.input.text.now l.nesting (chain_left l.r-iterator)
     × (length l.out ≡ length l.initial.out)
     × (length l.bytes ≡ length l.initial.bytes)
     × ((d : LowerCtx) (w b : List ℕ)
-    → FillsCells l.keep l.next d l.out l.bytes w b
-    (lower_cells l.level l.size (trees_of l.input.words.now l.input.text.now (chain_left l.r-iterator)))
-    → FillsCells l.keep l.initial.next d l.initial.out l.initial.bytes w b
-    (lower_cells l.level l.size (chain_at l.input.words.now l.input.text.now l.first)))
+    → FillsCells l.self.keep l.next d l.out l.bytes w b
+    (lower_cells l.self.level l.size (trees_of l.self.input.words.now l.self.input.text.now (chain_left l.r-iterator)))
+    → FillsCells l.self.keep l.initial.next d l.initial.out l.initial.bytes w b
+    (lower_cells l.self.level l.size (chain_at l.self.input.words.now l.self.input.text.now l.first)))

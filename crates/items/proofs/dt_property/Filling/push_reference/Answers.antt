@@ -7,10 +7,10 @@ use Rattle.resolving.proofs.Lowers.{part_grows}
 use Rattle.input.specs.meaning.Report.{one}
 use Rattle.definition_log.specs.meaning.Contents.{reference}
 use mathlib.Core.Path.{refl, ap}
-use Rattle.items.proofs.dt_property.push_reference.Goals as goal
+use Rattle.items.proofs.dt_property.Filling.push_reference.Goals as goal
 
-pub returns-then-not-keep : goal.returns-then-not-keep
-returns-then-not-keep c = let a = c.args in fills_dropped adding_cells a.keep _ (search rules)
+pub returns-then-not-self : goal.returns-then-not-self
+returns-then-not-self c = let a = c.args in fills_dropped adding_cells a.self.keep _ (search rules)
     refl
 
 pub returns : goal.returns
@@ -18,5 +18,5 @@ returns c = let a = c.args in
     same_fills (ap (λ (t : Target). one (reference t)) (same_target a.kind
     c.phandle_label_at.ensures
     c.phandle_path_at.ensures))
-    (fills_one adding_cells a.keep _ _ (search rules) (part_grows _ _) (cell_added _)
+    (fills_one adding_cells a.self.keep _ _ (search rules) (part_grows _ _) (cell_added _)
     c.add_reference.ensures)

@@ -10,27 +10,27 @@ use Rattle.definition_log.specs.meaning.Contents.{string, phandle}
 use mathlib.Core.List.{List}
 use Prim.Native.Nat.{ℕ}
 use mathlib.Core.Path.{refl, sym, ap, ◌∙◌}
-use Rattle.items.proofs.dt_property.push_value.Goals as goal
+use Rattle.items.proofs.dt_property.Filling.push_value.Goals as goal
 
-pub returns-then-not-keep : goal.returns-then-not-keep
-returns-then-not-keep c = let a = c.args in
-    fills_dropped adding_values a.keep (plain_made a.words.now a.text.now a.r a.value) (search rules)
-    (plain_reports a.words.now a.text.now a.r a.value)
+pub returns-then-not-self : goal.returns-then-not-self
+returns-then-not-self c = let a = c.args in
+    fills_dropped adding_values a.self.keep (plain_made a.self.input.words.now a.self.input.text.now a.r a.value) (search rules)
+    (plain_reports a.self.input.words.now a.self.input.text.now a.r a.value)
 
 pub returns-in-String : goal.returns-in-String
 returns-in-String c = let a = c.args in
     same_fills
     (ap (λ (t : List ℕ). one (string t)) c.text_at.ensures
-    ∙ sym (ap (plain_made a.words.now a.text.now a.r)
+    ∙ sym (ap (plain_made a.self.input.words.now a.self.input.text.now a.r)
     c.in-String.is))
-    (fills_one adding_values a.keep _ _ (search rules) (part_grows _ _)
+    (fills_one adding_values a.self.keep _ _ (search rules) (part_grows _ _)
     (value_one (string _) refl) c.add_string.ensures)
 
 pub returns-in-Bytestring : goal.returns-in-Bytestring
 returns-in-Bytestring c = let a = c.args in
-    same_fills (sym (ap (plain_made a.words.now a.text.now a.r)
+    same_fills (sym (ap (plain_made a.self.input.words.now a.self.input.text.now a.r)
     c.in-Bytestring.is))
-    (bytes_fill a.keep _ (search rules)
+    (bytes_fill a.self.keep _ (search rules)
     (rw c.text_at-in-Bytestring.ensures at c.add_bytestring.ensures))
 
 pub returns-in-Phandle : goal.returns-in-Phandle
@@ -40,7 +40,7 @@ returns-in-Phandle c = let a = c.args in
     c.in-Phandle.kind
     c.phandle_label_at.ensures
     c.phandle_path_at.ensures)
-    ∙ sym (ap (plain_made a.words.now a.text.now a.r)
+    ∙ sym (ap (plain_made a.self.input.words.now a.self.input.text.now a.r)
     c.in-Phandle.is))
-    (fills_one adding_values a.keep _ _ (search rules) (part_grows _ _)
+    (fills_one adding_values a.self.keep _ _ (search rules) (part_grows _ _)
     (value_one (phandle _) refl) c.add_phandle.ensures)

@@ -8,15 +8,15 @@ use Rattle.paths_numbers.specs.meaning.Cell.{bits_of}
 use mathlib.Core.List.{[]}
 use Prim.Native.Nat.{ℕ}
 use mathlib.Core.Path.{refl, ap}
-use Rattle.items.proofs.dt_property.push_cell_list.Goals as goal
+use Rattle.items.proofs.dt_property.Filling.push_cell_list.Goals as goal
 
-pub returns-then-not-keep : goal.returns-then-not-keep
-returns-then-not-keep c = let a = c.args in fills_dropped adding_values a.keep (one (cell_list (bits_of a.size) []))
+pub returns-then-not-self : goal.returns-then-not-self
+returns-then-not-self c = let a = c.args in fills_dropped adding_values a.self.keep (one (cell_list (bits_of a.size) []))
     (search rules) refl
 
 pub returns : goal.returns
 returns c = let a = c.args in
     same_fills (ap (λ (n : ℕ). one (cell_list n [])) c.bits.ensures)
-    (fills_one adding_values a.keep _ _ (search rules)
+    (fills_one adding_values a.self.keep _ _ (search rules)
     (part_grows _ _) (value_one (cell_list c.bits.result []) refl)
     c.add_cell_list.ensures)

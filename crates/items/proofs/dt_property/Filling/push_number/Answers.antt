@@ -7,14 +7,14 @@ use Rattle.input.specs.meaning.Report.{one}
 use Rattle.definition_log.specs.meaning.Contents.{number}
 use Prim.Native.Nat.{ℕ}
 use mathlib.Core.Path.{refl, ap}
-use Rattle.items.proofs.dt_property.push_number.Goals as goal
+use Rattle.items.proofs.dt_property.Filling.push_number.Goals as goal
 
-pub returns-then-not-keep : goal.returns-then-not-keep
-returns-then-not-keep c = let a = c.args in fills_dropped adding_cells a.keep (one (number a.n))
+pub returns-then-not-self : goal.returns-then-not-self
+returns-then-not-self c = let a = c.args in fills_dropped adding_cells a.self.keep (one (number a.n))
     (search rules) refl
 
 pub returns : goal.returns
 returns c = let a = c.args in
     same_fills (ap (λ (n : ℕ). one (number n)) (number_whole a.n))
-    (fills_one adding_cells a.keep _ _ (search rules)
+    (fills_one adding_cells a.self.keep _ _ (search rules)
     (part_grows _ _) (cell_added _) c.add_number.ensures)

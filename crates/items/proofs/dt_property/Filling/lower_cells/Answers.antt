@@ -6,19 +6,19 @@ use Rattle.input.specs.machine.ChainLeft.{trees_of, chain_left}
 use Rattle.input.proofs.ChainLeft.{chain_is}
 use Rattle.items.proofs.ChainWalked.{records_start, record_here, records_later}
 use Rattle.items.proofs.Filled.{adding_cells, fills_none, fills_then, same_fills}
-use Rattle.items.proofs.dt_property.lower_cells.Goals as goal
+use Rattle.items.proofs.dt_property.Filling.lower_cells.Goals as goal
 
 pub loop-r-init : goal.loop-r-init
 loop-r-init c =
     let a = c.args in
-    let i = a.input in
+    let i = a.self.input in
     let h = c.requires.chain_in in
     let e = ap chain_left c.into_iter-r-iterator.ensures.into_iter_gives ∙ c.chain-r-items.ensures in (
       rw e (records_start i.words.now i.text.now i.linked a.first a.nesting h),
       refl,
       refl,
-      λ d w b f. same_fills (ap (λ (l : List ℕ). lower_cells a.level a.size (trees_of i.words.now i.text.now l)) e
-          ∙ ap (lower_cells a.level a.size) (chain_is i.words.now i.linked i.text.now a.first h.at)) f,
+      λ d w b f. same_fills (ap (λ (l : List ℕ). lower_cells a.self.level a.size (trees_of i.words.now i.text.now l)) e
+          ∙ ap (lower_cells a.self.level a.size) (chain_is i.words.now i.linked i.text.now a.first h.at)) f,
     )
 
 pub lower_cell-next-requires : goal.lower_cell-next-requires
@@ -31,11 +31,11 @@ loop-r-preserved c =
       records_later inv.0,
       c.lower_cell-next.auto.out ∙ inv.1,
       c.lower_cell-next.auto.bytes ∙ inv.2,
-      λ d w b f. inv.3 d w b (fills_then adding_cells c.args.keep _ _ c.lower_cell-next.ensures f),
+      λ d w b f. inv.3 d w b (fills_then adding_cells c.args.self.keep _ _ c.lower_cell-next.ensures f),
     )
 
 pub returns : goal.returns
 unfolding lower_cells
 returns c =
     let inv = rw c.in-None.ensures.steps.0 at c.loop-r.invariant in
-    inv.3 _ _ _ (fills_none adding_cells c.args.keep)
+    inv.3 _ _ _ (fills_none adding_cells c.args.self.keep)
