@@ -21,6 +21,7 @@ ghost use Rattle.items.specs.machine.AtRecord.{node_name_at, named_at};
 use crate::dt_property::is_top;
 use crate::open_node::{Opened, define_below, define_leading, define_there, open_node};
 use crate::report::{NO_SPAN, emit_name, emit_report};
+use definition_log::record::Log;
 use input::kinds::{REFERENCE, SLASH};
 use input::linked::Input;
 use input::name::{FullName, is_named};
@@ -125,8 +126,7 @@ fn place_resolved(
         input.text,
         reference,
         Ok(kind),
-        out,
-        bytes,
+        Log { words: out, bytes },
         binds,
         defs,
     );

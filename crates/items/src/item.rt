@@ -20,8 +20,9 @@ ghost use Rattle.items.specs.machine.Unbinding.{text_of};
 
 use crate::directive::{DELETE_NODE, DELETE_PROPERTY, INCLUDE, PLUGIN, VERSION};
 use crate::report::{NO_SPAN, emit_name, emit_report};
-use crate::unbind::{Base, bound_base, goes_with, unbind_all, unbind_others, unlink_first};
+use crate::unbind::{Base, goes_itself, unbind_all, unbind_others, unlink_first};
 use definition_log::parts::Span;
+use definition_log::record::Log;
 use input::kinds::{NAME, REFERENCE};
 use input::linked::{Chain, Input};
 use input::name::{is_named, name_text, unit_text};
@@ -175,7 +176,15 @@ fn delete_target(
     let at = span_at(words, r);
     let binds = ctx.binds.first;
     let defs = ctx.defs.first;
-    let leads = resolve_phandle(words, text, r, Ok(kind), out, bytes, binds, defs);
+    let leads = resolve_phandle(
+        words,
+        text,
+        r,
+        Ok(kind),
+        Log { words: out, bytes },
+        binds,
+        defs,
+    );
     match leads {
         Ok(Leads::Bound(_)) => delete_bound(ctx, out, bytes, None, label, span),
         Ok(Leads::BoundPath(_)) => delete_bound(ctx, out, bytes, Some(path), label, span),
@@ -219,7 +228,7 @@ fn delete_at(ctx: LowerCtx, out: &mut [u32], bytes: &mut [u8], path: &[u8], span
         bytes.new }
 {
     let without = unbind_all(ctx, out, bytes, Base::Given(path));
-    let Some(found) = first_with(out, bytes, without.defs.first, path) else {
+    let Some(found) = first_with(Log { words: out, bytes }, without.defs.first, path) else {
         return without;
     };
     let place = first_place(out, found.number);
@@ -247,11 +256,11 @@ fn delete_bound(
     ensures { DeletesBound (text_of below.entry) label.now (meant span) ctx result out.old bytes.old
         out.new bytes.new }
 {
-    let Some(found) = first_with(out, bytes, ctx.binds.first, label) else {
+    let log = Log { words: out, bytes };
+    let Some(found) = first_with(log, ctx.binds.first, label) else {
         return ctx;
     };
-    let number = found.number;
-    let goes = goes_with(ctx, out, bytes, bound_base(below, number), number);
+    let goes = goes_itself(ctx, log, below, found.number);
     let without = unbind_others(ctx, out, bytes, below, label);
     let made = define_bound(without, out, bytes, below, label, span);
     if goes {
@@ -272,7 +281,7 @@ fn define_bound(
     ensures { DefinesBound (text_of below.entry) label.now (meant span) ctx result out.old bytes.old
         out.new bytes.new }
 {
-    let Some(found) = first_with(out, bytes, ctx.binds.first, label) else {
+    let Some(found) = first_with(Log { words: out, bytes }, ctx.binds.first, label) else {
         return ctx;
     };
     let place = second_place(out, found.number);

@@ -5,7 +5,7 @@ ghost use Rattle.items.specs.machine.Unbinding.{base_of, goes_with, text_of, sto
 ghost use Rattle.items.specs.machine.Unbinding.{UnbindsOthers, UnbindsBehind, UnlinksFirst};
 
 use definition_log::chain::Walk;
-use definition_log::record::{first_text, second_text};
+use definition_log::record::Log;
 use making::ctx::LowerCtx;
 use making::place::PathAt;
 use paths_numbers::dt_node::Joined;
@@ -62,7 +62,7 @@ pub fn unbind(
     let mut previous = before;
     let mut walk = from;
     while let Some(r) = walk.step(out) {
-        if stops_at(out, bytes, until, r) {
+        if stops_at(Log { words: out, bytes }, until, r) {
             return Unbound {
                 ctx: d,
                 previous,
@@ -83,11 +83,11 @@ pub fn unbind(
 }
 
 // Whether a walk up to a label stops at record r.
-fn stops_at(out: &[u32], bytes: &[u8], until: Option<&[u8]>, r: u32) -> bool
-    ensures { result ≡ stop_of (text_of until.entry) (binding_at out.now bytes.now r) }
+fn stops_at(log: Log<'_>, until: Option<&[u8]>, r: u32) -> bool
+    ensures { result ≡ stop_of (text_of until.entry) (binding_at log.entry.words.now log.entry.bytes.now r) }
 {
     match until {
-        Some(label) => equals(first_text(out, bytes, r), label),
+        Some(label) => equals(log.first_text(r), label),
         None => false,
     }
 }
@@ -105,7 +105,7 @@ fn unbind_one(
         (base_of ctx.bytes out.old bytes.old base.entry) previous r
         result.previous }
 {
-    if goes_with(ctx, out, bytes, base, r) {
+    if goes_with(ctx, Log { words: out, bytes }, base, r) {
         return Unlinked {
             ctx: ctx.unlink_binding(out, bytes, previous, r),
             previous,
@@ -116,33 +116,33 @@ fn unbind_one(
 
 // Whether a binding goes with what is deleted.
 #[tactic(auto, using(crate::proofs::Unbinding::goes_by), unfolding(crate::specs::machine::Unbinding::base_of))]
-pub fn goes_with(ctx: LowerCtx, out: &[u32], bytes: &[u8], base: Base<'_>, r: u32) -> bool
-    ensures { result ≡ goes_with out.now bytes.now ctx.defs.first
-        (base_of ctx.bytes out.now bytes.now base.entry) r }
+pub fn goes_with(ctx: LowerCtx, log: Log<'_>, base: Base<'_>, r: u32) -> bool
+    ensures { result ≡ goes_with log.entry.words.now log.entry.bytes.now ctx.defs.first
+        (base_of ctx.bytes log.entry.words.now log.entry.bytes.now base.entry) r }
 {
-    let label = first_text(out, bytes, r);
-    let path = second_text(out, bytes, r);
+    let label = log.first_text(r);
+    let path = log.second_text(r);
     let defs = ctx.defs.first;
     match base {
         Base::Named { parent, name, unit } => {
-            let parent = parent.text(ctx.bytes, bytes);
+            let parent = parent.text(ctx.bytes, log.bytes);
             let named = Joined { parent, name, unit };
-            unbinds(out, bytes, defs, named, label, path)
+            unbinds(log, defs, named, label, path)
         }
         Base::There(place) => {
-            let there = place.text(ctx.bytes, bytes);
-            unbinds(out, bytes, defs, there, label, path)
+            let there = place.text(ctx.bytes, log.bytes);
+            unbinds(log, defs, there, label, path)
         }
-        Base::Given(given) => unbinds(out, bytes, defs, given, label, path),
-        Base::Bound(b) => unbinds(out, bytes, defs, second_text(out, bytes, b), label, path),
+        Base::Given(given) => unbinds(log, defs, given, label, path),
+        Base::Bound(b) => unbinds(log, defs, log.second_text(b), label, path),
         Base::BoundPath(b, name) => {
-            let parent = second_text(out, bytes, b);
+            let parent = log.second_text(b);
             let below = Joined {
                 parent,
                 name,
                 unit: b"",
             };
-            unbinds(out, bytes, defs, below, label, path)
+            unbinds(log, defs, below, label, path)
         }
     }
 }
@@ -167,6 +167,14 @@ pub fn bound_base(below: Option<&[u8]>, r: u32) -> Base<'_>
     }
 }
 
+// Whether a binding goes with what is deleted by its own path, or by that of a name below it.
+pub fn goes_itself(ctx: LowerCtx, log: Log<'_>, below: Option<&[u8]>, r: u32) -> bool
+    ensures { result ≡ goes_with log.entry.words.now log.entry.bytes.now ctx.defs.first
+        (base_of ctx.bytes log.entry.words.now log.entry.bytes.now (bound_base below.entry r)) r }
+{
+    goes_with(ctx, log, bound_base(below, r), r)
+}
+
 // Takes out all bindings but the label's first that go with what is deleted, whose path is that
 // binding's or the path of a name below it.
 pub fn unbind_others(
@@ -179,7 +187,7 @@ pub fn unbind_others(
     ensures { UnbindsOthers (text_of below.entry) label.now ctx result out.old
         bytes.old out.new bytes.new }
 {
-    let Some(found) = first_with(out, bytes, ctx.binds.first, label) else {
+    let Some(found) = first_with(Log { words: out, bytes }, ctx.binds.first, label) else {
         return ctx;
     };
     let base = bound_base(below, found.number);
@@ -207,7 +215,7 @@ pub fn unlink_first(ctx: LowerCtx, out: &mut [u32], bytes: &mut [u8], label: &[u
     ensures { UnlinksFirst label.now ctx result out.old bytes.old out.new
         bytes.new }
 {
-    let Some(found) = first_with(out, bytes, ctx.binds.first, label) else {
+    let Some(found) = first_with(Log { words: out, bytes }, ctx.binds.first, label) else {
         return ctx;
     };
     ctx.unlink_binding(out, bytes, found.previous, found.number)

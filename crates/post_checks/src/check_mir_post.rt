@@ -15,7 +15,7 @@ use crate::check_phandles::check_phandles;
 use definition_log::chain::{Walk, chain_of_most};
 use definition_log::kinds::{DELETED_PROPERTY, NODE, PLUGIN};
 use definition_log::parts::{Span, name_span_of, span_of};
-use definition_log::record::{first_text, kind_of, second_text};
+use definition_log::record::{Log, kind_of};
 use making::ctx::LowerCtx;
 use making::place::{PathAt, first_place};
 use paths_numbers::codes::{BEFORE_VERSION, DUPLICATE_LABEL, PLUGIN_MISPLACED, VERSION_LATE};
@@ -77,7 +77,7 @@ fn check_label(
         (map (binding_at out.old bytes.old) (chain_from passed out.old first))
         (map (binding_at out.old bytes.old) (walk_left out.old rest))) }
 {
-    if binds_label(out, bytes, first, passed, r) {
+    if binds_label(Log { words: out, bytes }, first, passed, r) {
         return ctx;
     }
     check_bindings(out, bytes, ctx, r, rest)
@@ -122,7 +122,7 @@ fn check_binding(
         (binding_report (binding_at out.old bytes.old first) (binding_at out.old bytes.old r)
         (map (binding_at out.old bytes.old) (chain_from passed out.old after))) }
 {
-    if is_reported(out, bytes, first, after, passed, r) {
+    if is_reported(Log { words: out, bytes }, first, after, passed, r) {
         let span = span_of(out, r);
         let earlier = span_of(out, first);
         let label = first_place(out, r);
@@ -132,46 +132,43 @@ fn check_binding(
 }
 
 // Whether there is a report on it.
-fn is_reported(out: &[u32], bytes: &[u8], first: u32, after: u32, passed: u32, r: u32) -> bool
-    ensures { result ≡ is_reported (binding_at out.now bytes.now first)
-        (binding_at out.now bytes.now r) (map (binding_at out.now bytes.now)
-        (chain_from passed out.now after)) }
+fn is_reported(log: Log<'_>, first: u32, after: u32, passed: u32, r: u32) -> bool
+    ensures { result ≡ is_reported (binding_at log.entry.words.now log.entry.bytes.now first)
+        (binding_at log.entry.words.now log.entry.bytes.now r) (map (binding_at log.entry.words.now log.entry.bytes.now)
+        (chain_from passed log.entry.words.now after)) }
 {
-    has_label(out, bytes, first, r)
-        && !has_path(out, bytes, first, r)
-        && !binds_again(out, bytes, after, passed, r)
+    has_label(log, first, r) && !has_path(log, first, r) && !binds_again(log, after, passed, r)
 }
 
 // Whether one of the bindings from `first` on, of which there are at most `most`, has the label of
 // binding `r`.
-fn binds_label(out: &[u32], bytes: &[u8], first: u32, most: u32, r: u32) -> bool
-    ensures { result ≡ any (has_label (binding_at out.now bytes.now r))
-        (map (binding_at out.now bytes.now) (chain_from most out.now first)) }
+fn binds_label(log: Log<'_>, first: u32, most: u32, r: u32) -> bool
+    ensures { result ≡ any (has_label (binding_at log.entry.words.now log.entry.bytes.now r))
+        (map (binding_at log.entry.words.now log.entry.bytes.now) (chain_from most log.entry.words.now first)) }
 {
-    chain_of_most(out, first, most).any(|x| has_label(out, bytes, x, r))
+    chain_of_most(log.words, first, most).any(|x| has_label(log, x, r))
 }
 
 // Whether one of them has its label and its path.
-fn binds_again(out: &[u32], bytes: &[u8], first: u32, most: u32, r: u32) -> bool
-    ensures { result ≡ any (again (binding_at out.now bytes.now r))
-        (map (binding_at out.now bytes.now) (chain_from most out.now first)) }
+fn binds_again(log: Log<'_>, first: u32, most: u32, r: u32) -> bool
+    ensures { result ≡ any (again (binding_at log.entry.words.now log.entry.bytes.now r))
+        (map (binding_at log.entry.words.now log.entry.bytes.now) (chain_from most log.entry.words.now first)) }
 {
-    chain_of_most(out, first, most).any(|x| has_label(out, bytes, x, r)
-        && has_path(out, bytes, x, r))
+    chain_of_most(log.words, first, most).any(|x| has_label(log, x, r) && has_path(log, x, r))
 }
 
 // Whether binding `x` has the label of binding `r`.
-fn has_label(out: &[u32], bytes: &[u8], x: u32, r: u32) -> bool
-    ensures { result ≡ has_label (binding_at out.now bytes.now r) (binding_at out.now bytes.now x) }
+fn has_label(log: Log<'_>, x: u32, r: u32) -> bool
+    ensures { result ≡ has_label (binding_at log.entry.words.now log.entry.bytes.now r) (binding_at log.entry.words.now log.entry.bytes.now x) }
 {
-    equals(first_text(out, bytes, r), first_text(out, bytes, x))
+    equals(log.first_text(r), log.first_text(x))
 }
 
 // Whether it has its path.
-fn has_path(out: &[u32], bytes: &[u8], x: u32, r: u32) -> bool
-    ensures { result ≡ has_path (binding_at out.now bytes.now r) (binding_at out.now bytes.now x) }
+fn has_path(log: Log<'_>, x: u32, r: u32) -> bool
+    ensures { result ≡ has_path (binding_at log.entry.words.now log.entry.bytes.now r) (binding_at log.entry.words.now log.entry.bytes.now x) }
 {
-    equals(second_text(out, bytes, r), second_text(out, bytes, x))
+    equals(log.second_text(r), log.second_text(x))
 }
 
 // Reports version and plugin directives out of order, and a definition before the version.

@@ -14,7 +14,7 @@ use definition_log::kinds::{CELL_LIST, PROPERTY, REFERENCE};
 use definition_log::layout;
 use definition_log::limits::{FEW_RECORDS, LEAST_RECORDS, MOST_RECORDS};
 use definition_log::parts::{Span, name_span_of};
-use definition_log::record::{child_of, kind_of, log_count, out_field};
+use definition_log::record::{Log, child_of, kind_of, log_count, out_field};
 use input::record::no_text;
 use making::ctx::LowerCtx;
 use making::place::{PathAt, first_place, second_place};
@@ -57,7 +57,12 @@ fn check_live(out: &mut [u32], bytes: &mut [u8], ctx: LowerCtx, list: &mut [u32]
     requires { log_count out.old ≤ length list.old }
     ensures { ReportsLive ctx result out.old bytes.old out.new bytes.new }
 {
-    let n = live_list(out, bytes, ctx.defs.first, no_text(bytes), list);
+    let n = live_list(
+        Log { words: out, bytes },
+        ctx.defs.first,
+        no_text(bytes),
+        list,
+    );
     check_definitions(out, bytes, ctx, &list[..n as usize])
 }
 
@@ -146,7 +151,12 @@ fn check_phandle(out: &mut [u32], bytes: &mut [u8], ctx: LowerCtx, span: Span, r
     let none = Span { from: 0, to: 0 };
     let label = target_place(out, r);
     let path = second_place(out, r);
-    match resolve_target(out, bytes, ctx.binds.first, ctx.defs.first, r) {
+    match resolve_target(
+        Log { words: out, bytes },
+        ctx.binds.first,
+        ctx.defs.first,
+        r,
+    ) {
         Ok(_) => ctx,
         Err(Missing::NoLabel) => ctx.emit_copied(out, bytes, LABEL_NOT_FOUND, span, none, label),
         Err(Missing::NoNode(code)) => ctx.emit_copied(out, bytes, code, span, none, path),

@@ -13,8 +13,8 @@ use Rattle.post_checks.proofs.check_mir_post.binds_again.Goals as goal
 pub returns : goal.returns
 returns c =
     let a = c.args in
-    let b = binding_at a.out.now a.bytes.now in
+    let b = binding_at a.log.words.now a.log.bytes.now in
     any_from_yields_List (λ x. again (b a.r) (b x)) c.any.new.self _ _ c.any.ensures.ran
-    (YieldsList-from_first (λ x. x) chain_left (chain_from a.most a.out.now a.first) c.chain_of_most.ensures)
+    (YieldsList-from_first (λ x. x) chain_left (chain_from a.most a.log.words.now a.first) c.chain_of_most.ensures)
     (λ x b q k. search (rules, tests))
-    ∙ any_map (again (b a.r)) b (chain_from a.most a.out.now a.first)
+    ∙ any_map (again (b a.r)) b (chain_from a.most a.log.words.now a.first)
