@@ -20,7 +20,7 @@ ghost use Rattle.items.specs.machine.Unbinding.{text_of};
 
 use crate::directive::{DELETE_NODE, DELETE_PROPERTY, INCLUDE, PLUGIN, VERSION};
 use crate::report::{NO_SPAN, emit_name, emit_report};
-use crate::unbind::{Base, goes_itself, unbind_all, unbind_others, unlink_first};
+use crate::unbind::{Base, bound_base, goes_with, unbind_all, unbind_others, unlink_first};
 use definition_log::parts::Span;
 use definition_log::record::Log;
 use input::kinds::{NAME, REFERENCE};
@@ -260,7 +260,8 @@ fn delete_bound(
     let Some(found) = first_with(log, ctx.binds.first, label) else {
         return ctx;
     };
-    let goes = goes_itself(ctx, log, below, found.number);
+    let number = found.number;
+    let goes = goes_with(ctx, log, bound_base(below, number), number);
     let without = unbind_others(ctx, out, bytes, below, label);
     let made = define_bound(without, out, bytes, below, label, span);
     if goes {

@@ -167,14 +167,6 @@ pub fn bound_base(below: Option<&[u8]>, r: u32) -> Base<'_>
     }
 }
 
-// Whether a binding goes with what is deleted by its own path, or by that of a name below it.
-pub fn goes_itself(ctx: LowerCtx, log: Log<'_>, below: Option<&[u8]>, r: u32) -> bool
-    ensures { result ≡ goes_with log.entry.words.now log.entry.bytes.now ctx.defs.first
-        (base_of ctx.bytes log.entry.words.now log.entry.bytes.now (bound_base below.entry r)) r }
-{
-    goes_with(ctx, log, bound_base(below, r), r)
-}
-
 // Takes out all bindings but the label's first that go with what is deleted, whose path is that
 // binding's or the path of a name below it.
 pub fn unbind_others(

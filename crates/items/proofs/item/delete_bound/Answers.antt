@@ -11,10 +11,10 @@ pub returns-then-goes : goal.returns-then-goes
 returns-then-goes c =
     let a = c.args in
     deletes_first a.span a.below c.in-Some.ensures c.unbind_others-without.ensures c.define_bound-made.ensures
-    c.unlink_first.ensures (sym c.goes_itself-goes.ensures ∙ c.if-goes.true)
+    c.unlink_first.ensures (rw c.bound_base.ensures at (sym c.goes_with-goes.ensures ∙ c.if-goes.true))
 
 pub returns : goal.returns
 returns c =
     let a = c.args in
     deletes_left a.span a.below c.in-Some.ensures c.unbind_others-without.ensures c.define_bound-made.ensures
-    (sym c.goes_itself-goes.ensures ∙ c.if-goes.false)
+    (rw c.bound_base.ensures at (sym c.goes_with-goes.ensures ∙ c.if-goes.false))
