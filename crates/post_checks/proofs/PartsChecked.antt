@@ -1,4 +1,4 @@
--- Walks through a chain of values or of cells: the steps of check_values and check_cells.
+-- Walks through a chain of parts, values or cells: the steps of check_parts.
 use Prim.Native.Nat.{ℕ, ◌-◌}
 use mathlib.Core.Path.{◌≡◌, refl, ◌∙◌}
 use mathlib.Core.List.{List, [], ◌∷◌}
