@@ -1,4 +1,4 @@
--- Walks through a chain of values or of cells: the steps of check_values and check_cells.
+-- Walks through a chain of parts, values or cells: the steps of check_parts.
 use Prim.Native.Nat.{ℕ, ◌-◌}
 use mathlib.Core.Path.{◌≡◌, refl, ◌∙◌}
 use mathlib.Core.List.{List, [], ◌∷◌}
@@ -32,7 +32,8 @@ module _ (parts : Parts) (span : Span) where
         (λ (passed later : List ℕ). parts.all (said c words bytes) span words bytes later) refl),
   )
 
-  module _ {c d : LowerCtx} {words bytes w b : List ℕ} {first : ℕ} {i j : Walk} (walk : PartsWalk parts span c d words bytes w b first i) where
+  module _ {c d : LowerCtx} {words bytes w b : List ℕ} {first : ℕ} {i j : Walk}
+      (walk : PartsWalk parts span c d words bytes w b first i) where
     -- one record on, whose reports are the first of what is left
     pub parts_step : {f : LowerCtx} {v u : List ℕ} {r : ℕ} → Stepped w i j r → length v ≡ length w → length u ≡ length b
         → Reports d f w b v u (r ∷ []) (parts.one (said d w b) span w b r)

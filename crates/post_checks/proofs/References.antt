@@ -139,7 +139,7 @@ module _ {k : Context} {s : State} {c d : LowerCtx} {words bytes w b : List ℕ}
         all_alike (binding_at w b) (binding_at words bytes) (λ r h. binding_kept kept h) bs,
       ) refl
 
-  -- one record on: the steps of check_cells and check_values, and of check_definitions
+  -- one record on: the steps of chains of cells and of values (check_parts), and of check_definitions
   pub cells_next : (span : Span) (r : ℕ) (later : List ℕ) → Still words c.records r
       → check_cells (said c words bytes) span (map (cell_at words bytes) (r ∷ later)) ≡ check_cell (said d w b) span (cell_at w b r)
       ++ check_cells (said c words bytes) span (map (cell_at words bytes) later)

@@ -105,7 +105,8 @@ pub record Parts : Type 0 where
   pub none : (s : State) (span : Span) (words bytes : List ℕ) → all s span words bytes [] ≡ []
   pub next : {k : Context} {s : State} {c d : LowerCtx} {words bytes w b : List ℕ} → Represents k c words bytes s → c.short ≡ false
       → Kept c d words bytes w b → (span : Span) (r : ℕ) (later : List ℕ) → Still words c.records r
-      → all (said c words bytes) span words bytes (r ∷ later) ≡ one (said d w b) span w b r ++ all (said c words bytes) span words bytes later
+      → all (said c words bytes) span words bytes (r ∷ later) ≡ one (said d w b) span w b r
+      ++ all (said c words bytes) span words bytes later
 
 -- the reports on a chain of parts, with the span of the property's name
 abbrev pub ReportsParts : Parts → Span → ℕ → LowerCtx → LowerCtx → List ℕ → List ℕ → List ℕ → List ℕ → Type 0

@@ -8,5 +8,6 @@ pub returns : goal.returns
 unfolding with_def
 returns c =
     let a = c.args in
-    makes_def c.make-made.ensures a.kind a.span a.name_span _ _ refl refl c.from.ensures (c.from-2.ensures ∙ c.is_omitted.ensures) c.end_link.ensures
+    makes_def c.make-made.ensures a.kind a.span a.name_span _ _ refl refl c.from.ensures (c.from-2.ensures ∙ c.is_omitted.ensures)
+    c.end_link.ensures
     (rw c.grown.ensures refl)
