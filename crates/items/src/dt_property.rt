@@ -114,6 +114,8 @@ fn define_property(
 
 impl Filling<'_> {
     // The values of a chain, in order.
+    // kept: a loop here and one in `lower_cells`. Over a step as a closure one loop proves, in 19 lines of source, 38 of specs and
+    // 13 of proofs more; over a trait's method, in 55 of source and 15 of specs more, and 23 of proofs fewer.
     fn lower_prop_values(
         self,
         first: u32,
