@@ -27,6 +27,7 @@ use Rattle.items.specs.meaning.Unbind.{unbind}
 use Rattle.items.specs.meaning.Lower.{bare, delete_node}
 use Rattle.resolving.specs.machine.Lowers.{Lowers, LowersAt}
 use Rattle.resolving.specs.machine.Leading.{has_text, FirstAt}
+use Rattle.items.specs.declared.unbind.Below.{Below}
 use Rattle.items.specs.machine.Unbinding.{at_named, at_there, at_given, UnbindsAll}
 use Rattle.items.specs.machine.Deleting.{DeletesAt, DeletesThere}
 use Rattle.items.specs.declared.unbind.Base.TheVariants.{Named, There, Given}
@@ -51,19 +52,19 @@ module _ {c : LowerCtx} {words bytes : List ℕ} (z : c.short ≡ true) where
   short_under {f = f} g = record { lowers = λ k p s r. stays_over (f p s) (λ q. (q, refl, refl)) z ((g p).records s) ((g p).bytes s) r }
 
 -- by a name under a path
-pub deletes_named : {parent : PathAt} {name unit : Bor (List ℕ)} (span : LogSpan) {c d e : LowerCtx} {words bytes w b v u : List ℕ}
+pub deletes_named : {parent : PathAt} {below : Below} (span : LogSpan) {c d e : LowerCtx} {words bytes w b v u : List ℕ}
     → c.short ≡ false
-    → UnbindsAll (Named parent name unit) c d words bytes w b
-    → Steps d e w b v u (define (bare_def D.DeletedNode span span (joined (path_in d.bytes b parent) name.now unit.now)))
-    → LowersAt parent c e words bytes v u (λ p s. delete_node (joined p name.now unit.now) (meant span) s)
+    → UnbindsAll (Named parent below) c d words bytes w b
+    → Steps d e w b v u (define (bare_def D.DeletedNode span span (joined (path_in d.bytes b parent) below.name.now below.unit.now)))
+    → LowersAt parent c e words bytes v u (λ p s. delete_node (joined p below.name.now below.unit.now) (meant span) s)
 unfolding delete_node
-deletes_named {parent} {name} {unit} span {e = e} {v = v} {u} n x f =
+deletes_named {parent} {below} span {e = e} {v = v} {u} n x f =
     record {
       lowers = λ k p s r.
           let k' = with_place (record { at = parent; path = p }) k in
-          let q = joined p name.now unit.now in
-          let y = x.unbinds k' s q r n (at_named parent name unit p k refl refl) in
-          subst (λ (z : List ℕ). Represents k' e v u (define (bare (joined z name.now unit.now) deleted_node (meant span)) (unbind q s)))
+          let q = joined p below.name.now below.unit.now in
+          let y = x.unbinds k' s q r n (at_named parent below p k refl refl) in
+          subst (λ (z : List ℕ). Represents k' e v u (define (bare (joined z below.name.now below.unit.now) deleted_node (meant span)) (unbind q s)))
           (place_reads y.0 y.1)
           (f.steps k' (unbind q s) y.0 y.1);
     }

@@ -8,7 +8,6 @@ use native.Mathlib.Omega.{arith}
 use borrow.Author.Tests.{eq-eqb}
 use lib.ListN.{length, length-append, length-map}
 use lib.Seq.{append_snoc}
-use Rattle.std.specs.Borrow.{Bor}
 use Rattle.paths_numbers.specs.meaning.Text.{same}
 use Rattle.paths_numbers.specs.meaning.Path.{joined}
 use Rattle.paths_numbers.proofs.Texts.{by_test, not_both, same_refl}
@@ -35,7 +34,8 @@ use Rattle.resolving.specs.meaning.Resolve.{first_binding}
 use Rattle.items.specs.meaning.Unbind.{binds_label_of, without, unbind}
 use Rattle.items.specs.meaning.Lower.{bare, delete_node}
 use Rattle.resolving.specs.machine.Leading.{has_text, FirstAt}
-use Rattle.items.specs.machine.Unbinding.{base_of, goes_with, text_of, stop_of, with_binds, passed, ahead, BaseAt, at_bound, at_below}
+use Rattle.items.specs.declared.unbind.Below.{Below}
+use Rattle.items.specs.machine.Unbinding.{base_of, goes_with, stop_of, with_binds, passed, ahead, BaseAt, at_bound, at_below}
 use Rattle.items.specs.machine.Unbinding.{Stays, Walk, Unbinds, bound_base, bound_path, FirstOfLabel, UnbindsOthers, UnbindsBehind}
 use Rattle.items.specs.machine.Unbinding.{UnlinksFirst}
 use Rattle.items.specs.machine.Deleting.{DeletesBound, DefinesBound}
@@ -158,14 +158,14 @@ module _ (l : List ℕ) {c : LowerCtx} {words bytes : List ℕ} (m : any (has_te
             (λ t. absurd (search_finds l h t x.path (first_some g) m));
       }
 
-  pub never_others : (below : Maybe (List ℕ)) → UnbindsOthers below l c c words bytes words bytes
+  pub never_others : (below : Maybe Below) → UnbindsOthers below l c c words bytes words bytes
   never_others below =
       record { unbinds = λ k s xs x ys h n g. absurd (search_finds l h n x.path (first_some g) m) }
 
-  pub never_defined : (below : Maybe (List ℕ)) (span : Span) → DefinesBound below l span c c words bytes words bytes
+  pub never_defined : (below : Maybe Below) (span : Span) → DefinesBound below l span c c words bytes words bytes
   never_defined below span = record { defines = λ k s p h n e. absurd (search_finds l h n p e m) }
 
-  pub never_deleted : (below : Maybe (List ℕ)) (span : Span) → DeletesBound below l span c c words bytes words bytes
+  pub never_deleted : (below : Maybe Below) (span : Span) → DeletesBound below l span c c words bytes words bytes
   never_deleted below span = record { deletes = λ k s p h n e. absurd (search_finds l h n p e m) }
 
 -- the deletion, at its path
@@ -179,14 +179,14 @@ module _ {l : List ℕ} {number previous : ℕ} {c : LowerCtx} {words bytes : Li
       let i : second_text words bytes number ≡ p = cc in
       binding_path h n at.before at.after number at.chain ∙ i
 
-  pub defines_below : (span : LogSpan) (name : List ℕ) {d : LowerCtx} {w b : List ℕ}
+  pub defines_below : (span : LogSpan) (below : Below) {d : LowerCtx} {w b : List ℕ}
       → Steps c d words bytes w b (define (bare_def D.DeletedNode span span
-      (joined (path_in c.bytes bytes (placed_in words number 4)) name [])))
-      → DefinesBound (Some name) l (meant span) c d words bytes w b
-  defines_below span name {d} {w} {b} g =
+      (joined (path_in c.bytes bytes (placed_in words number 4)) below.name.now below.unit.now)))
+      → DefinesBound (Some below) l (meant span) c d words bytes w b
+  defines_below span below {d} {w} {b} g =
       record {
         defines = λ k s p h n e.
-            subst (λ (q : List ℕ). Represents k d w b (define (bare (joined q name []) deleted_node (meant span)) s)) (path_read h n p e)
+            subst (λ (q : List ℕ). Represents k d w b (define (bare (joined q below.name.now below.unit.now) deleted_node (meant span)) s)) (path_read h n p e)
             (g.steps k s h n);
       }
 
@@ -201,25 +201,25 @@ module _ {l : List ℕ} {number previous : ℕ} {c : LowerCtx} {words bytes : Li
       }
 
 -- the base by a binding of the log
-base_by : (below : Maybe (Bor (List ℕ))) {k : Context} {w b : List ℕ} {until : Maybe (List ℕ)} {ns ms : List ℕ} (r : ℕ) (p : List ℕ)
-    → p ≡ bound_path (text_of below) (second_text w b r)
+base_by : (below : Maybe Below) {k : Context} {w b : List ℕ} {until : Maybe (List ℕ)} {ns ms : List ℕ} (r : ℕ) (p : List ℕ)
+    → p ≡ bound_path below (second_text w b r)
     → Stays w b until r ns ms → BaseAt k w b until ns ms p (bound_base below r)
 base_by None r p e m = at_bound r m e
-base_by (Some name) r p e m = at_below r name m e
+base_by (Some b) r p e m = at_below r b m e
 
 member_here : (r : ℕ) (xs ys : List ℕ) → one_of r (xs ++ r ∷ ys) ≡ true
 unfolding one_of
 member_here r xs ys = member_behind r xs (r ∷ ys) (rw (eq-eqb r r refl) refl)
 
 -- all others taken out: first those before it, then those behind it
-module _ (below : Maybe (Bor (List ℕ))) {l : List ℕ} {number before : ℕ} {c : LowerCtx} {words bytes w b : List ℕ} {from : Cursor}
+module _ (below : Maybe Below) {l : List ℕ} {number before : ℕ} {c : LowerCtx} {words bytes w b : List ℕ} {from : Cursor}
     {up : Unbound} (at : FirstAt words bytes c.binds.first l number before) (q : from ≡ record { next = c.binds.first; left = log_count words })
     (one : Unbinds (bound_base below number) (Some l) c words bytes w b 0 from up)
     {k : Context} {s : State} {xs : List Binding} {x : Binding} {ys : List Binding} (h : Represents k c words bytes s)
     (n : c.short ≡ false) (g : FirstOfLabel l s xs x ys)
   where
     abbrev p : List ℕ
-    p = bound_path (text_of below) x.path
+    p = bound_path below x.path
 
     abbrev ds : List Def
     ds = live p s.defs
@@ -235,7 +235,7 @@ module _ (below : Maybe (Bor (List ℕ))) {l : List ℕ} {number before : ℕ} {
     walked =
         one.walks k s [] p
         (walk_start h n q
-        (base_by below number p (ap (bound_path (text_of below)) path_of_lem)
+        (base_by below number p (ap (bound_path below) path_of_lem)
         (ahead (rw at.chain (member_here number at.before at.after)) (rw at.has (same_refl l)))))
 
     -- the walk stops at it
@@ -299,7 +299,7 @@ module _ (below : Maybe (Bor (List ℕ))) {l : List ℕ} {number before : ℕ} {
                 ∙ sym (length-append (without ds at_it.done) (u ∷ [])));
             last_is = sym (last_snoc at_it.ns r);
             room = omega (arith, goes_left w r one.last.left step.going, length-append at_it.ns (r ∷ []), at_it.room);
-            at = base_by below r p (ap (λ (v : Binding). bound_path (text_of below) v.path) same_first.firsts)
+            at = base_by below r p (ap (λ (v : Binding). bound_path below v.path) same_first.firsts)
                 (passed (member_here r at_it.ns []));
             unlabelled = refl;
           }))
@@ -317,11 +317,11 @@ module _ (below : Maybe (Bor (List ℕ))) {l : List ℕ} {number before : ℕ} {
           )
 
 -- so in any state
-pub others_all : (below : Maybe (Bor (List ℕ))) {l : List ℕ} {number before : ℕ} {c d : LowerCtx} {words bytes w b v t : List ℕ}
+pub others_all : (below : Maybe Below) {l : List ℕ} {number before : ℕ} {c d : LowerCtx} {words bytes w b v t : List ℕ}
     {from : Cursor} (up : Unbound) {base : Base} → FirstAt words bytes c.binds.first l number before
     → from ≡ record { next = c.binds.first; left = log_count words } → base ≡ bound_base below number
     → Unbinds base (Some l) c words bytes w b 0 from up → UnbindsBehind below up d w b v t
-    → UnbindsOthers (text_of below) l c d words bytes v t
+    → UnbindsOthers below l c d words bytes v t
 others_all below {l} {number} {c = c} {d} {words} {bytes} {w} {b} {v} {t} {from} up at q i one two =
     record { unbinds = λ k s xs x ys h n g. by_here k s xs x ys h n g up.here refl up_to.ends }
   where
@@ -332,8 +332,8 @@ others_all below {l} {number} {c = c} {d} {words} {bytes} {w} {b} {v} {t} {from}
         → c.short ≡ false → FirstOfLabel l s xs x ys → (here : Maybe ℕ) → up.here ≡ here
         → MatchOption here (Stopped w up_to.last up.rest)
         (λ r. Stepped w up_to.last up.rest r × (stop_of (Some l) (binding_at w b r) ≡ true))
-        → Represents k d v t (with_binds s (without (live (bound_path (text_of below) x.path) s.defs) xs ++ x
-        ∷ without (live (bound_path (text_of below) x.path) s.defs) ys)) × (d.short ≡ false)
+        → Represents k d v t (with_binds s (without (live (bound_path below x.path) s.defs) xs ++ x
+        ∷ without (live (bound_path below x.path) s.defs) ys)) × (d.short ≡ false)
     by_here k s xs x ys h n g None e m = absurd (never_ends below at q up_to h n g m)
     by_here k s xs x ys h n g (Some r) e m =
         let y = two.some_here r e in
@@ -351,16 +351,16 @@ without_named l ds (x ∷ xs) h =
     by_test (any (binds_label_of x) ds) (λ t. rw t rest) (λ t. rw (t, q) rest))
 
 -- the base by a binding, as it is read
-base_bound : (below : Maybe (Bor (List ℕ))) (used : ℕ) (words bytes : List ℕ) (r : ℕ)
-    → base_of used words bytes (bound_base below r) ≡ bound_path (text_of below) (second_text words bytes r)
+base_bound : (below : Maybe Below) (used : ℕ) (words bytes : List ℕ) (r : ℕ)
+    → base_of used words bytes (bound_base below r) ≡ bound_path below (second_text words bytes r)
 unfolding base_of
 base_bound None used words bytes r = refl
-base_bound (Some name) used words bytes r = refl
+base_bound (Some b) used words bytes r = refl
 
 -- the whole deletion
-module _ (span : LogSpan) (below : Maybe (Bor (List ℕ))) {l : List ℕ} {number previous : ℕ} {c d e : LowerCtx}
+module _ (span : LogSpan) (below : Maybe Below) {l : List ℕ} {number previous : ℕ} {c d e : LowerCtx}
     {words bytes w b v u : List ℕ} (at : FirstAt words bytes c.binds.first l number previous)
-    (others : UnbindsOthers (text_of below) l c d words bytes w b) (made : DefinesBound (text_of below) l (meant span) d e w b v u)
+    (others : UnbindsOthers below l c d words bytes w b) (made : DefinesBound below l (meant span) d e w b v u)
   where
     module _ {k : Context} {s : State} (p : List ℕ) (h : Represents k c words bytes s) (n : c.short ≡ false)
         (q : first_binding l s.binds ≡ some p) where
@@ -380,7 +380,7 @@ module _ (span : LogSpan) (below : Maybe (Bor (List ℕ))) {l : List ℕ} {numbe
       path_is = let i : some this.path ≡ some p = sym (first_some first_is_lem) ∙ q in cc
 
       abbrev base : List ℕ
-      base = bound_path (text_of below) p
+      base = bound_path below p
 
       abbrev nodes : List Def
       nodes = live base s.defs
@@ -391,8 +391,8 @@ module _ (span : LogSpan) (below : Maybe (Bor (List ℕ))) {l : List ℕ} {numbe
       unbound : Represents k d w b (with_binds s left_over) × (d.short ≡ false)
       unbound =
           subst
-          (λ (i : List ℕ). Represents k d w b (with_binds s (without (live (bound_path (text_of below) i) s.defs) before ++ this
-          ∷ without (live (bound_path (text_of below) i) s.defs) after)) × (d.short ≡ false))
+          (λ (i : List ℕ). Represents k d w b (with_binds s (without (live (bound_path below i) s.defs) before ++ this
+          ∷ without (live (bound_path below i) s.defs) after)) × (d.short ≡ false))
           path_is (others.unbinds k s before this after h n first_is_lem)
 
       none_before : any (named l) (without nodes before) ≡ false
@@ -428,9 +428,9 @@ module _ (span : LogSpan) (below : Maybe (Bor (List ℕ))) {l : List ℕ} {numbe
     abbrev tested : Bool
     tested = goes_with words bytes c.defs.first (base_of c.bytes words bytes (bound_base below number)) number
 
-    pub deletes_left : tested ≡ false → DeletesBound (text_of below) l (meant span) c e words bytes v u
+    pub deletes_left : tested ≡ false → DeletesBound below l (meant span) c e words bytes v u
     deletes_left t = record { deletes = λ k s p h n q. keeps p h n q (sym (goes_as p h n q) ∙ t) }
 
     pub deletes_first : {g : LowerCtx} {y x : List ℕ} → UnlinksFirst l e g v u y x → tested ≡ true
-        → DeletesBound (text_of below) l (meant span) c g words bytes y x
+        → DeletesBound below l (meant span) c g words bytes y x
     deletes_first z t = record { deletes = λ k s p h n q. goes_too p h n q z (sym (goes_as p h n q) ∙ t) }

@@ -42,6 +42,7 @@ use Rattle.input.specs.machine.NameRead.{name_text, unit_text, is_there, full_re
 use Rattle.input.specs.machine.PhandleRead.{phandle_read}
 use Rattle.input.specs.meaning.GoodName.{good_names_in}
 use Rattle.resolving.specs.machine.Leading.{resolution, bound_by, Leads, ReportsMissing}
+use Rattle.items.specs.declared.unbind.Below.{Below}
 use Rattle.items.specs.machine.Deleting.{DeletesAt, DeletesThere, DeletesBound}
 use Rattle.input.specs.declared.name.FullName.{FullName}
 use Rattle.input.specs.declared.report.Report.{Report}
@@ -112,13 +113,14 @@ module _ (t : Target) (rec : Tree) (span : Span) (c : LowerCtx) {out bytes l p :
               rw (resolved h ∙ ap (resolution out bytes l p) q) (x.deletes k s (second_text out bytes r) h n (first_in h r (ap bound_by q)));
         }
 
-    pub target_below_lem : {d : LowerCtx} {w b : List ℕ} (r : ℕ) → v ≡ Ok (R.BoundPath r) → DeletesBound (Some p) l span c d out bytes w b
+    pub target_below_lem : {d : LowerCtx} {w b : List ℕ} (r : ℕ) (below : Below) → below.name.now ≡ p → below.unit.now ≡ [] → v ≡ Ok (R.BoundPath r)
+        → DeletesBound (Some below) l span c d out bytes w b
         → Deletes t rec span c d out bytes w b
     unfolding resolution
-    target_below_lem r q x =
+    target_below_lem r below named alone q x =
         record {
           lowers = λ k s h.
-              rw (resolved h ∙ ap (resolution out bytes l p) q) (x.deletes k s (second_text out bytes r) h n (first_in h r (ap bound_by q)));
+              rw (resolved h ∙ ap (resolution out bytes l p) q, ← named, ← alone) (x.deletes k s (second_text out bytes r) h n (first_in h r (ap bound_by q)));
         }
 
     pub target_at_lem : {d : LowerCtx} {w b : List ℕ} → v ≡ Ok R.AtPath → DeletesAt p span c d out bytes w b → Deletes t rec span c d out bytes w b

@@ -157,12 +157,12 @@ chain_ahead left v w next first ns h fits e = go (chain_from left v next) refl
 base_reads : {k : Context} {w b : List ℕ} {until : Maybe (List ℕ)} {ns ms p : List ℕ} {base : Base} {d : LowerCtx} {t : State}
     → BaseAt k w b until ns ms p base → Represents k d w b t → d.short ≡ false → base_of d.bytes w b base ≡ p
 unfolding base_of
-base_reads {w = w} {b} {d = d} {t} (at_named place name unit parent k e q) h n =
-    ap (λ (x : List ℕ). joined x name.now unit.now) (place_reads (subst (λ (y : Context). Represents y d w b t) e h) n) ∙ sym q
+base_reads {w = w} {b} {d = d} {t} (at_named place below parent k e q) h n =
+    ap (λ (x : List ℕ). joined x below.name.now below.unit.now) (place_reads (subst (λ (y : Context). Represents y d w b t) e h) n) ∙ sym q
 base_reads {w = w} {b} {d = d} {t} (at_there place k e) h n = place_reads (subst (λ (y : Context). Represents y d w b t) e h) n
 base_reads (at_given path q) h n = sym q
 base_reads (at_bound r m q) h n = sym q
-base_reads (at_below r name m q) h n = sym q
+base_reads (at_below r below m q) h n = sym q
 
 -- it is still, after a binding was passed, and after one was taken out
 module _ (w b : List ℕ) (until : Maybe (List ℕ)) (r x : ℕ) (ns ms : List ℕ) where
@@ -203,22 +203,22 @@ module _ (w b : List ℕ) (until : Maybe (List ℕ)) (r x : ℕ) (ns ms : List �
 module _ {k : Context} {w b : List ℕ} {until : Maybe (List ℕ)} {x : ℕ} {ns ms p : List ℕ} where
   base_passed : {base : Base} → BaseAt k w b until ns (x ∷ ms) p base
       → BaseAt k w b until (ns ++ x ∷ []) ms p base
-  base_passed (at_named place name unit parent k' e q) = at_named place name unit parent k' e q
+  base_passed (at_named place below parent k' e q) = at_named place below parent k' e q
   base_passed (at_there place k' e) = at_there place k' e
   base_passed (at_given path q) = at_given path q
   base_passed (at_bound r m q) = at_bound r (stays_passed w b until r x ns ms m) q
-  base_passed (at_below r name m q) = at_below r name (stays_passed w b until r x ns ms m) q
+  base_passed (at_below r below m q) = at_below r below (stays_passed w b until r x ns ms m) q
 
   module _ {v c : List ℕ} (other : stop_of until (binding_at w b x) ≡ false)
       (agree : map (binding_at v c) (ns ++ ms) ≡ map (binding_at w b) (ns ++ ms)) where
     base_taken : {base : Base} → BaseAt k w b until ns (x ∷ ms) p base → BaseAt k v c until ns ms p base
-    base_taken (at_named place name unit parent k' e q) = at_named place name unit parent k' e q
+    base_taken (at_named place below parent k' e q) = at_named place below parent k' e q
     base_taken (at_there place k' e) = at_there place k' e
     base_taken (at_given path q) = at_given path q
     base_taken (at_bound r m q) = at_bound r (stays_taken w b until r x ns ms v c other agree m)
         (q ∙ same_path_lem w b until r x ns ms v c other agree m)
-    base_taken (at_below r name m q) = at_below r name (stays_taken w b until r x ns ms v c other agree m)
-        (q ∙ ap (λ (y : List ℕ). joined y name.now []) (same_path_lem w b until r x ns ms v c other agree m))
+    base_taken (at_below r below m q) = at_below r below (stays_taken w b until r x ns ms v c other agree m)
+        (q ∙ ap (λ (y : List ℕ). joined y below.name.now below.unit.now) (same_path_lem w b until r x ns ms v c other agree m))
 
 -- one turn of a walk
 module _ {base : Base} {until : Maybe (List ℕ)} {k : Context} {s : State} {front : List Binding} {p : List ℕ}

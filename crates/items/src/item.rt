@@ -16,11 +16,10 @@ ghost use Rattle.items.specs.meaning.Lower.{delete_node, delete_resolved, delete
 ghost use Rattle.items.specs.meaning.Lower.{delete_property_named, lower_directive};
 ghost use Rattle.resolving.specs.machine.Lowers.{Lowers, LowersAt};
 ghost use Rattle.items.specs.machine.Deleting.{DeletesAt, DeletesThere, DeletesBound, DefinesBound};
-ghost use Rattle.items.specs.machine.Unbinding.{text_of};
 
 use crate::directive::{DELETE_NODE, DELETE_PROPERTY, INCLUDE, PLUGIN, VERSION};
 use crate::report::{NO_SPAN, emit_name, emit_report};
-use crate::unbind::{Base, bound_base, goes_with, unbind_all, unbind_others, unlink_first};
+use crate::unbind::{Base, Below, bound_base, goes_with, unbind_all, unbind_others, unlink_first};
 use definition_log::parts::Span;
 use definition_log::record::Log;
 use input::kinds::{NAME, REFERENCE};
@@ -116,7 +115,7 @@ fn delete_named(
     if ctx.short {
         return ctx;
     }
-    let base = Base::Named { parent, name, unit };
+    let base = Base::Named(parent, Below { name, unit });
     let without = unbind_all(ctx, out, bytes, base);
     without.define(
         out,
@@ -187,7 +186,13 @@ fn delete_target(
     );
     match leads {
         Ok(Leads::Bound(_)) => delete_bound(ctx, out, bytes, None, label, span),
-        Ok(Leads::BoundPath(_)) => delete_bound(ctx, out, bytes, Some(path), label, span),
+        Ok(Leads::BoundPath(_)) => {
+            let below = Below {
+                name: path,
+                unit: b"",
+            };
+            delete_bound(ctx, out, bytes, Some(below), label, span)
+        }
         Ok(Leads::AtPath) => delete_at(ctx, out, bytes, path, span),
         Ok(Leads::Node(n)) => delete_there(ctx, out, bytes, n, span),
         Err(_) => report_unresolved(ctx, out, bytes, leads, label, path, at),
@@ -249,11 +254,11 @@ fn delete_bound(
     ctx: LowerCtx,
     out: &mut [u32],
     bytes: &mut [u8],
-    below: Option<&[u8]>,
+    below: Option<Below<'_>>,
     label: &[u8],
     span: Span,
 ) -> LowerCtx
-    ensures { DeletesBound (text_of below.entry) label.now (meant span) ctx result out.old bytes.old
+    ensures { DeletesBound below.entry label.now (meant span) ctx result out.old bytes.old
         out.new bytes.new }
 {
     let log = Log { words: out, bytes };
@@ -275,11 +280,11 @@ fn define_bound(
     ctx: LowerCtx,
     out: &mut [u32],
     bytes: &mut [u8],
-    below: Option<&[u8]>,
+    below: Option<Below<'_>>,
     label: &[u8],
     span: Span,
 ) -> LowerCtx
-    ensures { DefinesBound (text_of below.entry) label.now (meant span) ctx result out.old bytes.old
+    ensures { DefinesBound below.entry label.now (meant span) ctx result out.old bytes.old
         out.new bytes.new }
 {
     let Some(found) = first_with(Log { words: out, bytes }, ctx.binds.first, label) else {
@@ -287,15 +292,15 @@ fn define_bound(
     };
     let place = second_place(out, found.number);
     match below {
-        Some(path) => ctx.define(
+        Some(below) => ctx.define(
             out,
             bytes,
             DefKind::DeletedNode,
             span,
             span,
             place,
-            path,
-            b"",
+            below.name,
+            below.unit,
         ),
         None => ctx.define_at(out, bytes, DefKind::DeletedNode, span, span, place),
     }

@@ -13,19 +13,22 @@ use paths_numbers::text::equals;
 use queries::mir::unbinds;
 use resolving::resolve::first_with;
 
+// A name below a path. The unit address is empty where there is none.
+#[derive(Clone, Copy, Debug, PartialEq, Eq)]
+pub struct Below<'a> {
+    pub name: &'a [u8],
+    pub unit: &'a [u8],
+}
+
 // The path of a deletion: of a name and a unit address below a place, that of a place, one that is given, a
 // binding's path, or of a name below that.
 #[derive(Clone, Copy)]
 pub enum Base<'a> {
-    Named {
-        parent: PathAt,
-        name: &'a [u8],
-        unit: &'a [u8],
-    },
+    Named(PathAt, Below<'a>),
     There(PathAt),
     Given(&'a [u8]),
     Bound(u32),
-    BoundPath(u32, &'a [u8]),
+    BoundPath(u32, Below<'a>),
 }
 
 // After one binding: the state, and the last binding that is left before the next.
@@ -124,10 +127,9 @@ pub fn goes_with(ctx: LowerCtx, log: Log<'_>, base: Base<'_>, r: u32) -> bool
     let path = log.second_text(r);
     let defs = ctx.defs.first;
     match base {
-        Base::Named { parent, name, unit } => {
-            let parent = parent.text(ctx.bytes, log.bytes);
-            let named = Joined { parent, name, unit };
-            unbinds(log, defs, named, label, path)
+        Base::Named(place, Below { name, unit }) => {
+            let parent = place.text(ctx.bytes, log.bytes);
+            unbinds(log, defs, Joined { parent, name, unit }, label, path)
         }
         Base::There(place) => {
             let there = place.text(ctx.bytes, log.bytes);
@@ -135,14 +137,9 @@ pub fn goes_with(ctx: LowerCtx, log: Log<'_>, base: Base<'_>, r: u32) -> bool
         }
         Base::Given(given) => unbinds(log, defs, given, label, path),
         Base::Bound(b) => unbinds(log, defs, log.second_text(b), label, path),
-        Base::BoundPath(b, name) => {
+        Base::BoundPath(b, Below { name, unit }) => {
             let parent = log.second_text(b);
-            let below = Joined {
-                parent,
-                name,
-                unit: b"",
-            };
-            unbinds(log, defs, below, label, path)
+            unbinds(log, defs, Joined { parent, name, unit }, label, path)
         }
     }
 }
@@ -158,7 +155,7 @@ pub fn unbind_all(ctx: LowerCtx, out: &mut [u32], bytes: &mut [u8], base: Base<'
 }
 
 // The path of a binding, or of a name below it.
-pub fn bound_base(below: Option<&[u8]>, r: u32) -> Base<'_>
+pub fn bound_base(below: Option<Below<'_>>, r: u32) -> Base<'_>
     ensures { result ≡ bound_base below.entry r }
 {
     match below {
@@ -173,10 +170,10 @@ pub fn unbind_others(
     ctx: LowerCtx,
     out: &mut [u32],
     bytes: &mut [u8],
-    below: Option<&[u8]>,
+    below: Option<Below<'_>>,
     label: &[u8],
 ) -> LowerCtx
-    ensures { UnbindsOthers (text_of below.entry) label.now ctx result out.old
+    ensures { UnbindsOthers below.entry label.now ctx result out.old
         bytes.old out.new bytes.new }
 {
     let Some(found) = first_with(Log { words: out, bytes }, ctx.binds.first, label) else {
@@ -189,7 +186,12 @@ pub fn unbind_others(
 }
 
 // The same behind the binding at which the walk stopped.
-fn unbind_behind(up: Unbound, out: &mut [u32], bytes: &mut [u8], below: Option<&[u8]>) -> LowerCtx
+fn unbind_behind(
+    up: Unbound,
+    out: &mut [u32],
+    bytes: &mut [u8],
+    below: Option<Below<'_>>,
+) -> LowerCtx
     ensures { UnbindsBehind below.entry up result out.old bytes.old out.new bytes.new }
 {
     match up.here {

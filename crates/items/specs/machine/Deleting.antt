@@ -11,6 +11,7 @@ use Rattle.resolving.specs.meaning.Resolve.{first_binding}
 use Rattle.resolving.specs.machine.Leading.{InChain}
 use Rattle.items.specs.meaning.Lower.{bare, delete_node}
 use Rattle.items.specs.machine.Unbinding.{bound_path}
+use Rattle.items.specs.declared.unbind.Below.{Below}
 
 -- of a live node's path
 pub record DeletesAt (path : List ℕ) (span : Span) (c d : LowerCtx) (words bytes w b : List ℕ) : Type 0 where
@@ -23,13 +24,13 @@ pub record DeletesThere (r : ℕ) (span : Span) (c d : LowerCtx) (words bytes w 
       → Represents k d w b (delete_node (first_text words bytes r) span s)
 
 -- of the path of a label's first binding, or of a path below that
-pub record DeletesBound (below : Maybe (List ℕ)) (label : List ℕ) (span : Span) (c d : LowerCtx) (words bytes w b : List ℕ) : Type 0 where
+pub record DeletesBound (below : Maybe Below) (label : List ℕ) (span : Span) (c d : LowerCtx) (words bytes w b : List ℕ) : Type 0 where
   pub deletes : (k : Context) (s : State) (p : List ℕ) → Represents k c words bytes s → c.short ≡ false
       → first_binding label s.binds ≡ some p
       → Represents k d w b (delete_node (bound_path below p) span s)
 
 -- the deletion itself
-pub record DefinesBound (below : Maybe (List ℕ)) (label : List ℕ) (span : Span) (c d : LowerCtx) (words bytes w b : List ℕ) : Type 0 where
+pub record DefinesBound (below : Maybe Below) (label : List ℕ) (span : Span) (c d : LowerCtx) (words bytes w b : List ℕ) : Type 0 where
   pub defines : (k : Context) (s : State) (p : List ℕ) → Represents k c words bytes s → c.short ≡ false
       → first_binding label s.binds ≡ some p
       → Represents k d w b (define (bare (bound_path below p) deleted_node span) s)

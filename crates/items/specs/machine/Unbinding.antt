@@ -18,17 +18,18 @@ use Rattle.definition_log.specs.machine.ChainLeft.{Stopped, Stepped}
 use Rattle.definition_log.specs.declared.chain.Walk.{Walk as Cursor}
 use Rattle.items.specs.meaning.Unbind.{binds_label_of, without, unbind}
 use Rattle.items.specs.declared.unbind.Base.{Base}
+use Rattle.items.specs.declared.unbind.Below.{Below}
 use Rattle.items.specs.declared.unbind.Base.TheVariants.{Named, There, Given, Bound, BoundPath}
 use Rattle.items.specs.declared.unbind.Unbound.{Unbound}
 
 -- a path as it is read: of a name and a unit address below a place, that of a place, one that is given, a binding's path, or of a name
 -- below that
 unfoldable pub base_of : ℕ → List ℕ → List ℕ → Base → List ℕ
-base_of used words bytes (Named p name unit) = joined (path_in used bytes p) name.now unit.now
+base_of used words bytes (Named p b) = joined (path_in used bytes p) b.name.now b.unit.now
 base_of used words bytes (There p) = path_in used bytes p
 base_of used words bytes (Given path) = path.now
 base_of used words bytes (Bound r) = second_text words bytes r
-base_of used words bytes (BoundPath r name) = joined (second_text words bytes r) name.now []
+base_of used words bytes (BoundPath r b) = joined (second_text words bytes r) b.name.now b.unit.now
 
 -- whether binding r is one of a live node's label to its path, at or under a base
 unfoldable pub goes_with : List ℕ → List ℕ → ℕ → List ℕ → ℕ → Bool
@@ -61,15 +62,15 @@ pub data Stays (w b : List ℕ) (until : Maybe (List ℕ)) (r : ℕ) (ns ms : Li
 
 -- what is read as the base is this path, and stays so
 pub data BaseAt (k : Context) (w b : List ℕ) (until : Maybe (List ℕ)) (ns ms : List ℕ) (p : List ℕ) : Base → Type 0 where
-  at_named : (place : PathAt) (name unit : Bor (List ℕ)) (parent : List ℕ) (k' : Context)
-      → k ≡ with_place (record { at = place; path = parent }) k' → p ≡ joined parent name.now unit.now
-      → BaseAt k w b until ns ms p (Named place name unit)
+  at_named : (place : PathAt) (below : Below) (parent : List ℕ) (k' : Context)
+      → k ≡ with_place (record { at = place; path = parent }) k' → p ≡ joined parent below.name.now below.unit.now
+      → BaseAt k w b until ns ms p (Named place below)
   at_there : (place : PathAt) (k' : Context) → k ≡ with_place (record { at = place; path = p }) k'
       → BaseAt k w b until ns ms p (There place)
   at_given : (path : Bor (List ℕ)) → p ≡ path.now → BaseAt k w b until ns ms p (Given path)
   at_bound : (r : ℕ) → Stays w b until r ns ms → p ≡ second_text w b r → BaseAt k w b until ns ms p (Bound r)
-  at_below : (r : ℕ) (name : Bor (List ℕ)) → Stays w b until r ns ms → p ≡ joined (second_text w b r) name.now []
-      → BaseAt k w b until ns ms p (BoundPath r name)
+  at_below : (r : ℕ) (below : Below) → Stays w b until r ns ms → p ≡ joined (second_text w b r) below.name.now below.unit.now
+      → BaseAt k w b until ns ms p (BoundPath r below)
 
 -- a walk along the bindings of what the log said at first, of which those in `front` are left alone: `previous` and r are the last record
 -- passed and the next, of which so many may be left
@@ -104,13 +105,13 @@ pub record UnbindsAll (base : Base) (c d : LowerCtx) (words bytes w b : List ℕ
       → Represents k d w b (unbind p s) × (d.short ≡ false)
 
 -- a binding's path, or that of a name below it
-abbrev pub bound_base : Maybe (Bor (List ℕ)) → ℕ → Base
+abbrev pub bound_base : Maybe Below → ℕ → Base
 bound_base None r = Bound r
-bound_base (Some name) r = BoundPath r name
+bound_base (Some b) r = BoundPath r b
 
-abbrev pub bound_path : Maybe (List ℕ) → List ℕ → List ℕ
+abbrev pub bound_path : Maybe Below → List ℕ → List ℕ
 bound_path None p = p
-bound_path (Some name) p = joined p name []
+bound_path (Some b) p = joined p b.name.now b.unit.now
 
 -- x is the first binding of a label
 pub record FirstOfLabel (label : List ℕ) (s : State) (xs : List Binding) (x : Binding) (ys : List Binding) : Type 0 where
@@ -119,14 +120,14 @@ pub record FirstOfLabel (label : List ℕ) (s : State) (xs : List Binding) (x : 
   pub labelled : same x.label label ≡ true
 
 -- all but that one
-pub record UnbindsOthers (below : Maybe (List ℕ)) (label : List ℕ) (c d : LowerCtx) (words bytes w b : List ℕ) : Type 0 where
+pub record UnbindsOthers (below : Maybe Below) (label : List ℕ) (c d : LowerCtx) (words bytes w b : List ℕ) : Type 0 where
   pub unbinds : (k : Context) (s : State) (xs : List Binding) (x : Binding) (ys : List Binding) → Represents k c words bytes s
       → c.short ≡ false → FirstOfLabel label s xs x ys
       → Represents k d w b (with_binds s (without (live (bound_path below x.path) s.defs) xs ++ x
       ∷ without (live (bound_path below x.path) s.defs) ys)) × (d.short ≡ false)
 
 -- those behind the one at which a walk stopped
-pub record UnbindsBehind (below : Maybe (Bor (List ℕ))) (up : Unbound) (d : LowerCtx) (words bytes w b : List ℕ) : Type 0 where
+pub record UnbindsBehind (below : Maybe Below) (up : Unbound) (d : LowerCtx) (words bytes w b : List ℕ) : Type 0 where
   pub none_here : up.here ≡ None → (d ≡ up.ctx) × (w ≡ words) × (b ≡ bytes)
   pub some_here : (r : ℕ) → up.here ≡ Some r
       → (behind : Unbound) × (Unbinds (bound_base below r) None up.ctx words bytes w b r up.rest behind) × (d ≡ behind.ctx)

@@ -1,10 +1,9 @@
 -- At the path of the binding that the search finds, or below it (DeletingBound).
-use Rattle.items.specs.machine.Unbinding.{text_of}
 use Rattle.items.proofs.DeletingBound.{defines_below, defines_whole, never_defined}
 use Rattle.items.proofs.item.define_bound.Goals as goal
 
 pub returns-in_default : goal.returns-in_default
-returns-in_default c = never_defined c.args.label.now c.in_default.ensures (text_of c.args.below) _
+returns-in_default c = never_defined c.args.label.now c.in_default.ensures c.args.below _
 
 pub returns-in-Some-below : goal.returns-in-Some-below
 returns-in-Some-below c =

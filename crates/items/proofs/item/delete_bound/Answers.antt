@@ -1,11 +1,10 @@
 -- The label's first binding last (DeletingBound).
 use mathlib.Core.Path.{sym, ◌∙◌}
-use Rattle.items.specs.machine.Unbinding.{text_of}
 use Rattle.items.proofs.DeletingBound.{deletes_left, deletes_first, never_deleted}
 use Rattle.items.proofs.item.delete_bound.Goals as goal
 
 pub returns-in_default : goal.returns-in_default
-returns-in_default c = never_deleted c.args.label.now c.in_default.ensures (text_of c.args.below) _
+returns-in_default c = never_deleted c.args.label.now c.in_default.ensures c.args.below _
 
 pub returns-then-goes : goal.returns-then-goes
 returns-then-goes c =

@@ -23,13 +23,9 @@ returns-in-Ok-BoundPath c =
     target_below_lem (named_at a.kind a.words.now a.text.now a.r) (record_at a.words.now a.text.now a.r) (meant a.span) a.ctx
     c.requires
     (c.resolve_phandle-leads.ensures.0 _ refl)
-    c.resolve_phandle-leads.ensures.1 _
+    c.resolve_phandle-leads.ensures.1 _ _ c.phandle_path_at-path.ensures refl
     (c.in-Ok-BoundPath.is ∙ ap Ok (rw c.in-Ok-BoundPath.is at c.in-Ok-BoundPath.field-0-is))
-    (rw (
-      c.phandle_label_at-label.ensures,
-      c.phandle_path_at-path.ensures,
-    ) at
-    c.delete_bound-in-Ok-BoundPath.ensures)
+    (rw c.phandle_label_at-label.ensures at c.delete_bound-in-Ok-BoundPath.ensures)
 
 pub returns-in-Ok-AtPath : goal.returns-in-Ok-AtPath
 returns-in-Ok-AtPath c =
