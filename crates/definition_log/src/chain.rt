@@ -8,7 +8,7 @@ ghost use Rattle.definition_log.specs.machine.ChainLeft.{chain_left, walk_left, 
 use crate::record::{leads_to, log_count, next_of};
 
 // Where a walk along a chain stands: its next record, and how many there may be, since links may lead round.
-#[derive(Clone, Copy)]
+#[derive(Clone, Copy, Debug, PartialEq, Eq)]
 pub struct Walk {
     pub next: u32,
     pub left: u32,

@@ -22,7 +22,7 @@ pub struct Below<'a> {
 
 // The path of a deletion: of a name and a unit address below a place, that of a place, one that is given, a
 // binding's path, or of a name below that.
-#[derive(Clone, Copy)]
+#[derive(Clone, Copy, Debug, PartialEq, Eq)]
 pub enum Base<'a> {
     Named(PathAt, Below<'a>),
     There(PathAt),
@@ -39,7 +39,7 @@ pub struct Unlinked {
 }
 
 // After several: the binding at which the walk stopped, where it did, and the walk behind it.
-#[derive(Clone, Copy)]
+#[derive(Clone, Copy, Debug, PartialEq, Eq)]
 pub struct Unbound {
     pub ctx: LowerCtx,
     pub previous: u32,
