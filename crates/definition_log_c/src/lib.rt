@@ -14,6 +14,7 @@ ghost use Rattle.definition_log_c.specs.meaning.Told.{told, box_told};
 
 use boxes::box_number::{read_box, write_box};
 use definition_log::answer::{Numbers, Refusal};
+use definition_log::record::Log;
 use lowering::lower::lower;
 use queries::query::{contains_node, history, iter_live_defs_under};
 
@@ -94,7 +95,7 @@ pub extern "C" fn dl_iter_live_defs_under(
     ensures list_after { list.new ≡ query_out words.now bytes.now base.now list.old
         (live_answers words.now bytes.now base.now) }
 {
-    DlAnswer::from(iter_live_defs_under(words, bytes, base, list))
+    DlAnswer::from(iter_live_defs_under(Log { words, bytes }, base, list))
 }
 
 // The history of a path, earliest first, by record numbers.
@@ -105,7 +106,7 @@ pub extern "C" fn dl_history(words: &[u32], bytes: &[u8], path: &[u8], list: &mu
     ensures list_after { list.new ≡ query_out words.now bytes.now path.now list.old
         (history_answers words.now bytes.now path.now) }
 {
-    DlAnswer::from(history(words, bytes, path, list))
+    DlAnswer::from(history(Log { words, bytes }, path, list))
 }
 
 // Whether a node is live at a path: returns 1 or 0.
@@ -113,7 +114,7 @@ pub extern "C" fn dl_history(words: &[u32], bytes: &[u8], path: &[u8], list: &mu
 pub extern "C" fn dl_contains_node(words: &[u32], bytes: &[u8], path: &[u8]) -> DlAnswer
     ensures { told result ≡ contains_answer words.now bytes.now path.now }
 {
-    DlAnswer::from(contains_node(words, bytes, path))
+    DlAnswer::from(contains_node(Log { words, bytes }, path))
 }
 
 // Reads a box number of packed decimal.

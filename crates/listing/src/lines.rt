@@ -14,7 +14,7 @@ use definition_log::chain::chain;
 use definition_log::kinds::{DELETED_NODE, DELETED_PROPERTY, NODE, PLUGIN, PROPERTY};
 use definition_log::layout;
 use definition_log::parts::{name_span_of, span_of};
-use definition_log::record::{child_of, first_text, kind_of, out_field, second_text};
+use definition_log::record::{Log, child_of, kind_of, out_field};
 
 // What the records of a chain are.
 #[derive(Clone, Copy, Debug, PartialEq, Eq)]
@@ -25,34 +25,34 @@ pub enum Kind {
 }
 
 // A record of a chain of this kind.
-pub fn put_record(words: &[u32], bytes: &[u8], kind: Kind, r: u32, page: &mut Page)
-    ensures { Puts (record_lines kind words.now bytes.now r) page.old page.new }
+pub fn put_record(log: Log<'_>, kind: Kind, r: u32, page: &mut Page)
+    ensures { Puts (record_lines kind log.entry.words.now log.entry.bytes.now r) page.old page.new }
 {
     match kind {
-        Kind::Definition => put_definition(words, bytes, r, page),
-        Kind::Binding => put_binding(words, bytes, r, page),
-        Kind::Diagnostic => put_diagnostic(words, r, page),
+        Kind::Definition => put_definition(log, r, page),
+        Kind::Binding => put_binding(log, r, page),
+        Kind::Diagnostic => put_diagnostic(log.words, r, page),
     }
 }
 
 // A definition with its labels.
-fn put_definition(words: &[u32], bytes: &[u8], r: u32, page: &mut Page)
-    ensures { Puts (definition_lines (def_at words.now bytes.now r)) page.old page.new }
+fn put_definition(log: Log<'_>, r: u32, page: &mut Page)
+    ensures { Puts (definition_lines (def_at log.entry.words.now log.entry.bytes.now r)) page.old page.new }
 {
-    put_definition_line(words, bytes, r, page);
-    if kind_of(words, r) == NODE {
-        put_labels(words, bytes, child_of(words, r), page);
+    put_definition_line(log, r, page);
+    if kind_of(log.words, r) == NODE {
+        put_labels(log, child_of(log.words, r), page);
     }
 }
 
 // A definition's own line.
-fn put_definition_line(words: &[u32], bytes: &[u8], r: u32, page: &mut Page)
-    ensures { Puts (definition_line (def_at words.now bytes.now r)) page.old page.new }
+fn put_definition_line(log: Log<'_>, r: u32, page: &mut Page)
+    ensures { Puts (definition_line (def_at log.entry.words.now log.entry.bytes.now r)) page.old page.new }
 {
-    page.put_text(&[b'D', b' ', letter_of(words, r), b' ']);
-    put_path(page, first_text(words, bytes, r));
-    page.put_span(span_of(words, r));
-    page.put_span(name_span_of(words, r));
+    page.put_text(&[b'D', b' ', letter_of(log.words, r), b' ']);
+    put_path(page, log.first_text(r));
+    page.put_span(span_of(log.words, r));
+    page.put_span(name_span_of(log.words, r));
     page.put_byte(b'\n');
 }
 
@@ -81,11 +81,11 @@ fn put_path(page: &mut Page, path: &[u8])
 }
 
 // A chain of labels.
-fn put_labels(words: &[u32], bytes: &[u8], first: u32, page: &mut Page)
-    ensures { Puts (flat_map label_line (read_labels words.now bytes.now first)) page.old page.new }
+fn put_labels(log: Log<'_>, first: u32, page: &mut Page)
+    ensures { Puts (flat_map label_line (read_labels log.entry.words.now log.entry.bytes.now first)) page.old page.new }
 {
-    for r in chain(words, first) {
-        put_label(page, first_text(words, bytes, r));
+    for r in chain(log.words, first) {
+        put_label(page, log.first_text(r));
     }
 }
 
@@ -99,14 +99,14 @@ fn put_label(page: &mut Page, label: &[u8])
 }
 
 // A binding.
-fn put_binding(words: &[u32], bytes: &[u8], r: u32, page: &mut Page)
-    ensures { Puts (binding_line (binding_at words.now bytes.now r)) page.old page.new }
+fn put_binding(log: Log<'_>, r: u32, page: &mut Page)
+    ensures { Puts (binding_line (binding_at log.entry.words.now log.entry.bytes.now r)) page.old page.new }
 {
     page.put_text(b"B ");
-    page.put_text(first_text(words, bytes, r));
+    page.put_text(log.first_text(r));
     page.put_byte(b' ');
-    page.put_text(second_text(words, bytes, r));
-    page.put_span(span_of(words, r));
+    page.put_text(log.second_text(r));
+    page.put_span(span_of(log.words, r));
     page.put_byte(b'\n');
 }
 

@@ -14,6 +14,7 @@ mod reading;
 
 use definition_log::answer::Refusal;
 use definition_log::layout;
+use definition_log::record::Log;
 use full_reads::read_full;
 use input::layout::RECORD_WORDS;
 use input::limits::{MOST_RECORDS, MOST_TEXT};
@@ -109,5 +110,5 @@ fn list_lowered(words: &[u32], text: &[u8], out: &mut [u32], bytes: &mut [u8], p
 {
     let one_file = [0u32];
     let answer = lower(words, text, SIGNED, &one_file, out, bytes);
-    list_answer(answer, out, bytes, page);
+    list_answer(answer, Log { words: out, bytes }, page);
 }

@@ -3,28 +3,27 @@
 use crate::records::{ChainOf, record_itself};
 use crate::tally::Tally;
 use definition_log::kinds::{CELL_LIST, NODE, PROPERTY};
-use definition_log::record::{child_of, kind_of, next_of, out_field};
+use definition_log::record::{Log, child_of, kind_of, next_of, out_field};
 use definition_log::{chain, layout};
 use std::io;
 
 // A chain: how many records it has, and each of them with the chains that it has.
 #[cycle(chain_chains_of)]
 pub fn chain<R: Print>(
-    out: &[u32],
-    bytes: &[u8],
+    log: Log<'_>,
     has: ChainOf,
     first: u32,
     what: &str,
     t: &mut Tally<R>,
 ) -> io::Result<()> {
     let count = t.sample.peek();
-    counted(out, first, t, what)?;
+    counted(log.words, first, t, what)?;
     let mut r = first;
     for _ in 0..count {
         let kind = t.sample.peek();
-        record_itself(out, bytes, has, r, t)?;
-        chains_of(out, bytes, has, r, kind, t)?;
-        r = next_of(out, r);
+        record_itself(log, has, r, t)?;
+        chains_of(log, has, r, kind, t)?;
+        r = next_of(log.words, r);
     }
     Ok(())
 }
@@ -33,8 +32,7 @@ pub fn chain<R: Print>(
 // value that is recorded as a cell list.
 #[cycle(chain_chains_of)]
 fn chains_of<R: Print>(
-    out: &[u32],
-    bytes: &[u8],
+    log: Log<'_>,
     has: ChainOf,
     r: u32,
     kind: u32,
@@ -42,28 +40,21 @@ fn chains_of<R: Print>(
 ) -> io::Result<()> {
     match has {
         ChainOf::Extensions => {
-            let body = out_field(out, r, layout::M);
-            chain(
-                out,
-                bytes,
-                ChainOf::Definitions,
-                body,
-                "number of definitions",
-                t,
-            )
+            let body = out_field(log.words, r, layout::M);
+            chain(log, ChainOf::Definitions, body, "number of definitions", t)
         }
         ChainOf::Definitions => {
-            let labels = child_if(out, r, NODE);
-            let values = child_if(out, r, PROPERTY);
-            chain(out, bytes, ChainOf::Labels, labels, "number of labels", t)?;
-            chain(out, bytes, ChainOf::Values, values, "number of values", t)
+            let labels = child_if(log.words, r, NODE);
+            let values = child_if(log.words, r, PROPERTY);
+            chain(log, ChainOf::Labels, labels, "number of labels", t)?;
+            chain(log, ChainOf::Values, values, "number of values", t)
         }
         ChainOf::Values => {
             if kind != CELL_LIST {
                 return Ok(());
             }
-            let cells = child_of(out, r);
-            chain(out, bytes, ChainOf::Cells, cells, "number of cells", t)
+            let cells = child_of(log.words, r);
+            chain(log, ChainOf::Cells, cells, "number of cells", t)
         }
         _ => Ok(()),
     }

@@ -3,10 +3,11 @@ use crate::chains::chain;
 use crate::records::ChainOf;
 use crate::tally::Tally;
 use definition_log::layout;
-use definition_log::record::out_field;
+use definition_log::record::{Log, out_field};
 use std::io;
 
-// The chains of a log in the order in which they are recorded: where record 0 has the first record, what the chain has, and what is compared.
+// The chains of a log in the order in which they are recorded: where record 0 has the first record, what the chain has, and
+// what is compared.
 const CHAINS: [(u32, ChainOf, &str); 5] = [
     (
         layout::FIRST_DEFINITION,
@@ -36,11 +37,14 @@ const CHAINS: [(u32, ChainOf, &str); 5] = [
 ];
 
 // The whole log: record 0's counts and what its chains have.
-pub fn whole_log<R: Print>(out: &[u32], bytes: &[u8], t: &mut Tally<R>) -> io::Result<()> {
-    t.number(out_field(out, 0, layout::RECORDS_USED), "records used")?;
-    t.number(out_field(out, 0, layout::BYTES_USED), "bytes used")?;
+pub fn whole_log<R: Print>(log: Log<'_>, t: &mut Tally<R>) -> io::Result<()> {
+    t.number(
+        out_field(log.words, 0, layout::RECORDS_USED),
+        "records used",
+    )?;
+    t.number(out_field(log.words, 0, layout::BYTES_USED), "bytes used")?;
     for (place, has, what) in &CHAINS {
-        chain(out, bytes, *has, out_field(out, 0, *place), *what, t)?;
+        chain(log, *has, out_field(log.words, 0, *place), *what, t)?;
     }
     Ok(())
 }

@@ -4,36 +4,26 @@ use crate::tally::Tally;
 use definition_log::answer::{Numbers, Refusal};
 use definition_log::chain::chain;
 use definition_log::layout;
-use definition_log::record::{log_count, out_field};
+use definition_log::record::{Log, log_count, out_field};
 use queries::query::{contains_node, history, iter_live_defs_under};
 use std::io;
 
 // The queries of a log.
-pub fn asked<R: Print>(
-    out: &[u32],
-    bytes: &[u8],
-    list: &mut [u32],
-    t: &mut Tally<R>,
-) -> io::Result<()> {
+pub fn asked<R: Print>(log: Log<'_>, list: &mut [u32], t: &mut Tally<R>) -> io::Result<()> {
     for _ in 0..t.sample.number() {
-        query(out, bytes, list, t)?;
+        query(log, list, t)?;
     }
     Ok(())
 }
 
 // The three queries of a path.
-fn query<R: Print>(
-    out: &[u32],
-    bytes: &[u8],
-    list: &mut [u32],
-    t: &mut Tally<R>,
-) -> io::Result<()> {
+fn query<R: Print>(log: Log<'_>, list: &mut [u32], t: &mut Tally<R>) -> io::Result<()> {
     let path = t.sample.text();
-    answered(contains_node(out, bytes, path), t, "contains_node")?;
-    let live = iter_live_defs_under(out, bytes, path, list);
-    places(out, list, live, t, "live list")?;
-    let past = history(out, bytes, path, list);
-    places(out, list, past, t, "history")
+    answered(contains_node(log, path), t, "contains_node")?;
+    let live = iter_live_defs_under(log, path, list);
+    places(log.words, list, live, t, "live list")?;
+    let past = history(log, path, list);
+    places(log.words, list, past, t, "history")
 }
 
 // What is returned with number 0.

@@ -4,7 +4,7 @@ use definition_log::kinds::{
     BINDING, BYTESTRING, CELL_LIST, DIAGNOSTIC, EXTENSION, LABEL, NUMBER, REFERENCE, STRING,
 };
 use definition_log::layout;
-use definition_log::record::{child_of, first_text, kind_of, out_field, second_text};
+use definition_log::record::{Log, child_of, kind_of, out_field};
 use std::io;
 
 // What a chain has.
@@ -21,89 +21,88 @@ pub enum ChainOf {
 
 // A record of a chain.
 pub fn record_itself<R: Print>(
-    out: &[u32],
-    bytes: &[u8],
+    log: Log<'_>,
     has: ChainOf,
     r: u32,
     t: &mut Tally<R>,
 ) -> io::Result<()> {
     match has {
-        ChainOf::Cells => cell(out, bytes, r, t),
-        ChainOf::Labels => label(out, bytes, r, t),
-        ChainOf::Values => value(out, bytes, r, t),
-        ChainOf::Definitions => definition(out, bytes, r, t),
-        ChainOf::Extensions => extension(out, bytes, r, t),
-        ChainOf::Bindings => binding(out, bytes, r, t),
-        ChainOf::Diagnostics => diagnostic(out, bytes, r, t),
+        ChainOf::Cells => cell(log, r, t),
+        ChainOf::Labels => label(log, r, t),
+        ChainOf::Values => value(log, r, t),
+        ChainOf::Definitions => definition(log, r, t),
+        ChainOf::Extensions => extension(log, r, t),
+        ChainOf::Bindings => binding(log, r, t),
+        ChainOf::Diagnostics => diagnostic(log, r, t),
     }
 }
 
 // A cell.
-fn cell<R: Print>(out: &[u32], bytes: &[u8], r: u32, t: &mut Tally<R>) -> io::Result<()> {
+fn cell<R: Print>(log: Log<'_>, r: u32, t: &mut Tally<R>) -> io::Result<()> {
     let kind = t.sample.peek();
-    t.number(kind_of(out, r), "kind of a cell")?;
+    t.number(kind_of(log.words, r), "kind of a cell")?;
     if kind == NUMBER {
-        t.number(out_field(out, r, layout::N), "low word of a cell")?;
-        return t.number(out_field(out, r, layout::M), "high word of a cell");
+        t.number(out_field(log.words, r, layout::N), "low word of a cell")?;
+        return t.number(out_field(log.words, r, layout::M), "high word of a cell");
     }
-    reference(out, bytes, r, t)
+    reference(log, r, t)
 }
 
 // A label.
-fn label<R: Print>(out: &[u32], bytes: &[u8], r: u32, t: &mut Tally<R>) -> io::Result<()> {
-    t.noted(kind_of(out, r) == LABEL, "kind of a label")?;
-    t.text(first_text(out, bytes, r), "label")
+fn label<R: Print>(log: Log<'_>, r: u32, t: &mut Tally<R>) -> io::Result<()> {
+    t.noted(kind_of(log.words, r) == LABEL, "kind of a label")?;
+    t.text(log.first_text(r), "label")
 }
 
 // A value.
-fn value<R: Print>(out: &[u32], bytes: &[u8], r: u32, t: &mut Tally<R>) -> io::Result<()> {
+fn value<R: Print>(log: Log<'_>, r: u32, t: &mut Tally<R>) -> io::Result<()> {
     let kind = t.sample.peek();
-    t.number(kind_of(out, r), "kind of a value")?;
+    t.number(kind_of(log.words, r), "kind of a value")?;
     match kind {
-        STRING => t.text(first_text(out, bytes, r), "string"),
-        BYTESTRING => t.text(first_text(out, bytes, r), "bytestring"),
-        CELL_LIST => t.number(out_field(out, r, layout::N), "width of a cell list"),
-        _ => reference(out, bytes, r, t),
+        STRING => t.text(log.first_text(r), "string"),
+        BYTESTRING => t.text(log.first_text(r), "bytestring"),
+        CELL_LIST => t.number(out_field(log.words, r, layout::N), "width of a cell list"),
+        _ => reference(log, r, t),
     }
 }
 
 // A definition.
-fn definition<R: Print>(out: &[u32], bytes: &[u8], r: u32, t: &mut Tally<R>) -> io::Result<()> {
-    t.number(kind_of(out, r), "kind of a definition")?;
-    t.text(first_text(out, bytes, r), "path of a definition")?;
-    spans(out, r, t)?;
-    t.number(out_field(out, r, layout::N), "omit mark")
+fn definition<R: Print>(log: Log<'_>, r: u32, t: &mut Tally<R>) -> io::Result<()> {
+    t.number(kind_of(log.words, r), "kind of a definition")?;
+    t.text(log.first_text(r), "path of a definition")?;
+    spans(log.words, r, t)?;
+    t.number(out_field(log.words, r, layout::N), "omit mark")
 }
 
 // An extension, with its reference.
-fn extension<R: Print>(out: &[u32], bytes: &[u8], r: u32, t: &mut Tally<R>) -> io::Result<()> {
-    t.noted(kind_of(out, r) == EXTENSION, "kind of an extension")?;
-    spans(out, r, t)?;
-    reference(out, bytes, child_of(out, r), t)
+fn extension<R: Print>(log: Log<'_>, r: u32, t: &mut Tally<R>) -> io::Result<()> {
+    t.noted(kind_of(log.words, r) == EXTENSION, "kind of an extension")?;
+    spans(log.words, r, t)?;
+    reference(log, child_of(log.words, r), t)
 }
 
 // A binding.
-fn binding<R: Print>(out: &[u32], bytes: &[u8], r: u32, t: &mut Tally<R>) -> io::Result<()> {
-    t.noted(kind_of(out, r) == BINDING, "kind of a binding")?;
-    t.text(first_text(out, bytes, r), "label of a binding")?;
-    t.text(second_text(out, bytes, r), "path of a binding")?;
-    span(out, r, t)
+fn binding<R: Print>(log: Log<'_>, r: u32, t: &mut Tally<R>) -> io::Result<()> {
+    t.noted(kind_of(log.words, r) == BINDING, "kind of a binding")?;
+    t.text(log.first_text(r), "label of a binding")?;
+    t.text(log.second_text(r), "path of a binding")?;
+    span(log.words, r, t)
 }
 
 // A diagnostic.
-fn diagnostic<R: Print>(out: &[u32], bytes: &[u8], r: u32, t: &mut Tally<R>) -> io::Result<()> {
-    t.noted(kind_of(out, r) == DIAGNOSTIC, "kind of a diagnostic")?;
-    t.number(out_field(out, r, layout::N), "code of a diagnostic")?;
-    t.text(first_text(out, bytes, r), "text of a diagnostic")?;
-    spans(out, r, t)
+fn diagnostic<R: Print>(log: Log<'_>, r: u32, t: &mut Tally<R>) -> io::Result<()> {
+    t.noted(kind_of(log.words, r) == DIAGNOSTIC, "kind of a diagnostic")?;
+    t.number(out_field(log.words, r, layout::N), "code of a diagnostic")?;
+    t.text(log.first_text(r), "text of a diagnostic")?;
+    spans(log.words, r, t)
 }
 
 // What a reference names.
-fn reference<R: Print>(out: &[u32], bytes: &[u8], r: u32, t: &mut Tally<R>) -> io::Result<()> {
-    t.noted(kind_of(out, r) == REFERENCE, "kind of a reference")?;
-    t.number(out_field(out, r, layout::N), "form of a reference")?;
-    t.text(first_text(out, bytes, r), "label of a reference")?;
-    t.text(second_text(out, bytes, r), "path of a reference")
+fn reference<R: Print>(log: Log<'_>, r: u32, t: &mut Tally<R>) -> io::Result<()> {
+    t.noted(kind_of(log.words, r) == REFERENCE, "kind of a reference")?;
+    t.number(out_field(log.words, r, layout::N), "form of a reference")?;
+    t.text(log.first_text(r), "label of a reference")?;
+    t.text(log.second_text(r), "path of a reference")
 }
 
 // The span and the name span of a record.

@@ -4,6 +4,7 @@ use crate::queried::asked;
 use crate::tally::Tally;
 use definition_log::answer::{Numbers, Refusal};
 use definition_log::layout::RECORD_WORDS;
+use definition_log::record::Log;
 use levels::level::SIGNED;
 use lowering::lower::lower;
 use std::io;
@@ -49,7 +50,7 @@ fn replay_input<R: Print>(
     }
     in_room(records, size, out, bytes, t, |out, bytes, t| {
         replay_log(words, text, out, bytes, t)?;
-        asked(out, bytes, list, t)
+        asked(Log { words: out, bytes }, list, t)
     })
 }
 
@@ -112,7 +113,7 @@ fn replay_log<R: Print>(
     let answer = lower_case(words, text, out, bytes);
     t.noted(answer.is_ok(), "number of an input")?;
     t.noted(Numbers::from(answer).returned == 0, "returned of an input")?;
-    whole_log(out, bytes, t)
+    whole_log(Log { words: out, bytes }, t)
 }
 
 // Lowers an input.

@@ -12,12 +12,13 @@ use Rattle.listing.proofs.lines.put_definition.Goals as goal
 pub returns-then-kind_of-eq-NODE : goal.returns-then-kind_of-eq-NODE
 returns-then-kind_of-eq-NODE c =
     let a = c.args in
-    node_lines a.words.now a.bytes.now a.r c.put_definition_line.ensures
+    node_lines a.log.words.now a.log.bytes.now a.r c.put_definition_line.ensures
     (eq-eqb _ _ (sym c.kind_of.ensures ∙ c.if-kind_of-eq-NODE.true))
-    (puts_same (ap (λ (first : ℕ). flat_map label_line (read_labels a.words.now a.bytes.now first)) c.child_of.ensures) c.put_labels.ensures)
+    (puts_same (ap (λ (first : ℕ). flat_map label_line (read_labels a.log.words.now a.log.bytes.now first)) c.child_of.ensures)
+    c.put_labels.ensures)
 
 pub returns-else-kind_of-eq-NODE : goal.returns-else-kind_of-eq-NODE
 returns-else-kind_of-eq-NODE c =
     let a = c.args in
-    plain_lines a.words.now a.bytes.now a.r c.put_definition_line.ensures
+    plain_lines a.log.words.now a.log.bytes.now a.r c.put_definition_line.ensures
     (ne_eqb _ _ (λ e. c.if-kind_of-eq-NODE.false (c.kind_of.ensures ∙ e)))

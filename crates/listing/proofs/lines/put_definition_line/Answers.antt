@@ -11,7 +11,7 @@ use Rattle.listing.proofs.lines.put_definition_line.Goals as goal
 pub returns : goal.returns
 unfolding definition_line def_at
 returns c =
-    let letter = ap (λ (l : ℕ). code "D" ∷ code " " ∷ l ∷ code " " ∷ []) (c.letter_of.ensures c.args.bytes.now) in
+    let letter = ap (λ (l : ℕ). code "D" ∷ code " " ∷ l ∷ code " " ∷ []) (c.letter_of.ensures c.args.log.bytes.now) in
     let head = puts_same letter c.put_text.ensures in
     let path = puts_same (ap path_field c.first_text.ensures) c.put_path.ensures in
     let span = puts_same (ap span_field c.span_of.ensures) c.put_span.ensures in

@@ -11,15 +11,16 @@ pub loop-r-init : goal.loop-r-init
 unfolding read_labels
 loop-r-init c =
     let a = c.args in
-    rw (c.into_iter-r-iterator.ensures.into_iter_gives, c.chain-r-items.ensures, lines_of label_line (first_text a.words.now a.bytes.now)) refl
+    let text = first_text a.log.words.now a.log.bytes.now in
+    rw (c.into_iter-r-iterator.ensures.into_iter_gives, c.chain-r-items.ensures, lines_of label_line text) refl
 
 pub loop-r-preserved : goal.loop-r-preserved
 loop-r-preserved c =
     let a = c.args in
-    lines_next (label a.words.now a.bytes.now) _ _ _ c.loop-r.invariant _ _ c.in-Some.ensures.steps _
+    lines_next (label a.log.words.now a.log.bytes.now) _ _ _ c.loop-r.invariant _ _ c.in-Some.ensures.steps _
     (puts_same (ap label_line c.first_text.ensures) c.put_label.ensures)
 
 pub returns : goal.returns
 returns c =
     let a = c.args in
-    record { gives = lines_end (label a.words.now a.bytes.now) _ _ _ c.loop-r.invariant c.in-None.ensures.steps.0 }
+    record { gives = lines_end (label a.log.words.now a.log.bytes.now) _ _ _ c.loop-r.invariant c.in-None.ensures.steps.0 }

@@ -15,5 +15,5 @@ label words bytes r = label_line (first_text words bytes r)
 
 abbrev pub invariant-loop-r : goal.invariant-loop-r
 invariant-loop-r l =
-    put (flat_map label_line (read_labels l.words l.bytes l.first)) l.initial.page
-    ≡ put (flat_map (label l.words l.bytes) (chain_left l.r-iterator)) l.page
+    put (flat_map label_line (read_labels l.log.words.now l.log.bytes.now l.first)) l.initial.page
+    ≡ put (flat_map (label l.log.words.now l.log.bytes.now) (chain_left l.r-iterator)) l.page

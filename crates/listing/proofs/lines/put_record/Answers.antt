@@ -12,4 +12,4 @@ returns-in-Binding c = rw c.in-Binding.is c.put_binding.ensures
 
 pub returns-in-Diagnostic : goal.returns-in-Diagnostic
 unfolding record_lines
-returns-in-Diagnostic c = rw c.in-Diagnostic.is (c.put_diagnostic.ensures c.args.bytes.now)
+returns-in-Diagnostic c = rw c.in-Diagnostic.is (c.put_diagnostic.ensures c.args.log.bytes.now)

@@ -10,9 +10,10 @@ loop-r-init c = rw (c.into_iter-r-iterator.ensures.into_iter_gives, c.chain-r-it
 pub loop-r-preserved : goal.loop-r-preserved
 loop-r-preserved c =
     let a = c.args in
-    lines_next (record_lines a.kind a.words.now a.bytes.now) _ _ _ c.loop-r.invariant _ _ c.in-Some.ensures.steps _ c.put_record.ensures
+    lines_next (record_lines a.kind a.log.words.now a.log.bytes.now) _ _ _ c.loop-r.invariant _ _ c.in-Some.ensures.steps _
+    c.put_record.ensures
 
 pub returns : goal.returns
 returns c =
     let a = c.args in
-    record { gives = lines_end (record_lines a.kind a.words.now a.bytes.now) _ _ _ c.loop-r.invariant c.in-None.ensures.steps.0 }
+    record { gives = lines_end (record_lines a.kind a.log.words.now a.log.bytes.now) _ _ _ c.loop-r.invariant c.in-None.ensures.steps.0 }

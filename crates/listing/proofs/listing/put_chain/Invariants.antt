@@ -8,5 +8,5 @@ use Rattle.listing.proofs.listing.put_chain.Given as goal
 
 abbrev pub invariant-loop-r : goal.invariant-loop-r
 invariant-loop-r l =
-    put (chain_lines l.kind l.place l.words l.bytes) l.initial.page
-    ≡ put (flat_map (record_lines l.kind l.words l.bytes) (chain_left l.r-iterator)) l.page
+    put (chain_lines l.kind l.place l.log.words.now l.log.bytes.now) l.initial.page
+    ≡ put (flat_map (record_lines l.kind l.log.words.now l.log.bytes.now) (chain_left l.r-iterator)) l.page

@@ -12,4 +12,5 @@ returns c =
     let binds = c.put_chain-2.ensures in
     let diags = c.put_chain-3.ensures in
     let post = c.put_chain-4.ensures in
-    puts_same (chains_listed a.words.now a.bytes.now) (then_puts (then_puts (then_puts (then_puts defs binds) diags) post) c.put_text.ensures)
+    puts_same (chains_listed a.log.words.now a.log.bytes.now)
+    (then_puts (then_puts (then_puts (then_puts defs binds) diags) post) c.put_text.ensures)
