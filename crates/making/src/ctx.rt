@@ -89,6 +89,7 @@ pub struct Rec {
 
 // Writes record `number`, whose texts start at `at` and have these lengths, and sets the link at
 // index `link`, where that is not 0, to it.
+#[inline(always)]
 pub(crate) fn put_record(
     words: &mut [u32],
     number: u32,
@@ -133,6 +134,7 @@ fn start_of(at: u32, size: u32) -> u32
 }
 
 // Whether one record more, with so many bytes of texts, has room.
+#[inline(always)]
 fn has_room(ctx: LowerCtx, words: &[u32], bytes: &[u8], size: usize) -> bool
     ensures { result ≡ has_room ctx words.now bytes.now size }
 {
@@ -146,6 +148,7 @@ fn has_room(ctx: LowerCtx, words: &[u32], bytes: &[u8], size: usize) -> bool
 impl LowerCtx {
     // Makes a record with these texts, to which the link at index `link` leads, where that is not 0;
     // or runs short.
+    #[inline(always)]
     pub(crate) fn make(
         self,
         words: &mut [u32],
@@ -193,6 +196,7 @@ impl LowerCtx {
     }
 
     // Whether a record with so many bytes of texts is made.
+    #[inline(always)]
     fn admits(self, words: &[u32], bytes: &[u8], size: usize, link: usize) -> bool
         ensures { result ≡ makes self words.now bytes.now size link }
     {
@@ -203,6 +207,7 @@ impl LowerCtx {
     }
 
     // Writes a record that has room, and counts it with its texts, whose lengths these are.
+    #[inline(always)]
     fn put(self, words: &mut [u32], rec: Rec, first: u32, second: u32, link: usize) -> LowerCtx
         requires { (self.records < log_count words.old) × (link < length words.old) × (self.bytes + (first + second) ≤ most_bytes) }
         ensures value { result ≡ one_more self (first + second) }

@@ -31,6 +31,7 @@ pub(crate) const NONE: Text<'static> = Text::Whole(Piece::Given(b""));
 
 impl<'a> Piece<'a> {
     // Its bytes.
+    #[inline(always)]
     fn bytes(self, used: u32, bytes: &'a [u8]) -> &'a [u8]
         ensures { result.now ≡ piece_in used bytes.now self.entry }
     {
@@ -43,6 +44,7 @@ impl<'a> Piece<'a> {
 
 impl<'a> Text<'a> {
     // How long it is, or the largest usize where it is longer.
+    #[inline(always)]
     pub(crate) fn len(self, used: u32, bytes: &[u8]) -> usize
         ensures { result ≡ at_most largest_usize (length (text_said used bytes.now self.entry)) }
     {
@@ -53,6 +55,7 @@ impl<'a> Text<'a> {
     }
 
     // Writes it from index `at` on, which lies behind the bytes in use.
+    #[inline(always)]
     pub(crate) fn write(self, used: u32, bytes: &mut [u8], at: usize)
         requires { (used ≤ at) × (at + length (text_said used bytes.old self) ≤ length bytes.old) }
         ensures { bytes.new ≡ written bytes.old at (text_said used bytes.old self.entry) }
