@@ -92,6 +92,7 @@ fn live_of<'a>(
 
 // Whether a definition is live under a base, by the table of the later ones, into which it is
 // entered if it can take something away.
+// kept: one lifetime with a name, which the check of borrows asks for where one struct holds the log, the list and the table.
 fn pass<'x>(
     log: Log<'x>,
     base: &[u8],
