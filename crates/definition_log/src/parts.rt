@@ -14,6 +14,7 @@ pub struct Span {
 }
 
 // The span of a record.
+// kept: two functions of two words each, of which one by the word's place would take its callers' knowledge of the places.
 pub fn span_of(words: &[u32], r: u32) -> Span
     ensures { meant result ≡ span_at words.now r }
 {

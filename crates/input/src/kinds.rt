@@ -1,4 +1,5 @@
 // The kinds of input records, by 01's numbers.
+// kept: numbers, for a caller lends the words of a description, and any number may stand in them.
 pub const NODE: u32 = 1;
 
 pub const PROPERTY: u32 = 2;

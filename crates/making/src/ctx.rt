@@ -63,7 +63,9 @@ impl Chain {
 // short. Bindings and diagnostics are in one chain each for all logs. `part` is the last label or
 // value of the newest definition and `cell` the last cell of that value, 0 where there is none.
 // kept: `short` is a flag and no Result, since an operation that could not fail still cannot
-// kept: `words` and `bytes` stand beside it: a struct that holds both `&mut` needs a clause on them in every function
+// kept: 01 has this state by value and handed back, and `words` and `bytes` stand beside it. A struct of both `&mut` was tried on eight
+// functions of `items`, which prove: where one reads the words and then writes, they have to be lent in a line of their own, and 38
+// relations of four lists would be said again over two structs.
 #[derive(Clone, Copy, Debug, PartialEq, Eq)]
 pub struct LowerCtx {
     pub records: u32,
@@ -88,7 +90,8 @@ pub struct Rec {
 }
 
 // Writes record `number`, whose texts start at `at` and have these lengths, and sets the link at
-// index `link`, where that is not 0, to it.
+// index `link`, where that is not 0, to it. What makes a record is inlined from here to `make`, so that what its
+// texts are is known where it is called (docs/PERFORMANCE.md).
 #[inline(always)]
 pub(crate) fn put_record(
     words: &mut [u32],
@@ -172,6 +175,7 @@ impl LowerCtx {
     }
 
     // The same with one text, the bytes of a bytestring; nothing where its text lacks a digit.
+    // kept: beside `make`, whose texts cannot fail
     pub(crate) fn make_bytestring(
         self,
         words: &mut [u32],

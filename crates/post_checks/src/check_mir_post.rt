@@ -159,14 +159,16 @@ fn binds_again(log: Log<'_>, first: u32, most: u32, r: u32) -> bool
 
 // Whether binding `x` has the label of binding `r`.
 fn has_label(log: Log<'_>, x: u32, r: u32) -> bool
-    ensures { result ≡ has_label (binding_at log.entry.words.now log.entry.bytes.now r) (binding_at log.entry.words.now log.entry.bytes.now x) }
+    ensures { result ≡ has_label (binding_at log.entry.words.now log.entry.bytes.now r)
+        (binding_at log.entry.words.now log.entry.bytes.now x) }
 {
     equals(log.first_text(r), log.first_text(x))
 }
 
 // Whether it has its path.
 fn has_path(log: Log<'_>, x: u32, r: u32) -> bool
-    ensures { result ≡ has_path (binding_at log.entry.words.now log.entry.bytes.now r) (binding_at log.entry.words.now log.entry.bytes.now x) }
+    ensures { result ≡ has_path (binding_at log.entry.words.now log.entry.bytes.now r)
+        (binding_at log.entry.words.now log.entry.bytes.now x) }
 {
     equals(log.second_text(r), log.second_text(x))
 }

@@ -41,7 +41,8 @@ pub fn check_phandles(out: &mut [u32], bytes: &mut [u8], ctx: LowerCtx) -> Lower
     check_within::<MOST_RECORDS>(out, bytes, ctx)
 }
 
-// The reports on all live definitions of a log of at most N records. It is not inlined: the lists of all sizes would be on the stack at once.
+// The reports on all live definitions of a log of at most N records. It is not inlined: the lists of all sizes would
+// be on the stack at once.
 #[inline(never)]
 fn check_within<const N: usize>(out: &mut [u32], bytes: &mut [u8], ctx: LowerCtx) -> LowerCtx
     requires room { log_count out.old ≤ N }

@@ -46,6 +46,7 @@ pub fn lookup_in(log: Log<'_>, first: u32, path: &[u8]) -> Lookup
 }
 
 // The look-up of the path of a parent and a name.
+// kept: beside `lookup_in`, which finds the two parts in its path first, and not where the path is empty or has no "/"
 pub fn lookup_path(log: Log<'_>, first: u32, parent: &[u8], name: &[u8]) -> Lookup
     ensures { AnswersLookup log.entry.words.now log.entry.bytes.now first (joined parent.now name.now []) result }
 {
