@@ -17,7 +17,7 @@ use crate::kinds::{
     REFERENCE, STRING,
 };
 use crate::linked::Record;
-use crate::record::{child_at, number_at};
+use crate::record::number_at;
 use crate::report::Report;
 use paths_numbers::codes::{self, Code};
 use paths_numbers::dt_property::{
@@ -90,8 +90,7 @@ impl Record<'_> {
         if nesting == 0 {
             return Err(Report::Nothing);
         }
-        let first = child_at(self.input.words, self.number);
-        let z = self.input.eval_first(first, nesting - 1, level)?;
+        let z = self.parts().eval_first(nesting - 1, level)?;
         number_cell(self.number, expr_cell(z, size))
     }
 

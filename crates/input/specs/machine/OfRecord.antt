@@ -5,7 +5,7 @@ use Rattle.paths_numbers.specs.declared.phandle.MirPhandleTarget.{MirPhandleTarg
 use Rattle.definition_log.specs.meaning.Contents.{Span, Cell, Value}
 use Rattle.input.specs.meaning.Tree.{Tree, Trees}
 use Rattle.input.specs.meaning.Report.{Got, Made}
-use Rattle.input.specs.meaning.Input.{kind_at, text_at, span_at, parts_at}
+use Rattle.input.specs.meaning.Input.{kind_at, number_at, text_at, span_at, parts_at}
 use Rattle.input.specs.machine.At.{record_at, contents_at}
 use Rattle.input.specs.machine.PhandleRead.{label_at, path_at, phandle_read}
 use Rattle.input.specs.machine.ValueRead.{cell_made, value_made}
@@ -24,9 +24,12 @@ parts_of r = parts_at r.input.words.now r.input.text.now r.number
 abbrev pub contents_of : Record → Trees
 contents_of r = contents_at r.input.words.now r.input.text.now r.number
 
--- its kind, span and text
+-- its kind, the number that its W is, its span and text
 abbrev pub kind_in : Record → ℕ
 kind_in r = kind_at r.input.words.now r.number
+
+abbrev pub w_in : Record → ℕ
+w_in r = number_at r.input.words.now r.number
 
 abbrev pub span_in : Record → Span
 span_in r = span_at r.input.words.now r.number
