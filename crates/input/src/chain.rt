@@ -2,7 +2,7 @@
 ghost use Rattle.std.specs.Prelude.{◌≡◌, ⊤};
 ghost use Rattle.std.specs.Iterator.{YieldsFirst, item_count};
 ghost use Rattle.input.specs.meaning.Input.{child_at, second_at};
-ghost use Rattle.input.specs.machine.ChainLeft.{numbers_from, chain_left};
+ghost use Rattle.input.specs.machine.ChainLeft.{chain_left};
 ghost use Rattle.input.specs.machine.Linked.{At};
 
 use crate::linked::{Chain, Input, Record};
@@ -12,7 +12,8 @@ impl<'a> Input<'a> {
     // The records of a chain from its first on.
     pub fn chain(self, first: u32) -> Chain<'a>
         requires at { At self.words.now first }
-        ensures { chain_left result ≡ numbers_from self.entry.words.now first }
+        ensures input { result.input ≡ self.entry }
+        ensures next { result.next ≡ first }
     {
         Chain {
             input: self,

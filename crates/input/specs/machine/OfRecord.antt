@@ -8,9 +8,10 @@ use Rattle.input.specs.meaning.Report.{Got, Made}
 use Rattle.input.specs.meaning.Input.{kind_at, number_at, text_at, span_at, parts_at}
 use Rattle.input.specs.machine.At.{record_at, contents_at}
 use Rattle.input.specs.machine.PhandleRead.{label_at, path_at, phandle_read}
-use Rattle.input.specs.machine.ValueRead.{cell_made, value_made}
+use Rattle.input.specs.machine.ValueRead.{cell_made, plain_made, value_made}
 use Rattle.input.specs.declared.report.Report.{Report}
 use Rattle.input.specs.declared.value_read.CellValue.{CellValue}
+use Rattle.input.specs.declared.value_read.PlainValue.{PlainValue}
 use Rattle.input.specs.declared.value_read.Value as declared
 use Rattle.input.specs.declared.linked.Record.{Record}
 
@@ -44,12 +45,15 @@ label_in r = label_at r.input.words.now r.input.text.now r.number
 abbrev pub path_in : Record → List ℕ
 path_in r = path_at r.input.words.now r.input.text.now r.number
 
--- what a reading of it stands for: of a reference, a cell and a value
+-- what a reading of it stands for: of a reference, a cell, a value without cells and a value
 abbrev pub phandle_told : Record → Result MirPhandleTarget Report → Got Target
 phandle_told r v = phandle_read r.input.words.now r.input.text.now r.number v
 
 abbrev pub cell_told : Record → Result CellValue Report → Made Cell
 cell_told r v = cell_made r.input.words.now r.input.text.now r.number v
+
+abbrev pub plain_told : Record → PlainValue → Made Value
+plain_told r v = plain_made r.input.words.now r.input.text.now r.number v
 
 abbrev pub value_told : Record → ℕ → Result declared.Value Report → Made Value
 value_told r level v = value_made r.input.words.now r.input.text.now r.number level v
