@@ -17,8 +17,10 @@ use Rattle.input.specs.machine.Linked.{Linked, RecordIn, ChainIn}
 use Rattle.std.specs.Prelude.{Option as Maybe, Some, None, is_some}
 use Rattle.std.specs.List.{find}
 use Rattle.std.specs.Option.{option_map}
-use Rattle.input.specs.machine.ChainLeft.{trees_of, AreRecords, chain_left, trees_over}
+use Rattle.input.specs.machine.ChainLeft.{trees_of, AreRecords, chain_left, trees_over, trees_left}
 use Rattle.input.specs.declared.linked.Chain.{Chain}
+use Rattle.input.specs.declared.linked.Record.{Record}
+use Rattle.input.specs.machine.OfRecord.{tree_of}
 use Rattle.input.specs.machine.Read.{after_at, optional, FirstOf}
 use Rattle.input.proofs.Input.{chain_more}
 use Rattle.input.proofs.ChainLeft.{chain_is, are_records, parts_over}
@@ -112,6 +114,13 @@ module _ (words : List ℕ) (l : Linked words) (r : ℕ) (n : r ≡ 0 → ⊥) (
       (depths_of (chain_at words text (next_at words r)))
   unfolding depths_of
   depths_more text = rw (chain_more words l text r n a) refl
+
+-- what is no deeper than a nesting, by its words
+pub record_in : (r : Record) (nesting : ℕ) → depth_of (tree_of r) ≤ nesting → RecordIn r.input.words.now r.input.text.now r.number nesting
+record_in r nesting h = record { there = r.known; shallow = h }
+
+pub chain_in : (c : Chain) (nesting : ℕ) → depths_of (trees_left c) ≤ nesting → ChainIn c.input.words.now c.input.text.now c.next nesting
+chain_in c nesting h = record { at = c.at; shallow = h }
 
 module _ (words text : List ℕ) (l : Linked words) (r nesting : ℕ) where
   -- the first record of a chain, and what follows it

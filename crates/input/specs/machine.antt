@@ -11,3 +11,4 @@ pub mod ValueRead
 pub mod ChainLeft
 pub mod Rising
 pub mod RowsPass
+pub mod OfRecord

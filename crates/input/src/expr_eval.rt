@@ -1,147 +1,154 @@
 // The value of an expression (eval of expr_eval.rs). The nesting, which falls with each link to
 // operands, is what row 6 leaves; the level says what it is reckoned with.
-ghost use Rattle.std.specs.Prelude.{◌≡◌, List, ℕ};
+ghost use Rattle.std.specs.Prelude.{◌≡◌, List, ℕ, ◌≤◌};
 ghost use Rattle.paths_numbers.specs.meaning.Expression.{conditional_op};
 ghost use Rattle.paths_numbers.specs.meaning.Reading.{told};
 ghost use Rattle.levels.specs.machine.Held.{rules_at};
 ghost use Rattle.definition_log.specs.meaning.Contents.{Span};
 ghost use Rattle.input.specs.meaning.Expr.{evaluated, first_operand, applied, prefix_of, infix_of, eval, evals};
-ghost use Rattle.input.specs.meaning.Input.{child_at, number_at, span_at, chain_at, parts_at};
-ghost use Rattle.input.specs.machine.At.{record_at};
-ghost use Rattle.input.specs.machine.Linked.{RecordIn, ChainIn};
-ghost use Rattle.input.specs.machine.Evaluation.{outcome_of, failure, is_logical, decides};
+ghost use Rattle.input.specs.meaning.Input.{span_at};
+ghost use Rattle.input.specs.machine.ChainLeft.{trees_left};
+ghost use Rattle.input.specs.machine.Fits.{depth_of, depths_of};
+ghost use Rattle.input.specs.machine.OfRecord.{tree_of, parts_of, w_in, span_in};
+ghost use Rattle.input.specs.machine.Evaluation.{outcome_of, outcome_in, failure, is_logical, decides};
 
 use crate::kinds::{CHARACTER, INFIX, MACRO, NUMBER, PARENTHESIS, PREFIX};
-use crate::linked::Input;
-use crate::record::{after, child_at, kind_at, number_at, text_at};
+use crate::linked::{Chain, Record};
+use crate::record::{after, number_at};
 use crate::report::Report;
 use levels::level::{binary, literal, unary};
 use paths_numbers::codes::Code;
 use paths_numbers::operators::{AND, CONDITIONAL, OR, is_true};
 
-impl Input<'_> {
+impl Record<'_> {
     // The value of an expression, or what is reported where there is none, which is nothing for a missing operand or operator.
     #[cycle(eval)]
-    pub fn eval(self, r: u32, nesting: u32, level: u32) -> Result<i64, Report>
-        requires record_in { RecordIn self.words.now self.text.now r nesting }
-        ensures { outcome_of self.entry.words.now self.entry.text.now result
-            ≡ eval (rules_at level) (record_at self.entry.words.now self.entry.text.now r) }
+    pub fn eval(self, nesting: u32, level: u32) -> Result<i64, Report>
+        requires shallow { depth_of (tree_of self) ≤ nesting }
+        ensures { outcome_in self.entry.input result ≡ eval (rules_at level) (tree_of self.entry) }
     {
         if nesting == 0 {
             return Err(Report::Nothing);
         }
-        match kind_at(self.words, r) {
+        let r = self.number;
+        match self.kind() {
             MACRO => Err(Report::Macro(r)),
-            NUMBER => evaluation_of(r, literal(level, text_at(self.words, self.text, r))),
-            CHARACTER => Ok(number_at(self.words, r) as i64),
-            PREFIX => self.eval_prefix_at(r, nesting - 1, level),
-            PARENTHESIS => self.eval_first(child_at(self.words, r), nesting - 1, level),
-            INFIX => self.eval_infix_at(r, nesting - 1, level),
+            NUMBER => evaluation_of(r, literal(level, self.text())),
+            CHARACTER => Ok(number_at(self.input.words, r) as i64),
+            PREFIX => self.eval_prefix_at(nesting - 1, level),
+            PARENTHESIS => self.parts().eval_first(nesting - 1, level),
+            INFIX => self.eval_infix_at(nesting - 1, level),
             _ => Err(Report::Nothing),
         }
     }
 
-    // The value of the first of a chain of operands.
-    #[cycle(eval)]
-    pub fn eval_first(self, first: u32, nesting: u32, level: u32) -> Result<i64, Report>
-        requires chain_in { ChainIn self.words.now self.text.now first nesting }
-        ensures { outcome_of self.entry.words.now self.entry.text.now result ≡ first_operand
-            (evals (rules_at level) (chain_at self.entry.words.now self.entry.text.now first)) }
-    {
-        if first == 0 {
-            return Err(Report::Nothing);
-        }
-        self.eval(first, nesting, level)
-    }
-
     // The value of a prefix record.
     #[cycle(eval)]
-    fn eval_prefix_at(self, r: u32, nesting: u32, level: u32) -> Result<i64, Report>
-        requires chain_in { ChainIn self.words.now self.text.now (child_at self.words.now r) nesting }
-        ensures { outcome_of self.entry.words.now self.entry.text.now result ≡ prefix_of (rules_at level) (number_at self.entry.words.now r)
-            (span_at self.entry.words.now r) (evals (rules_at level) (parts_at self.entry.words.now self.entry.text.now r)) }
+    fn eval_prefix_at(self, nesting: u32, level: u32) -> Result<i64, Report>
+        requires shallow { depths_of (parts_of self) ≤ nesting }
+        ensures { outcome_in self.entry.input result ≡ prefix_of (rules_at level) (w_in self.entry) (span_in self.entry)
+            (evals (rules_at level) (parts_of self.entry)) }
     {
-        let op = number_at(self.words, r);
+        let op = number_at(self.input.words, self.number);
         if op == 0 {
             return Err(Report::Nothing);
         }
-        let a = self.eval_first(child_at(self.words, r), nesting, level)?;
-        evaluation_of(r, unary(level, op, a))
+        let a = self.parts().eval_first(nesting, level)?;
+        evaluation_of(self.number, unary(level, op, a))
     }
 
     // The value of an infix record.
     #[cycle(eval)]
-    fn eval_infix_at(self, r: u32, nesting: u32, level: u32) -> Result<i64, Report>
-        requires chain_in { ChainIn self.words.now self.text.now (child_at self.words.now r) nesting }
-        ensures { outcome_of self.entry.words.now self.entry.text.now result ≡ infix_of (rules_at level) (number_at self.entry.words.now r)
-            (span_at self.entry.words.now r) (evals (rules_at level) (parts_at self.entry.words.now self.entry.text.now r)) }
+    fn eval_infix_at(self, nesting: u32, level: u32) -> Result<i64, Report>
+        requires shallow { depths_of (parts_of self) ≤ nesting }
+        ensures { outcome_in self.entry.input result ≡ infix_of (rules_at level) (w_in self.entry) (span_in self.entry)
+            (evals (rules_at level) (parts_of self.entry)) }
     {
-        let op = number_at(self.words, r);
+        let op = number_at(self.input.words, self.number);
         if op == 0 {
             return Err(Report::Nothing);
         }
-        let x = child_at(self.words, r);
+        let operands = self.parts();
         if op == CONDITIONAL {
-            return self.eval_conditional_at(x, nesting, level);
+            return operands.eval_conditional_at(nesting, level);
         }
-        self.eval_binary(r, op, x, nesting, level)
+        operands.eval_binary(self.number, op, nesting, level)
+    }
+}
+
+impl Chain<'_> {
+    // The value of the first of a chain of operands.
+    #[cycle(eval)]
+    pub fn eval_first(self, nesting: u32, level: u32) -> Result<i64, Report>
+        requires shallow { depths_of (trees_left self) ≤ nesting }
+        ensures { outcome_in self.entry.input result ≡ first_operand (evals (rules_at level) (trees_left self.entry)) }
+    {
+        let input = self.input;
+        let number = self.next;
+        if number == 0 {
+            return Err(Report::Nothing);
+        }
+        let first = Record { input, number };
+        first.eval(nesting, level)
     }
 
-    // The value of an infix record whose operator takes three operands, from the first on.
+    // The value of an infix record whose operator takes three operands, by these.
     #[cycle(eval)]
-    fn eval_conditional_at(self, x: u32, nesting: u32, level: u32) -> Result<i64, Report>
-        requires chain_in { ChainIn self.words.now self.text.now x nesting }
-        ensures { (span : Span) → outcome_of self.entry.words.now self.entry.text.now result ≡ infix_of (rules_at level) conditional_op span
-            (evals (rules_at level) (chain_at self.entry.words.now self.entry.text.now x)) }
+    fn eval_conditional_at(self, nesting: u32, level: u32) -> Result<i64, Report>
+        requires shallow { depths_of (trees_left self) ≤ nesting }
+        ensures { (span : Span) → outcome_in self.entry.input result ≡ infix_of (rules_at level) conditional_op span
+            (evals (rules_at level) (trees_left self.entry)) }
     {
-        let y = after(self.words, x);
-        let z = after(self.words, y);
+        let input = self.input;
+        let x = self.next;
+        let y = after(input.words, x);
+        let z = after(input.words, y);
         if z == 0 {
             return Err(Report::Nothing);
         }
-        let a = self.eval(x, nesting, level)?;
+        let test = Record { input, number: x };
+        let a = test.eval(nesting, level)?;
         if is_true(a) {
-            return self.eval(y, nesting, level);
+            let then = Record { input, number: y };
+            return then.eval(nesting, level);
         }
-        self.eval(z, nesting, level)
+        let other = Record { input, number: z };
+        other.eval(nesting, level)
     }
 
-    // The value of an infix record whose operator takes two operands, from the first on.
+    // The value of an infix record r whose operator takes two operands, by these.
     #[cycle(eval)]
-    fn eval_binary(self, r: u32, op: u32, x: u32, nesting: u32, level: u32) -> Result<i64, Report>
-        requires chain_in { ChainIn self.words.now self.text.now x nesting }
+    fn eval_binary(self, r: u32, op: u32, nesting: u32, level: u32) -> Result<i64, Report>
+        requires shallow { depths_of (trees_left self) ≤ nesting }
         requires fact { (op ≡ 0 → ⊥) × (op ≡ conditional_op → ⊥) }
-        ensures { outcome_of self.entry.words.now self.entry.text.now result ≡ infix_of (rules_at level) op (span_at self.entry.words.now r)
-            (evals (rules_at level) (chain_at self.entry.words.now self.entry.text.now x)) }
+        ensures { outcome_in self.entry.input result ≡ infix_of (rules_at level) op (span_at self.entry.input.words.now r)
+            (evals (rules_at level) (trees_left self.entry)) }
     {
-        let y = after(self.words, x);
+        let input = self.input;
+        let x = self.next;
+        let y = after(input.words, x);
         if y == 0 {
             return Err(Report::Nothing);
         }
-        let a = self.eval(x, nesting, level)?;
-        self.eval_second(r, op, a, y, nesting, level)
+        let first = Record { input, number: x };
+        let a = first.eval(nesting, level)?;
+        let second = Record { input, number: y };
+        second.eval_second(r, op, a, nesting, level)
     }
+}
 
-    // The value of an infix record from its first operand's value and its second operand.
+impl Record<'_> {
+    // The value of an infix record r from its first operand's value and its second operand, which this is.
     #[cycle(eval)]
-    fn eval_second(
-        self,
-        r: u32,
-        op: u32,
-        a: i64,
-        y: u32,
-        nesting: u32,
-        level: u32,
-    ) -> Result<i64, Report>
-        requires record_in { RecordIn self.words.now self.text.now y nesting }
-        ensures { outcome_of self.entry.words.now self.entry.text.now result
-            ≡ applied (rules_at level) op (span_at self.entry.words.now r) a
-            (eval (rules_at level) (record_at self.entry.words.now self.entry.text.now y)) }
+    fn eval_second(self, r: u32, op: u32, a: i64, nesting: u32, level: u32) -> Result<i64, Report>
+        requires shallow { depth_of (tree_of self) ≤ nesting }
+        ensures { outcome_in self.entry.input result ≡ applied (rules_at level) op (span_at self.entry.input.words.now r) a
+            (eval (rules_at level) (tree_of self.entry)) }
     {
         if first_decides(op, a) {
             return Ok(is_true(a) as i64);
         }
-        let b = self.eval(y, nesting, level)?;
+        let b = self.eval(nesting, level)?;
         if is_logical(op) {
             return Ok(is_true(b) as i64);
         }

@@ -10,7 +10,7 @@ ghost use Rattle.input.specs.machine.NameRead.{name_read, name_text, unit_text, 
 
 use crate::kinds::{MACRO, NAME, REFERENCE, SLASH, UNIT_ADDRESS};
 use crate::layout;
-use crate::linked::Chain;
+use crate::linked::{Chain, Record};
 use crate::record::{field, no_text, span_at, text_at};
 use crate::report::Report;
 use definition_log::parts::Span;
@@ -41,10 +41,12 @@ impl Chain<'_> {
         ensures { FullNameRead self.entry.input.words.now self.entry.next result }
     {
         let name = self.name_or_macro();
-        let Some(u) = self.first_of(UNIT_ADDRESS) else {
+        let Some(number) = self.first_of(UNIT_ADDRESS) else {
             return FullName { name, unit: None };
         };
-        let unit = Some(self.input.parts(u).name_or_macro());
+        let input = self.input;
+        let address = Record { input, number };
+        let unit = Some(address.parts().name_or_macro());
         FullName { name, unit }
     }
 }

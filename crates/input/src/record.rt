@@ -5,9 +5,10 @@ ghost use Rattle.input.specs.meaning.Input.{field, kind_at, next_at, child_at, w
 ghost use Rattle.input.specs.machine.ChainLeft.{trees_over};
 ghost use Rattle.definition_log.specs.machine.Parts.{meant};
 ghost use Rattle.input.specs.machine.Read.{after_at, FirstOf};
+ghost use Rattle.input.specs.machine.OfRecord.{kind_in, span_in, text_in};
 
 use crate::layout;
-use crate::linked::Chain;
+use crate::linked::{Chain, Record};
 use crate::place::links_by_w;
 use definition_log::parts::Span;
 use definition_log::record::text_in;
@@ -105,6 +106,29 @@ pub fn after(words: &[u32], r: u32) -> u32
         return 0;
     }
     next_at(words, r)
+}
+
+impl<'a> Record<'a> {
+    // Its kind.
+    pub fn kind(self) -> u32
+        ensures { result ≡ kind_in self.entry }
+    {
+        kind_at(self.input.words, self.number)
+    }
+
+    // Where it stands.
+    pub fn span(self) -> Span
+        ensures { meant result ≡ span_in self.entry }
+    {
+        span_at(self.input.words, self.number)
+    }
+
+    // Its text.
+    pub fn text(self) -> &'a [u8]
+        ensures { result.now ≡ text_in self.entry }
+    {
+        text_at(self.input.words, self.input.text, self.number)
+    }
 }
 
 impl Chain<'_> {

@@ -1,23 +1,23 @@
 // Values and cells read (lower_prop_value and lower_cell of dt_property.rs): what there is to make of
 // a record, or to report.
-ghost use Rattle.std.specs.Prelude.{◌≡◌, List, ℕ, ◌<◌};
+ghost use Rattle.std.specs.Prelude.{◌≡◌, List, ℕ, ◌≤◌};
 ghost use Rattle.paths_numbers.specs.meaning.Bytestring.{count_of, count_told};
 ghost use Rattle.paths_numbers.specs.meaning.Reading.{told};
 ghost use Rattle.paths_numbers.specs.meaning.Cell.{size_told};
 ghost use Rattle.input.specs.meaning.Property.{number_cell, expression_cell, reference_cell, lower_cell};
 ghost use Rattle.input.specs.meaning.Property.{sized_list, counted_bytes, reference_value, lower_value};
-ghost use Rattle.input.specs.meaning.Input.{record_count, span_at, text_at, parts_at};
+ghost use Rattle.input.specs.meaning.Input.{span_at, text_at, parts_at};
 ghost use Rattle.input.specs.meaning.Phandle.{lower_phandle};
-ghost use Rattle.input.specs.machine.At.{record_at};
-ghost use Rattle.input.specs.machine.Linked.{RecordIn};
+ghost use Rattle.input.specs.machine.Fits.{depth_of};
+ghost use Rattle.input.specs.machine.OfRecord.{tree_of, parts_of, span_in, cell_told, value_told};
 ghost use Rattle.input.specs.machine.ValueRead.{cell_made, value_made};
 
 use crate::kinds::{
     BYTESTRING, CELL_LIST, CHARACTER, DIRECTIVE, EXPRESSION, MACRO, NUMBER, PREPROCESSOR,
     REFERENCE, STRING,
 };
-use crate::linked::Input;
-use crate::record::{child_at, kind_at, number_at, text_at};
+use crate::linked::Record;
+use crate::record::number_at;
 use crate::report::Report;
 use paths_numbers::codes::{self, Code};
 use paths_numbers::dt_property::{
@@ -51,24 +51,18 @@ pub enum Value {
     CellList(BitsSize),
 }
 
-impl Input<'_> {
+impl Record<'_> {
     // The cell of a width at a record, or what is reported where there is none.
-    pub fn read_cell(
-        self,
-        r: u32,
-        size: BitsSize,
-        nesting: u32,
-        level: u32,
-    ) -> Result<CellValue, Report>
-        requires record_in { RecordIn self.words.now self.text.now r nesting }
-        ensures { cell_made self.entry.words.now self.entry.text.now r result ≡ lower_cell level size
-            (record_at self.entry.words.now self.entry.text.now r) }
+    pub fn read_cell(self, size: BitsSize, nesting: u32, level: u32) -> Result<CellValue, Report>
+        requires shallow { depth_of (tree_of self) ≤ nesting }
+        ensures { cell_told self.entry result ≡ lower_cell level size (tree_of self.entry) }
     {
-        match kind_at(self.words, r) {
-            NUMBER => number_cell(r, parse_int_tok(text_at(self.words, self.text, r), size)),
-            CHARACTER => number_cell(r, char_cell(number_at(self.words, r), size)),
-            EXPRESSION => self.expression_cell(r, size, nesting, level),
-            REFERENCE => self.reference_cell(r, size),
+        let r = self.number;
+        match self.kind() {
+            NUMBER => number_cell(r, parse_int_tok(self.text(), size)),
+            CHARACTER => number_cell(r, char_cell(number_at(self.input.words, r), size)),
+            EXPRESSION => self.expression_cell(size, nesting, level),
+            REFERENCE => self.reference_cell(size),
             MACRO => Err(Report::Macro(r)),
             DIRECTIVE => Err(Report::Code(codes::DIRECTIVE_AS_CELL, r)),
             PREPROCESSOR => Err(Report::Code(codes::PREPROCESSOR, r)),
@@ -87,50 +81,41 @@ fn number_cell<E: Code>(r: u32, p: Result<u64, E>) -> Result<CellValue, Report>
     }
 }
 
-impl Input<'_> {
+impl Record<'_> {
     // The cell of a width at an expression record.
-    fn expression_cell(
-        self,
-        r: u32,
-        size: BitsSize,
-        nesting: u32,
-        level: u32,
-    ) -> Result<CellValue, Report>
-        requires record_in { RecordIn self.words.now self.text.now r nesting }
-        ensures { cell_made self.entry.words.now self.entry.text.now r result ≡ expression_cell level size (span_at self.entry.words.now r)
-            (parts_at self.entry.words.now self.entry.text.now r) }
+    fn expression_cell(self, size: BitsSize, nesting: u32, level: u32) -> Result<CellValue, Report>
+        requires shallow { depth_of (tree_of self) ≤ nesting }
+        ensures { cell_told self.entry result ≡ expression_cell level size (span_in self.entry) (parts_of self.entry) }
     {
         if nesting == 0 {
             return Err(Report::Nothing);
         }
-        let z = self.eval_first(child_at(self.words, r), nesting - 1, level)?;
-        number_cell(r, expr_cell(z, size))
+        let z = self.parts().eval_first(nesting - 1, level)?;
+        number_cell(self.number, expr_cell(z, size))
     }
 
     // A reference in a cell list of a width.
-    fn reference_cell(self, r: u32, size: BitsSize) -> Result<CellValue, Report>
-        requires r_bound { r < record_count self.words.now }
-        ensures { cell_made self.entry.words.now self.entry.text.now r result ≡ reference_cell size (span_at self.entry.words.now r)
-            (lower_phandle (record_at self.entry.words.now self.entry.text.now r)) }
+    fn reference_cell(self, size: BitsSize) -> Result<CellValue, Report>
+        ensures { cell_told self.entry result ≡ reference_cell size (span_in self.entry)
+            (lower_phandle (tree_of self.entry)) }
     {
-        let kind = self.lower_phandle(r)?;
+        let kind = self.lower_phandle()?;
         if size.bits() != REFERENCE_BITS {
-            return Err(Report::Code(codes::REFERENCE_WIDTH, r));
+            return Err(Report::Code(codes::REFERENCE_WIDTH, self.number));
         }
         Ok(CellValue::Phandle(kind))
     }
 
     // The value at a record, or what is reported where there is none.
-    pub fn read_value(self, r: u32) -> Result<Value, Report>
-        requires r_bound { r < record_count self.words.now }
-        ensures { (level : ℕ) → value_made self.entry.words.now self.entry.text.now r level result ≡ lower_value level
-            (record_at self.entry.words.now self.entry.text.now r) }
+    pub fn read_value(self) -> Result<Value, Report>
+        ensures { (level : ℕ) → value_told self.entry level result ≡ lower_value level (tree_of self.entry) }
     {
-        match kind_at(self.words, r) {
+        let r = self.number;
+        match self.kind() {
             STRING => Ok(Value::Plain(PlainValue::String)),
-            CELL_LIST => sized_list(r, BitsSize::from_token(text_at(self.words, self.text, r))),
-            BYTESTRING => counted_bytes(r, bytestring_len(text_at(self.words, self.text, r))),
-            REFERENCE => self.reference_value(r),
+            CELL_LIST => sized_list(r, BitsSize::from_token(self.text())),
+            BYTESTRING => counted_bytes(r, bytestring_len(self.text())),
+            REFERENCE => self.reference_value(),
             MACRO => Err(Report::Macro(r)),
             DIRECTIVE => Err(Report::Code(codes::DIRECTIVE_AS_VALUE, r)),
             PREPROCESSOR => Err(Report::Code(codes::PREPROCESSOR, r)),
@@ -161,14 +146,12 @@ fn counted_bytes(r: u32, n: Result<usize, MissingDigit>) -> Result<Value, Report
     }
 }
 
-impl Input<'_> {
+impl Record<'_> {
     // A reference as a value.
-    fn reference_value(self, r: u32) -> Result<Value, Report>
-        requires r_bound { r < record_count self.words.now }
-        ensures { (level : ℕ) → value_made self.entry.words.now self.entry.text.now r level result ≡ reference_value
-            (lower_phandle (record_at self.entry.words.now self.entry.text.now r)) }
+    fn reference_value(self) -> Result<Value, Report>
+        ensures { (level : ℕ) → value_told self.entry level result ≡ reference_value (lower_phandle (tree_of self.entry)) }
     {
-        let kind = self.lower_phandle(r)?;
+        let kind = self.lower_phandle()?;
         Ok(Value::Plain(PlainValue::Phandle(kind)))
     }
 }

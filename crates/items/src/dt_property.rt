@@ -1,6 +1,6 @@
 // Properties and their values (lower_dt_property, lower_prop_value, lower_cell_list and lower_cell of
 // dt_property.rs). A property is made before its values.
-ghost use Rattle.std.specs.Prelude.{◌≡◌, ◌<◌, true, cond, []};
+ghost use Rattle.std.specs.Prelude.{◌≡◌, ◌≤◌, true, cond, []};
 ghost use Rattle.paths_numbers.specs.meaning.Cell.{bits_of};
 ghost use Rattle.paths_numbers.specs.meaning.Reading as R;
 ghost use Rattle.definition_log.specs.meaning.Contents.{number, reference, cell_list};
@@ -8,21 +8,18 @@ ghost use Rattle.making.specs.meaning.State.{define};
 ghost use Rattle.input.specs.meaning.Report.{one};
 ghost use Rattle.input.specs.meaning.Property.{lower_cell, lower_cells, sized_list, lower_value, lower_values};
 ghost use Rattle.items.specs.meaning.Lower.{lower_property};
-ghost use Rattle.input.specs.meaning.Input.{record_count, span_at, chain_at, parts_at};
-ghost use Rattle.input.specs.machine.At.{record_at, contents_at};
+ghost use Rattle.input.specs.machine.OfRecord.{tree_of, parts_of, contents_of, span_in, plain_told};
+ghost use Rattle.input.specs.machine.ChainLeft.{trees_left};
 ghost use Rattle.input.specs.meaning.GoodName.{good_names_in};
-ghost use Rattle.input.specs.machine.Linked.{RecordIn, ChainIn};
-ghost use Rattle.input.specs.machine.ValueRead.{plain_made};
+ghost use Rattle.input.specs.machine.Fits.{depth_of, depths_of};
 ghost use Rattle.resolving.specs.machine.Lowers.{LowersAt};
 ghost use Rattle.items.specs.machine.Filled.{FillsProperty, FillsCells};
 ghost use Rattle.items.specs.machine.PropertyMade.{is_top, property_at};
-ghost use Rattle.items.specs.machine.AtRecord.{named_at};
+ghost use Rattle.items.specs.machine.AtRecord.{named_in};
 
 use crate::report::{emit_code, emit_name, emit_report};
-use input::linked::Input;
+use input::linked::{Chain, Record};
 use input::name::{FullName, is_named, name_text, unit_text};
-use input::phandle::{phandle_label_at, phandle_path_at};
-use input::record::{child_at, second_at, span_at, text_at};
 use input::value_read::{CellValue, PlainValue, Value};
 use making::ctx::LowerCtx;
 use making::place::PathAt;
@@ -31,19 +28,17 @@ use paths_numbers::codes::PROPERTY_OUTSIDE;
 use paths_numbers::dt_property::BitsSize;
 use paths_numbers::phandle::MirPhandleTarget;
 
-// What the values of a property are lowered by: the input, the level, and whether the property is made.
+// What the values of a property are lowered by: the level, and whether the property is made.
 // Where it is not, what is reported of its values is reported all the same.
 #[derive(Clone, Copy)]
-struct Filling<'a> {
-    input: Input<'a>,
+struct Filling {
     level: u32,
     keep: bool,
 }
 
 // Lowers a property under a path. A state that ran short stays as it is.
 pub fn lower_dt_property(
-    input: Input<'_>,
-    r: u32,
+    property: Record<'_>,
     parent: PathAt,
     nesting: u32,
     out: &mut [u32],
@@ -51,25 +46,30 @@ pub fn lower_dt_property(
     ctx: LowerCtx,
     level: u32,
 ) -> LowerCtx
-    requires record_in { RecordIn input.words.now input.text.now r nesting }
-    requires r_value { good_names_in (parts_at input.words.now input.text.now r) ≡ true }
+    requires shallow { depth_of (tree_of property) ≤ nesting }
+    requires good { good_names_in (parts_of property) ≡ true }
     ensures { LowersAt parent ctx result out.old bytes.old out.new bytes.new
-        (λ p s. lower_property level p (parts_at input.entry.words.now input.entry.text.now r)
-        (contents_at input.entry.words.now input.entry.text.now r)
-        (span_at input.entry.words.now r) s) }
+        (λ p s. lower_property level p (parts_of property.entry) (contents_of property.entry) (span_in property.entry) s) }
 {
     if ctx.short {
         return ctx;
     }
+    let input = property.input;
     if is_top(parent) {
-        return emit_code(input.words, PROPERTY_OUTSIDE, r, out, bytes, ctx);
+        return emit_code(
+            input.words,
+            PROPERTY_OUTSIDE,
+            property.number,
+            out,
+            bytes,
+            ctx,
+        );
     }
-    let name = input.parts(r).full_name();
+    let name = property.parts().full_name();
     let keep = is_named(name);
-    let made = define_property(input, r, parent, name, keep, out, bytes, ctx);
-    let filling = Filling { input, level, keep };
-    let values = second_at(input.words, r);
-    let filled = filling.lower_prop_values(values, nesting - 1, out, bytes, made);
+    let made = define_property(property, parent, name, keep, out, bytes, ctx);
+    let filling = Filling { level, keep };
+    let filled = filling.lower_prop_values(property.contents(), nesting - 1, out, bytes, made);
     emit_name(input.words, input.text, name, out, bytes, filled)
 }
 
@@ -82,8 +82,7 @@ pub(crate) fn is_top(path: PathAt) -> bool
 
 // The definition of a property that is kept, before its values.
 fn define_property(
-    input: Input<'_>,
-    r: u32,
+    property: Record<'_>,
     parent: PathAt,
     f: FullName,
     keep: bool,
@@ -91,15 +90,15 @@ fn define_property(
     bytes: &mut [u8],
     ctx: LowerCtx,
 ) -> LowerCtx
-    requires r_bound { r < record_count input.words.now }
     ensures { LowersAt parent ctx result out.old bytes.old out.new bytes.new
-        (λ p s. cond keep (define (property_at input.entry.words.now input.entry.text.now r f p) s) s) }
+        (λ p s. cond keep (define (property_at property.entry f p) s) s) }
 {
     if !keep {
         return ctx;
     }
-    let span = span_at(input.words, r);
-    let name_span = input.parts(r).property_name_span(span);
+    let input = property.input;
+    let span = property.span();
+    let name_span = property.parts().property_name_span(span);
     ctx.define(
         out,
         bytes,
@@ -112,25 +111,27 @@ fn define_property(
     )
 }
 
-impl Filling<'_> {
+impl Filling {
     // The values of a chain, in order.
     // kept: a loop here and one in `lower_cells`. Over a step as a closure one loop proves, in 19 lines of source, 38 of specs and
     // 13 of proofs more; over a trait's method, in 55 of source and 15 of specs more, and 23 of proofs fewer.
     fn lower_prop_values(
         self,
-        first: u32,
+        values: Chain<'_>,
         nesting: u32,
         out: &mut [u32],
         bytes: &mut [u8],
         ctx: LowerCtx,
     ) -> LowerCtx
-        requires chain_in { ChainIn self.input.words.now self.input.text.now first nesting }
-        ensures { FillsProperty self.entry.keep ctx result out.old bytes.old out.new bytes.new
-            (lower_values self.entry.level (chain_at self.entry.input.words.now self.entry.input.text.now first)) }
+        requires shallow { depths_of (trees_left values) ≤ nesting }
+        ensures { FillsProperty self.keep ctx result out.old bytes.old out.new bytes.new
+            (lower_values self.level (trees_left values.entry)) }
     {
+        let input = values.input;
         let mut next = ctx;
-        for r in self.input.chain(first) {
-            next = self.lower_prop_value(r, nesting, out, bytes, next);
+        for r in values {
+            let value = Record { input, number: r };
+            next = self.lower_prop_value(value, nesting, out, bytes, next);
         }
         next
     }
@@ -138,51 +139,50 @@ impl Filling<'_> {
     // A value, or what is reported of it.
     fn lower_prop_value(
         self,
-        r: u32,
+        value: Record<'_>,
         nesting: u32,
         out: &mut [u32],
         bytes: &mut [u8],
         ctx: LowerCtx,
     ) -> LowerCtx
-        requires record_in { RecordIn self.input.words.now self.input.text.now r nesting }
-        ensures { FillsProperty self.entry.keep ctx result out.old bytes.old out.new bytes.new
-            (lower_value self.entry.level (record_at self.entry.input.words.now self.entry.input.text.now r)) }
+        requires shallow { depth_of (tree_of value) ≤ nesting }
+        ensures { FillsProperty self.keep ctx result out.old bytes.old out.new bytes.new
+            (lower_value self.level (tree_of value.entry)) }
     {
-        match self.input.read_value(r) {
-            Ok(Value::Plain(value)) => self.push_value(r, value, out, bytes, ctx),
-            Ok(Value::CellList(size)) => self.lower_cell_list(r, size, nesting, out, bytes, ctx),
-            Err(report) => {
-                emit_report(self.input.words, self.input.text, report, out, bytes, ctx)
+        let input = value.input;
+        match value.read_value() {
+            Ok(Value::Plain(plain)) => self.push_value(value, plain, out, bytes, ctx),
+            Ok(Value::CellList(size)) => {
+                self.lower_cell_list(value, size, nesting, out, bytes, ctx)
             }
+            Err(report) => emit_report(input.words, input.text, report, out, bytes, ctx),
         }
     }
 
     // A value without cells, where it is kept.
     fn push_value(
         self,
-        r: u32,
-        value: PlainValue,
+        value: Record<'_>,
+        plain: PlainValue,
         out: &mut [u32],
         bytes: &mut [u8],
         ctx: LowerCtx,
     ) -> LowerCtx
-        ensures { FillsProperty self.entry.keep ctx result out.old bytes.old out.new bytes.new
-            (plain_made self.entry.input.words.now self.entry.input.text.now r value) }
+        ensures { FillsProperty self.keep ctx result out.old bytes.old out.new bytes.new
+            (plain_told value.entry plain) }
     {
         if !self.keep {
             return ctx;
         }
-        let words = self.input.words;
-        let text = self.input.text;
-        match value {
-            PlainValue::String => ctx.add_string(out, bytes, text_at(words, text, r)),
-            PlainValue::Bytestring => ctx.add_bytestring(out, bytes, text_at(words, text, r)),
+        match plain {
+            PlainValue::String => ctx.add_string(out, bytes, value.text()),
+            PlainValue::Bytestring => ctx.add_bytestring(out, bytes, value.text()),
             PlainValue::Phandle(kind) => ctx.add_phandle(
                 out,
                 bytes,
                 kind,
-                phandle_label_at(words, text, r),
-                phandle_path_at(words, text, r),
+                value.label(),
+                value.path(),
             ),
         }
     }
@@ -190,21 +190,19 @@ impl Filling<'_> {
     // A cell list of a width, and its cells.
     fn lower_cell_list(
         self,
-        r: u32,
+        list: Record<'_>,
         size: BitsSize,
         nesting: u32,
         out: &mut [u32],
         bytes: &mut [u8],
         ctx: LowerCtx,
     ) -> LowerCtx
-        requires record_in { RecordIn self.input.words.now self.input.text.now r nesting }
-        ensures { FillsProperty self.entry.keep ctx result out.old bytes.old out.new bytes.new
-            (sized_list self.entry.level (span_at self.entry.input.words.now r)
-            (parts_at self.entry.input.words.now self.entry.input.text.now r) (R.value size)) }
+        requires shallow { depth_of (tree_of list) ≤ nesting }
+        ensures { FillsProperty self.keep ctx result out.old bytes.old out.new bytes.new
+            (sized_list self.level (span_in list.entry) (parts_of list.entry) (R.value size)) }
     {
         let made = self.push_cell_list(size, out, bytes, ctx);
-        let cells = child_at(self.input.words, r);
-        self.lower_cells(cells, size, nesting - 1, out, bytes, made)
+        self.lower_cells(list.parts(), size, nesting - 1, out, bytes, made)
     }
 
     // An empty cell list, where it is kept.
@@ -215,7 +213,7 @@ impl Filling<'_> {
         bytes: &mut [u8],
         ctx: LowerCtx,
     ) -> LowerCtx
-        ensures { FillsProperty self.entry.keep ctx result out.old bytes.old out.new bytes.new
+        ensures { FillsProperty self.keep ctx result out.old bytes.old out.new bytes.new
             (one (cell_list (bits_of size) [])) }
     {
         if !self.keep {
@@ -227,20 +225,22 @@ impl Filling<'_> {
     // The cells of a chain, in order.
     fn lower_cells(
         self,
-        first: u32,
+        cells: Chain<'_>,
         size: BitsSize,
         nesting: u32,
         out: &mut [u32],
         bytes: &mut [u8],
         ctx: LowerCtx,
     ) -> LowerCtx
-        requires chain_in { ChainIn self.input.words.now self.input.text.now first nesting }
-        ensures { FillsCells self.entry.keep ctx result out.old bytes.old out.new bytes.new
-            (lower_cells self.entry.level size (chain_at self.entry.input.words.now self.entry.input.text.now first)) }
+        requires shallow { depths_of (trees_left cells) ≤ nesting }
+        ensures { FillsCells self.keep ctx result out.old bytes.old out.new bytes.new
+            (lower_cells self.level size (trees_left cells.entry)) }
     {
+        let input = cells.input;
         let mut next = ctx;
-        for r in self.input.chain(first) {
-            next = self.lower_cell(r, size, nesting, out, bytes, next);
+        for r in cells {
+            let cell = Record { input, number: r };
+            next = self.lower_cell(cell, size, nesting, out, bytes, next);
         }
         next
     }
@@ -248,29 +248,28 @@ impl Filling<'_> {
     // A cell of a width, or what is reported of it.
     fn lower_cell(
         self,
-        r: u32,
+        cell: Record<'_>,
         size: BitsSize,
         nesting: u32,
         out: &mut [u32],
         bytes: &mut [u8],
         ctx: LowerCtx,
     ) -> LowerCtx
-        requires record_in { RecordIn self.input.words.now self.input.text.now r nesting }
-        ensures { FillsCells self.entry.keep ctx result out.old bytes.old out.new bytes.new
-            (lower_cell self.entry.level size (record_at self.entry.input.words.now self.entry.input.text.now r)) }
+        requires shallow { depth_of (tree_of cell) ≤ nesting }
+        ensures { FillsCells self.keep ctx result out.old bytes.old out.new bytes.new
+            (lower_cell self.level size (tree_of cell.entry)) }
     {
-        match self.input.read_cell(r, size, nesting, self.level) {
+        let input = cell.input;
+        match cell.read_cell(size, nesting, self.level) {
             Ok(CellValue::Number(n)) => self.push_number(n, out, bytes, ctx),
-            Ok(CellValue::Phandle(kind)) => self.push_reference(r, kind, out, bytes, ctx),
-            Err(failed) => {
-                emit_report(self.input.words, self.input.text, failed, out, bytes, ctx)
-            }
+            Ok(CellValue::Phandle(kind)) => self.push_reference(cell, kind, out, bytes, ctx),
+            Err(failed) => emit_report(input.words, input.text, failed, out, bytes, ctx),
         }
     }
 
     // A number in the last cell list, where it is kept.
     fn push_number(self, n: u64, out: &mut [u32], bytes: &mut [u8], ctx: LowerCtx) -> LowerCtx
-        ensures { FillsCells self.entry.keep ctx result out.old bytes.old out.new bytes.new
+        ensures { FillsCells self.keep ctx result out.old bytes.old out.new bytes.new
             (one (number n)) }
     {
         if !self.keep {
@@ -284,24 +283,18 @@ impl Filling<'_> {
     // A reference in the last cell list, where it is kept.
     fn push_reference(
         self,
-        r: u32,
+        cell: Record<'_>,
         kind: MirPhandleTarget,
         out: &mut [u32],
         bytes: &mut [u8],
         ctx: LowerCtx,
     ) -> LowerCtx
-        ensures { FillsCells self.entry.keep ctx result out.old bytes.old out.new bytes.new
-            (one (reference (named_at kind self.entry.input.words.now self.entry.input.text.now r))) }
+        ensures { FillsCells self.keep ctx result out.old bytes.old out.new bytes.new
+            (one (reference (named_in kind cell.entry))) }
     {
         if !self.keep {
             return ctx;
         }
-        ctx.add_reference(
-            out,
-            bytes,
-            kind,
-            phandle_label_at(self.input.words, self.input.text, r),
-            phandle_path_at(self.input.words, self.input.text, r),
-        )
+        ctx.add_reference(out, bytes, kind, cell.label(), cell.path())
     }
 }

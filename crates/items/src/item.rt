@@ -5,11 +5,11 @@ ghost use Rattle.paths_numbers.specs.meaning.Path.{joined};
 ghost use Rattle.definition_log.specs.machine.Parts.{meant};
 ghost use Rattle.making.specs.meaning.State.{emit};
 ghost use Rattle.input.specs.meaning.Tree.{name_kind, first_of};
-ghost use Rattle.input.specs.meaning.Input.{record_count, number_at, span_at, parts_at};
-ghost use Rattle.input.specs.machine.At.{record_at};
+ghost use Rattle.input.specs.meaning.Input.{record_count};
+ghost use Rattle.input.specs.machine.OfRecord.{tree_of, parts_of, w_in, span_in};
 ghost use Rattle.input.specs.machine.ChainLeft.{trees_left};
 ghost use Rattle.input.specs.machine.Read.{optional};
-ghost use Rattle.items.specs.machine.AtRecord.{named_at};
+ghost use Rattle.items.specs.machine.AtRecord.{named_in};
 ghost use Rattle.resolving.specs.meaning.Resolve.{resolve};
 ghost use Rattle.input.specs.meaning.GoodName.{good_names_in};
 ghost use Rattle.items.specs.meaning.Lower.{delete_node, delete_resolved, delete_referenced, lower_delete_node};
@@ -23,10 +23,9 @@ use crate::unbind::{Base, Below, bound_base, goes_with, unbind_all, unbind_other
 use definition_log::parts::Span;
 use definition_log::record::Log;
 use input::kinds::{NAME, REFERENCE};
-use input::linked::{Chain, Input};
+use input::linked::{Chain, Input, Record};
 use input::name::{is_named, name_text, unit_text};
-use input::phandle::{phandle_label_at, phandle_path_at};
-use input::record::{no_text, number_at, span_at, text_at};
+use input::record::{no_text, number_at, text_at};
 use making::ctx::LowerCtx;
 use making::place::{PathAt, first_place, second_place};
 use making::recs::DefKind;
@@ -36,22 +35,20 @@ use resolving::resolve::{Leads, first_with, report_unresolved, resolve_phandle};
 
 // Lowers a directive.
 pub fn handle_dts_directive(
-    input: Input<'_>,
-    r: u32,
+    directive: Record<'_>,
     parent: PathAt,
     out: &mut [u32],
     bytes: &mut [u8],
     ctx: LowerCtx,
 ) -> LowerCtx
-    requires r_bound { r < record_count input.words.now }
-    requires r_value { good_names_in (parts_at input.words.now input.text.now r) ≡ true }
+    requires good { good_names_in (parts_of directive) ≡ true }
     ensures { LowersAt parent ctx result out.old bytes.old out.new bytes.new
-        (λ p s. lower_directive (number_at input.entry.words.now r) p (parts_at input.entry.words.now input.entry.text.now r)
-        (span_at input.entry.words.now r) s) }
+        (λ p s. lower_directive (w_in directive.entry) p (parts_of directive.entry) (span_in directive.entry) s) }
 {
-    let span = span_at(input.words, r);
-    let parts = input.parts(r);
-    match number_at(input.words, r) {
+    let input = directive.input;
+    let span = directive.span();
+    let parts = directive.parts();
+    match number_at(input.words, directive.number) {
         VERSION => ctx.define_at(out, bytes, DefKind::Version, span, span, parent),
         PLUGIN => ctx.define_at(out, bytes, DefKind::Plugin, span, span, parent),
         INCLUDE => ctx.emit(
@@ -148,17 +145,16 @@ fn delete_referenced(
     if ctx.short {
         return ctx;
     }
-    match input.lower_phandle(r) {
-        Ok(kind) => delete_target(input.words, input.text, r, kind, span, out, bytes, ctx),
+    let target = Record { input, number: r };
+    match target.lower_phandle() {
+        Ok(kind) => delete_target(target, kind, span, out, bytes, ctx),
         Err(report) => emit_report(input.words, input.text, report, out, bytes, ctx),
     }
 }
 
 // The same by where the reference, which names a target of this kind, leads.
 fn delete_target(
-    words: &[u32],
-    text: &[u8],
-    r: u32,
+    reference: Record<'_>,
     kind: MirPhandleTarget,
     span: Span,
     out: &mut [u32],
@@ -167,23 +163,16 @@ fn delete_target(
 ) -> LowerCtx
     requires { ctx.short ≡ false }
     ensures { Lowers ctx result out.old bytes.old out.new bytes.new
-        (λ s. delete_resolved (record_at words.now text.now r) (meant span)
-        (resolve (named_at kind words.now text.now r) s.binds s.defs) s) }
+        (λ s. delete_resolved (tree_of reference.entry) (meant span) (resolve (named_in kind reference.entry) s.binds s.defs) s) }
 {
-    let label = phandle_label_at(words, text, r);
-    let path = phandle_path_at(words, text, r);
-    let at = span_at(words, r);
+    let label = reference.label();
+    let path = reference.path();
+    let at = reference.span();
+    let Record { input, number, .. } = reference;
     let binds = ctx.binds.first;
     let defs = ctx.defs.first;
-    let leads = resolve_phandle(
-        words,
-        text,
-        r,
-        Ok(kind),
-        Log { words: out, bytes },
-        binds,
-        defs,
-    );
+    let log = Log { words: out, bytes };
+    let leads = resolve_phandle(input.words, input.text, number, Ok(kind), log, binds, defs);
     match leads {
         Ok(Leads::Bound(_)) => delete_bound(ctx, out, bytes, None, label, span),
         Ok(Leads::BoundPath(_)) => {

@@ -1,13 +1,12 @@
 // Nodes opened: what a node's definition and its labels (collect_labels of dt_node.rs) add to the log.
-ghost use Rattle.std.specs.Prelude.{◌≡◌, List, [], ℕ, ◌<◌};
+ghost use Rattle.std.specs.Prelude.{◌≡◌, List, [], ℕ};
 ghost use Rattle.paths_numbers.specs.meaning.Path.{joined};
 ghost use Rattle.making.specs.declared.place.PathAt.{PathAt};
 ghost use Rattle.definition_log.specs.meaning.Contents.{node};
 ghost use Rattle.making.specs.machine.Recs.{bare_value};
 ghost use Rattle.input.specs.meaning.Tree.{has, omit_kind};
 ghost use Rattle.input.specs.meaning.Name.{name_or_macro, labelled, labels_of};
-ghost use Rattle.input.specs.meaning.Input.{record_count, span_at, parts_at};
-ghost use Rattle.input.specs.machine.At.{record_at};
+ghost use Rattle.input.specs.machine.OfRecord.{tree_of, parts_of, span_in};
 ghost use Rattle.input.specs.machine.ChainLeft.{trees_over, trees_left};
 ghost use Rattle.input.specs.machine.NameRead.{name_text, unit_text};
 ghost use Rattle.items.specs.machine.Labelled.{LabelsAt};
@@ -17,10 +16,10 @@ ghost use Rattle.input.specs.machine.PhandleRead.{label_at, path_at};
 
 use crate::report::emit_report;
 use input::kinds::{LABEL, OMIT};
-use input::linked::{Chain, Input};
+use input::linked::{Chain, Record};
 use input::name::{FullName, name_text, unit_text};
 use input::phandle::phandle_path_at;
-use input::record::{kind_at, no_text, span_at, text_at};
+use input::record::{kind_at, no_text, text_at};
 use making::ctx::LowerCtx;
 use making::place::{PathAt, first_place, second_place};
 use making::recs::DefKind;
@@ -33,76 +32,70 @@ pub struct Opened {
     pub ctx: LowerCtx,
 }
 
-// Opens the node of record r at the path of its name under its parent's.
+// Opens the node of a record at the path of its name under its parent's.
 pub fn define_below(
-    input: Input<'_>,
-    r: u32,
+    node: Record<'_>,
     full: FullName,
     parent: PathAt,
     out: &mut [u32],
     bytes: &mut [u8],
     ctx: LowerCtx,
 ) -> Opened
-    requires r_bound { r < record_count input.words.now }
-    ensures { OpensAt parent ctx out.old bytes.old out.new bytes.new
-        (parts_at input.entry.words.now input.entry.text.now r) (span_at input.entry.words.now r)
-        (λ (p : List ℕ). joined p (name_text input.entry.words.now input.entry.text.now full.name)
-        (unit_text input.entry.words.now input.entry.text.now full.unit)) result }
+    ensures { OpensAt parent ctx out.old bytes.old out.new bytes.new (parts_of node.entry) (span_in node.entry)
+        (λ (p : List ℕ). joined p (name_text node.entry.input.words.now node.entry.input.text.now full.name)
+        (unit_text node.entry.input.words.now node.entry.input.text.now full.unit)) result }
 {
-    let parts = input.parts(r);
+    let parts = node.parts();
     let kind = node_kind(parts);
-    let span = span_at(input.words, r);
+    let span = node.span();
     let name_span = parts.node_name_span(span);
+    let input = node.input;
     let name_of = name_text(input.words, input.text, full.name);
     let unit_of = unit_text(input.words, input.text, full.unit);
     let made = ctx.define(out, bytes, kind, span, name_span, parent, name_of, unit_of);
     open_node(parts, out, bytes, made)
 }
 
-// Opens the node of record r at a path.
+// Opens the node of a record at a path.
 pub fn define_there(
-    input: Input<'_>,
-    r: u32,
+    node: Record<'_>,
     path: &[u8],
     out: &mut [u32],
     bytes: &mut [u8],
     ctx: LowerCtx,
 ) -> Opened
-    requires r_bound { r < record_count input.words.now }
-    ensures { (parent : PathAt) → OpensAt parent ctx out.old bytes.old out.new bytes.new
-        (parts_at input.entry.words.now input.entry.text.now r) (span_at input.entry.words.now r) (λ (p : List ℕ). path.now) result }
+    ensures { (parent : PathAt) → OpensAt parent ctx out.old bytes.old out.new bytes.new (parts_of node.entry) (span_in node.entry)
+        (λ (p : List ℕ). path.now) result }
 {
-    let parts = input.parts(r);
+    let parts = node.parts();
     let kind = node_kind(parts);
-    let span = span_at(input.words, r);
+    let span = node.span();
     let name_span = parts.node_name_span(span);
     let made = ctx.define_text(out, bytes, kind, span, name_span, path);
     open_node(parts, out, bytes, made)
 }
 
-// The definition of the node of record r where its reference leads.
+// The definition of the node of a record where its reference leads.
 pub fn define_leading(
-    input: Input<'_>,
-    r: u32,
+    node: Record<'_>,
     reference: u32,
     leads: Result<Leads, Missing>,
     out: &mut [u32],
     bytes: &mut [u8],
     ctx: LowerCtx,
 ) -> LowerCtx
-    requires r_bound { r < record_count input.words.now }
-    ensures { DefinesLeading leads (label_at input.entry.words.now input.entry.text.now reference)
-        (path_at input.entry.words.now input.entry.text.now reference) ctx result out.old bytes.old out.new
-        bytes.new (parts_at input.entry.words.now input.entry.text.now r) (span_at input.entry.words.now r) }
+    ensures { DefinesLeading leads (label_at node.entry.input.words.now node.entry.input.text.now reference)
+        (path_at node.entry.input.words.now node.entry.input.text.now reference) ctx result out.old bytes.old out.new
+        bytes.new (parts_of node.entry) (span_in node.entry) }
 {
     let Ok(to) = leads else {
         return ctx;
     };
-    let parts = input.parts(r);
+    let parts = node.parts();
     let kind = node_kind(parts);
-    let span = span_at(input.words, r);
+    let span = node.span();
     let name_span = parts.node_name_span(span);
-    let path = phandle_path_at(input.words, input.text, reference);
+    let path = phandle_path_at(node.input.words, node.input.text, reference);
     match to {
         Leads::Bound(b) => {
             let place = second_place(out, b);
@@ -158,7 +151,8 @@ pub fn collect_labels(
     let mut state = ctx;
     for r in parts {
         if kind_at(input.words, r) == LABEL {
-            state = lower_label(input, r, place, out, bytes, state);
+            let part = Record { input, number: r };
+            state = lower_label(part, place, out, bytes, state);
         }
     }
     state
@@ -166,22 +160,20 @@ pub fn collect_labels(
 
 // A label of a node whose path stands at a place: added to the node's definition and bound.
 fn lower_label(
-    input: Input<'_>,
-    r: u32,
+    part: Record<'_>,
     place: PathAt,
     out: &mut [u32],
     bytes: &mut [u8],
     ctx: LowerCtx,
 ) -> LowerCtx
-    requires r_bound { r < record_count input.words.now }
     ensures { LabelsAt place ctx result out.old bytes.old out.new bytes.new
-        (λ (p : List ℕ). labelled p (record_at input.entry.words.now input.entry.text.now r)
-        (name_or_macro (parts_at input.entry.words.now input.entry.text.now r))) }
+        (λ (p : List ℕ). labelled p (tree_of part.entry) (name_or_macro (parts_of part.entry))) }
 {
-    match input.parts(r).name_or_macro() {
+    let input = part.input;
+    match part.parts().name_or_macro() {
         Ok(n) => {
             let label = text_at(input.words, input.text, n);
-            let span = span_at(input.words, r);
+            let span = part.span();
             let added = ctx.add_label(out, bytes, label);
             added.bind(out, bytes, label, place, span)
         }

@@ -20,6 +20,7 @@ use paths_numbers::codes::MACRO_UNDEFINED;
 pub const NO_SPAN: Span = Span { from: 0, to: 0 };
 
 // Reports it.
+// kept: this and the others take any words and text, so that they ask nothing of them.
 pub fn emit_report(
     words: &[u32],
     text: &[u8],

@@ -103,15 +103,6 @@ fn lower_top(input: Input<'_>, level: u32, out: &mut [u32], bytes: &mut [u8]) ->
         input.entry.text.now) }
 {
     let ctx = start(out, bytes);
-    let first = child_at(input.words, 0);
-    lower_items(
-        input,
-        first,
-        PathAt::EMPTY,
-        MOST_LINKS,
-        out,
-        bytes,
-        ctx,
-        level,
-    )
+    let items = input.chain(child_at(input.words, 0));
+    lower_items(items, PathAt::EMPTY, MOST_LINKS, out, bytes, ctx, level)
 }

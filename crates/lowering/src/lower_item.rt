@@ -1,18 +1,17 @@
 // Items lowered (lower_item of item.rs and lower_dt_node of dt_node.rs): an item calls the node, a
 // node its body's items, and the nesting that is left falls with each body.
-ghost use Rattle.std.specs.Prelude.{◌≡◌, true, List, ℕ};
+ghost use Rattle.std.specs.Prelude.{◌≡◌, ◌≤◌, true, List, ℕ};
 ghost use Rattle.making.specs.meaning.State.{State};
 ghost use Rattle.items.specs.meaning.Lower.{lower_node, lower_item, lower_items};
-ghost use Rattle.input.specs.meaning.Input.{second_at, span_at, chain_at, parts_at};
-ghost use Rattle.input.specs.machine.At.{record_at, contents_at};
+ghost use Rattle.input.specs.machine.ChainLeft.{trees_left};
+ghost use Rattle.input.specs.machine.Fits.{depth_of, depths_of};
+ghost use Rattle.input.specs.machine.OfRecord.{tree_of, parts_of, contents_of, span_in};
 ghost use Rattle.input.specs.meaning.GoodName.{good_names, good_names_in};
-ghost use Rattle.input.specs.machine.Linked.{RecordIn, ChainIn};
 ghost use Rattle.resolving.specs.machine.Lowers.{LowersAt};
 ghost use Rattle.items.specs.machine.NodeLowered.{LowersApart};
 
 use input::kinds::{DIRECTIVE, NODE, PREPROCESSOR, PROPERTY};
-use input::linked::Input;
-use input::record::{kind_at, second_at};
+use input::linked::{Chain, Input, Record};
 use items::dt_node::{NodePlace, place_node, settle_aside};
 use items::dt_property::lower_dt_property;
 use items::item::handle_dts_directive;
@@ -24,8 +23,7 @@ use paths_numbers::codes;
 // Lowers a chain of items under a path.
 #[cycle(nesting)]
 pub fn lower_items(
-    input: Input<'_>,
-    first: u32,
+    items: Chain<'_>,
     parent: PathAt,
     nesting: u32,
     out: &mut [u32],
@@ -33,14 +31,15 @@ pub fn lower_items(
     ctx: LowerCtx,
     level: u32,
 ) -> LowerCtx
-    requires chain_in { ChainIn input.words.now input.text.now first nesting }
-    requires first_value { good_names_in (chain_at input.words.now input.text.now first) ≡ true }
-    ensures { LowersAt parent ctx result out.old bytes.old out.new bytes.new
-        (λ p s. lower_items level (chain_at input.entry.words.now input.entry.text.now first) p s) }
+    requires shallow { depths_of (trees_left items) ≤ nesting }
+    requires good { good_names_in (trees_left items) ≡ true }
+    ensures { LowersAt parent ctx result out.old bytes.old out.new bytes.new (λ p s. lower_items level (trees_left items.entry) p s) }
 {
+    let input = items.input;
     let mut state = ctx;
-    for r in input.chain(first) {
-        state = lower_item(input, r, parent, nesting, out, bytes, state, level);
+    for r in items {
+        let item = Record { input, number: r };
+        state = lower_item(item, parent, nesting, out, bytes, state, level);
     }
     state
 }
@@ -48,8 +47,7 @@ pub fn lower_items(
 // Lowers an item under a path.
 #[cycle(nesting)]
 fn lower_item(
-    input: Input<'_>,
-    r: u32,
+    item: Record<'_>,
     parent: PathAt,
     nesting: u32,
     out: &mut [u32],
@@ -57,17 +55,17 @@ fn lower_item(
     ctx: LowerCtx,
     level: u32,
 ) -> LowerCtx
-    requires record_in { RecordIn input.words.now input.text.now r nesting }
-    requires r_value { good_names (record_at input.words.now input.text.now r) ≡ true }
-    ensures { LowersAt parent ctx result out.old bytes.old out.new bytes.new
-        (λ p s. lower_item level (record_at input.entry.words.now input.entry.text.now r) p s) }
+    requires shallow { depth_of (tree_of item) ≤ nesting }
+    requires good { good_names (tree_of item) ≡ true }
+    ensures { LowersAt parent ctx result out.old bytes.old out.new bytes.new (λ p s. lower_item level (tree_of item.entry) p s) }
 {
-    let kind = kind_at(input.words, r);
+    let Record { input, number, .. } = item;
+    let kind = item.kind();
     match kind {
-        NODE => lower_dt_node(input, r, parent, nesting, out, bytes, ctx, level),
-        PROPERTY => lower_dt_property(input, r, parent, nesting, out, bytes, ctx, level),
-        DIRECTIVE => handle_dts_directive(input, r, parent, out, bytes, ctx),
-        PREPROCESSOR => emit_code(input.words, codes::PREPROCESSOR, r, out, bytes, ctx),
+        NODE => lower_dt_node(item, parent, nesting, out, bytes, ctx, level),
+        PROPERTY => lower_dt_property(item, parent, nesting, out, bytes, ctx, level),
+        DIRECTIVE => handle_dts_directive(item, parent, out, bytes, ctx),
+        PREPROCESSOR => emit_code(input.words, codes::PREPROCESSOR, number, out, bytes, ctx),
         _ => ctx,
     }
 }
@@ -75,8 +73,7 @@ fn lower_item(
 // Lowers a node: where it goes, and then its body. A state that ran short stays as it is.
 #[cycle(nesting)]
 fn lower_dt_node(
-    input: Input<'_>,
-    r: u32,
+    node: Record<'_>,
     parent: PathAt,
     nesting: u32,
     out: &mut [u32],
@@ -84,50 +81,40 @@ fn lower_dt_node(
     ctx: LowerCtx,
     level: u32,
 ) -> LowerCtx
-    requires record_in { RecordIn input.words.now input.text.now r nesting }
-    requires r_value { good_names (record_at input.words.now input.text.now r) ≡ true }
-    ensures { LowersAt parent ctx result out.old bytes.old out.new bytes.new
-        (λ p s. lower_node p (parts_at input.entry.words.now input.entry.text.now r) (span_at input.entry.words.now r)
-        (λ (q : List ℕ) (u : State). lower_items level (contents_at input.entry.words.now input.entry.text.now r) q u) s) }
+    requires shallow { depth_of (tree_of node) ≤ nesting }
+    requires good { good_names (tree_of node) ≡ true }
+    ensures { LowersAt parent ctx result out.old bytes.old out.new bytes.new (λ p s. lower_node p (parts_of node.entry) (span_in node.entry)
+        (λ (q : List ℕ) (u : State). lower_items level (contents_of node.entry) q u) s) }
 {
     if ctx.short {
         return ctx;
     }
-    let placed = place_node(input, r, parent, out, bytes, ctx);
+    let body = node.contents();
+    let deeper = nesting - 1;
+    let placed = place_node(node, parent, out, bytes, ctx);
     let made = placed.ctx;
     match placed.node {
-        NodePlace::At(place) => {
-            let first = second_at(input.words, r);
-            lower_items(input, first, place, nesting - 1, out, bytes, made, level)
-        }
-        NodePlace::Aside(phandle, kind, keeps) => {
-            let body = lower_apart(input, r, keeps, nesting - 1, out, bytes, made, level);
+        NodePlace::At(place) => lower_items(body, place, deeper, out, bytes, made, level),
+        NodePlace::Aside(reference, kind, keeps) => {
+            let apart = lower_apart(body, keeps, deeper, out, bytes, made, level);
+            let Record { input, number, .. } = node;
+            let Input { words, text, .. } = input;
             settle_aside(
-                input.words,
-                input.text,
-                r,
-                phandle,
-                kind,
-                keeps,
-                out,
-                bytes,
-                body,
-                made,
+                words, text, number, reference, kind, keeps, out, bytes, apart, made,
             )
         }
         NodePlace::Discarded => {
-            let body = lower_apart(input, r, false, nesting - 1, out, bytes, made, level);
-            body.leave_dropped(out, bytes, made)
+            let apart = lower_apart(body, false, deeper, out, bytes, made, level);
+            apart.leave_dropped(out, bytes, made)
         }
         NodePlace::Nowhere => made,
     }
 }
 
-// Lowers the body of a node at "/" into a log of its own.
+// Lowers a body at "/" into a log of its own.
 #[cycle(nesting)]
 fn lower_apart(
-    input: Input<'_>,
-    r: u32,
+    items: Chain<'_>,
     keeps: bool,
     nesting: u32,
     out: &mut [u32],
@@ -135,21 +122,11 @@ fn lower_apart(
     ctx: LowerCtx,
     level: u32,
 ) -> LowerCtx
-    requires chain_in { ChainIn input.words.now input.text.now (second_at input.words.now r) nesting }
-    requires r_value { good_names_in (contents_at input.words.now input.text.now r) ≡ true }
+    requires shallow { depths_of (trees_left items) ≤ nesting }
+    requires good { good_names_in (trees_left items) ≡ true }
     ensures { LowersApart ctx result keeps out.old bytes.old out.new bytes.new
-        (λ (q : List ℕ) (u : State). lower_items level (contents_at input.entry.words.now input.entry.text.now r) q u) }
+        (λ (q : List ℕ) (u : State). lower_items level (trees_left items.entry) q u) }
 {
     let inner = ctx.enter(keeps);
-    let first = second_at(input.words, r);
-    lower_items(
-        input,
-        first,
-        PathAt::Root,
-        nesting,
-        out,
-        bytes,
-        inner,
-        level,
-    )
+    lower_items(items, PathAt::Root, nesting, out, bytes, inner, level)
 }

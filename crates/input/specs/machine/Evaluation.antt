@@ -4,6 +4,7 @@ use Rattle.std.specs.Prelude.{ℕ, Bool, true, not, cond, List, eqb, ℤ, Result
 use Rattle.paths_numbers.specs.meaning.Expression.{and_op, or_op, is_true}
 use Rattle.input.specs.meaning.Expr.{Outcome, value, fails}
 use Rattle.input.specs.machine.Reported.{reports_of}
+use Rattle.input.specs.declared.linked.Input.{Input}
 use Rattle.input.specs.declared.report.Report.{Report}
 use Rattle.input.specs.declared.report.Report.TheVariants.{Nothing, Code}
 use Rattle.paths_numbers.specs.meaning.Reading.{no_code}
@@ -12,6 +13,9 @@ use Rattle.paths_numbers.specs.meaning.Reading.{no_code}
 abbrev pub outcome_of : List ℕ → List ℕ → Result ℤ Report → Outcome ℤ
 outcome_of words text (Ok z) = value z
 outcome_of words text (Err d) = fails (reports_of words text d)
+
+abbrev pub outcome_in : Input → Result ℤ Report → Outcome ℤ
+outcome_in i v = outcome_of i.words.now i.text.now v
 
 -- what is reported of a failure with this code at record r: "fails without a code" reports nothing
 abbrev pub failure : ℕ → ℕ → Report

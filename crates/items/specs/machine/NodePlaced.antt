@@ -11,8 +11,10 @@ use Rattle.queries.specs.meaning.Kind.{sets_overlay}
 use Rattle.input.specs.meaning.Tree.{Trees}
 use Rattle.resolving.specs.meaning.Resolve.{reaches}
 use Rattle.items.specs.meaning.Lower.{at, aside, discarded, nowhere, Placed, opened}
-use Rattle.input.specs.meaning.Input.{span_at, parts_at}
+use Rattle.input.specs.meaning.Input.{span_at}
 use Rattle.input.specs.machine.PhandleRead.{label_at, path_at}
+use Rattle.input.specs.machine.OfRecord.{parts_of, span_in}
+use Rattle.input.specs.declared.linked.Record.{Record}
 use Rattle.resolving.specs.machine.Leading.{resolution, Leads}
 use Rattle.items.specs.machine.Opened.{bare_node}
 use Rattle.items.specs.machine.PropertyMade.{is_top}
@@ -55,15 +57,14 @@ pub record PlacesIn (parent : PathAt) (c : LowerCtx) (words bytes w b input text
       → Represents (with_place (record { at = parent; path = p }) k) c words bytes s
       → PlacedTo (with_place (record { at = parent; path = p }) k) w b input text parts span s v.ctx (l p s) v.node
 
--- the same of the node of record r
-abbrev pub PlacesAt : PathAt → LowerCtx → List ℕ → List ℕ → List ℕ → List ℕ → List ℕ → List ℕ → ℕ → (List ℕ → Placed) → PlacedNode → Type 0
-PlacesAt parent c words bytes w b input text r l v =
-    Places parent c words bytes w b input text (parts_at input text r) (span_at input r) l v
+-- the same of the node of a record
+abbrev pub PlacesAt : PathAt → LowerCtx → List ℕ → List ℕ → List ℕ → List ℕ → Record → (List ℕ → Placed) → PlacedNode → Type 0
+PlacesAt parent c words bytes w b r l v =
+    Places parent c words bytes w b r.input.words.now r.input.text.now (parts_of r) (span_in r) l v
 
-abbrev pub PlacesInAt : PathAt → LowerCtx → List ℕ → List ℕ → List ℕ → List ℕ → List ℕ → List ℕ → ℕ → (List ℕ → State → Placed) → PlacedNode
-    → Type 0
-PlacesInAt parent c words bytes w b input text r l v =
-    PlacesIn parent c words bytes w b input text (parts_at input text r) (span_at input r) l v
+abbrev pub PlacesInAt : PathAt → LowerCtx → List ℕ → List ℕ → List ℕ → List ℕ → Record → (List ℕ → State → Placed) → PlacedNode → Type 0
+PlacesInAt parent c words bytes w b r l v =
+    PlacesIn parent c words bytes w b r.input.words.now r.input.text.now (parts_of r) (span_in r) l v
 
 -- the definition of a node where its reference leads
 pub record DefinesLeading (v : Result Led Missing) (l path : List ℕ) (c d : LowerCtx) (words bytes w b : List ℕ) (parts : Trees) (span : Span) : Type

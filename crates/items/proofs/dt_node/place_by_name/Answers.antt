@@ -13,14 +13,14 @@ use Rattle.items.proofs.dt_node.place_by_name.Goals as goal
 pub returns-then-is_named : goal.returns-then-is_named
 returns-then-is_named c =
     let s = c in
-    let words = s.args.input.words.now in
-    let text = s.args.input.text.now in
-    let parts = chain_at words text (child_at words s.args.r) in
+    let words = s.args.node.input.words.now in
+    let text = s.args.node.input.text.now in
+    let parts = chain_at words text (child_at words s.args.node.number) in
     let read = (rw (c.parts-parts.ensures.input, c.parts-parts.ensures.next) at c.full_name-full.ensures).read text in
     let there = there_some (full_name parts).result (sym (ap (λ (x : Got (List ℕ)). is_there x.result) read)
     ∙ sym (c.is_named.ensures words text)
     ∙ c.if-is_named.true) in
-    name_decides parts (span_at words s.args.r) (node_name_span parts (span_at words s.args.r)) (full_name parts).reports
+    name_decides parts (span_at words s.args.node.number) (node_name_span parts (span_at words s.args.node.number)) (full_name parts).reports
     (same_reports (ap (λ (x : Got (List ℕ)). x.reports) read)
     c.emit_name-reported.ensures)
     there.0 there.1 (c.place_below.ensures there.0 there.1)
@@ -28,14 +28,14 @@ returns-then-is_named c =
 pub returns-then-has_kind : goal.returns-then-has_kind
 returns-then-has_kind c =
     let s = c in
-    let words = s.args.input.words.now in
-    let text = s.args.input.text.now in
-    let parts = chain_at words text (child_at words s.args.r) in
+    let words = s.args.node.input.words.now in
+    let text = s.args.node.input.text.now in
+    let parts = chain_at words text (child_at words s.args.node.number) in
     let read = (rw (c.parts-parts.ensures.input, c.parts-parts.ensures.next) at c.full_name-full.ensures).read text in
     let none-there = not_there (full_name parts).result (sym (ap (λ (x : Got (List ℕ)). is_there x.result) read)
     ∙ sym (c.is_named.ensures words text)
     ∙ c.if-is_named.false) in
-    slash_decides parts (span_at words s.args.r) (node_name_span parts (span_at words s.args.r)) (full_name parts).reports
+    slash_decides parts (span_at words s.args.node.number) (node_name_span parts (span_at words s.args.node.number)) (full_name parts).reports
     (same_reports (ap (λ (x : Got (List ℕ)). x.reports) read)
     c.emit_name-reported.ensures) none-there
     (sym (rw (c.parts-parts.ensures.input, c.parts-parts.ensures.next) at (c.has_kind.ensures text))
@@ -44,13 +44,13 @@ returns-then-has_kind c =
 pub returns : goal.returns
 returns c =
     let s = c in
-    let words = s.args.input.words.now in
-    let text = s.args.input.text.now in
-    let parts = chain_at words text (child_at words s.args.r) in
+    let words = s.args.node.input.words.now in
+    let text = s.args.node.input.text.now in
+    let parts = chain_at words text (child_at words s.args.node.number) in
     let read = (rw (c.parts-parts.ensures.input, c.parts-parts.ensures.next) at c.full_name-full.ensures).read text in
     let none-there = not_there (full_name parts).result (sym (ap (λ (x : Got (List ℕ)). is_there x.result) read)
     ∙ sym (c.is_named.ensures words text) ∙ c.if-is_named.false) in
-    nothing_decides parts (span_at words s.args.r) (node_name_span parts (span_at words s.args.r)) (full_name parts).reports
+    nothing_decides parts (span_at words s.args.node.number) (node_name_span parts (span_at words s.args.node.number)) (full_name parts).reports
     (same_reports (ap (λ (x : Got (List ℕ)). x.reports) read)
     c.emit_name-reported.ensures) none-there
     (sym (rw (c.parts-parts.ensures.input, c.parts-parts.ensures.next) at (c.has_kind.ensures text)) ∙ c.if-has_kind.false)

@@ -11,7 +11,7 @@ returns-in-Ok c =
     λ parent.
     rw c.placed_at.ensures (place_found a.ctx a.out.now a.bytes.now _ _ _
     c.resolve_phandle-leads.result c.resolve_phandle-leads.ensures.1 (c.resolve_phandle-leads.ensures.0 _ refl)
-    (record_at a.input.words.now a.input.text.now a.reference)
+    (record_at a.node.input.words.now a.node.input.text.now a.reference)
     c.in-Ok.field-0 c.in-Ok.is
     c.define_leading-made.ensures
     (rw (c.parts.ensures.input, c.parts.ensures.next) at c.open_node.ensures))
@@ -22,7 +22,7 @@ returns-in-Err c =
     let a = s.args in
     λ parent.
     place_missing a.ctx a.out.now a.bytes.now
-    c.resolve_phandle-leads.result c.in-Err.field-0 a.input.words.now a.input.text.now a.reference a.kind c.resolve_phandle-leads.ensures.1 (c.resolve_phandle-leads.ensures.0 _ refl)
+    c.resolve_phandle-leads.result c.in-Err.field-0 a.node.input.words.now a.node.input.text.now a.reference a.kind c.resolve_phandle-leads.ensures.1 (c.resolve_phandle-leads.ensures.0 _ refl)
     c.in-Err.is
     (c.sets_overlay_in-keeps.ensures a.bytes.now)
     (rw (

@@ -5,6 +5,6 @@ use Rattle.items.proofs.Reported.{reported}
 use Rattle.items.proofs.dt_node.refuse_node.Goals as goal
 
 pub returns : goal.returns
-returns c = λ text. reported _ [] _ (c.node_name_span-span.ensures text
-    ∙ rw (c.parts.ensures.input, c.parts.ensures.next, c.span_at.ensures) refl)
+returns c = reported _ [] _ (c.node_name_span-span.ensures c.args.node.input.text.now
+    ∙ rw (c.parts.ensures.input, c.parts.ensures.next, c.span.ensures) refl)
     c.emit.ensures

@@ -1,6 +1,6 @@
 -- By whether the state ran short and whether the path is empty; else the definition, its values and its name's reports (PropertyMade).
 use Rattle.items.proofs.PropertyMade.{property_short, property_top, property_lowers}
-use Rattle.input.proofs.Read.{some_nesting, second_in}
+use Rattle.input.proofs.Read.{record_in, some_nesting, second_in}
 use Rattle.input.specs.meaning.Input.{child_at, second_at, span_at, chain_at}
 use mathlib.Core.Path.{sym, ◌∙◌}
 use native.Mathlib.Omega.{arith}
@@ -8,44 +8,46 @@ use Rattle.items.proofs.dt_property.lower_dt_property.Goals as goal
 
 pub returns-then-ctx : goal.returns-then-ctx
 returns-then-ctx c = let a = c.args in
-    let words = a.input.words.now in
-    property_short a.level (chain_at words a.input.text.now (child_at words a.r)) (chain_at words a.input.text.now (second_at words a.r))
-    (span_at words a.r) c.if-ctx.true
+    let words = a.property.input.words.now in
+    property_short a.level (chain_at words a.property.input.text.now (child_at words a.property.number)) (chain_at words a.property.input.text.now (second_at words a.property.number))
+    (span_at words a.property.number) c.if-ctx.true
 
 pub returns-then-is_top : goal.returns-then-is_top
 returns-then-is_top c = let a = c.args in
-    let words = a.input.words.now in
-    property_top a.level (chain_at words a.input.text.now (child_at words a.r)) (chain_at words a.input.text.now (second_at words a.r))
-    (span_at words a.r) c.if-ctx.false
+    let words = a.property.input.words.now in
+    property_top a.level (chain_at words a.property.input.text.now (child_at words a.property.number)) (chain_at words a.property.input.text.now (second_at words a.property.number))
+    (span_at words a.property.number) c.if-ctx.false
     (sym c.is_top.ensures
     ∙ c.if-is_top.true) c.emit_code.ensures
 
 pub overflow_sub-nesting : goal.overflow_sub-nesting
-overflow_sub-nesting c = let s = c in omega (
-  arith,
-  some_nesting s.args.input.words.now s.args.input.text.now s.args.input.linked s.args.r s.args.nesting
-      s.requires.record_in,
-)
+overflow_sub-nesting c =
+    let r = c.args.property in
+    let i = r.input in
+    omega (arith, some_nesting i.words.now i.text.now i.linked r.number c.args.nesting (record_in r c.args.nesting c.requires.shallow))
 
 pub lower_prop_values-filled-requires : goal.lower_prop_values-filled-requires
-lower_prop_values-filled-requires c = let s = c in record {
-  chain_in = rw c.second_at-values.ensures (second_in s.args.input.words.now s.args.input.text.now s.args.input.linked s.args.r
-      s.args.nesting s.requires.record_in);
-}
+lower_prop_values-filled-requires c =
+    let r = c.args.property in
+    let i = r.input in
+    record {
+      shallow = rw (c.contents.ensures.input, c.contents.ensures.next)
+          (second_in i.words.now i.text.now i.linked r.number c.args.nesting (record_in r c.args.nesting c.requires.shallow)).shallow;
+    }
 
 pub returns : goal.returns
 returns c = let s = c
     in
-    let words = s.args.input.words.now in
-    let text = s.args.input.text.now in
-    property_lowers s.args.level words text s.args.r
+    let words = s.args.property.input.words.now in
+    let text = s.args.property.input.text.now in
+    property_lowers s.args.level s.args.property
     c.full_name-name.result
     (rw (c.parts.ensures.input, c.parts.ensures.next) at
-    c.full_name-name.ensures) s.requires.r_value
+    c.full_name-name.ensures) s.requires.good
     c.is_named-keep.result
     (c.is_named-keep.ensures words text)
     c.define_property-made.ensures (rw
-    c.second_at-values.ensures at
+    (c.contents.ensures.input, c.contents.ensures.next) at
     c.lower_prop_values-filled.ensures)
     c.emit_name.ensures
     c.if-ctx.false

@@ -9,8 +9,8 @@ loop-r-init c =
     let e = ap chain_left c.into_iter-r-iterator.ensures.into_iter_gives in
     (refl, refl, rw e (labels_start p.input.words.now p.input.linked p.input.text.now p.next p.at))
 
-pub lower_label-state-requires : goal.lower_label-state-requires
-lower_label-state-requires c = record { r_bound = (rw c.in-Some.ensures.steps at c.loop-r.invariant).2.at.0.1 }
+pub invariant_of-part : goal.invariant_of-part
+invariant_of-part c = record { known = (rw c.in-Some.ensures.steps at c.loop-r.invariant).2.at.0.1 }
 
 pub loop-r-preserved-then-kind_at-eq-LABEL : goal.loop-r-preserved-then-kind_at-eq-LABEL
 loop-r-preserved-then-kind_at-eq-LABEL c =

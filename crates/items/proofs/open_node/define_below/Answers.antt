@@ -10,13 +10,13 @@ use Rattle.items.proofs.open_node.define_below.Goals as goal
 pub returns : goal.returns
 returns c =
     let a = c.args in
-    let words = a.input.words.now in
-    let text = a.input.text.now in
+    let words = a.node.input.words.now in
+    let text = a.node.input.text.now in
     let part = c.parts-parts.ensures in
     defined_opens
     c.node_kind-kind.result
-    c.span_at-span.result
-    c.node_name_span-name_span.result (span_at words a.r)
+    c.span-span.result
+    c.node_name_span-name_span.result (span_at words a.node.number)
     (joined (path_in a.ctx.bytes a.bytes.now a.parent) (name_text words text a.full.name)
     (unit_text words text a.full.unit))
     (λ p. joined p (name_text words text a.full.name) (unit_text words text a.full.unit))
@@ -27,6 +27,6 @@ returns c =
     (rw (part.input, part.next) at c.open_node.ensures)
     (rw (part.input, part.next) at
     (c.node_kind-kind.ensures text))
-    c.span_at-span.ensures
-    (c.node_name_span-name_span.ensures text ∙ rw (part.input, part.next, c.span_at-span.ensures) refl)
+    c.span-span.ensures
+    (c.node_name_span-name_span.ensures text ∙ rw (part.input, part.next, c.span-span.ensures) refl)
     (below_parent (name_text words text a.full.name) (unit_text words text a.full.unit))

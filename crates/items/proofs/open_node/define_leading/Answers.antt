@@ -10,25 +10,25 @@ use Rattle.items.proofs.open_node.define_leading.Goals as goal
 pub returns-in_default : goal.returns-in_default
 returns-in_default c =
     let a = c.args in
-    defines_none a.leads (label_at a.input.words.now a.input.text.now a.reference) (path_at a.input.words.now a.input.text.now a.reference) _
+    defines_none a.leads (label_at a.node.input.words.now a.node.input.text.now a.reference) (path_at a.node.input.words.now a.node.input.text.now a.reference) _
     c.in_default.is
 
 pub returns-in-Bound : goal.returns-in-Bound
 returns-in-Bound c =
     let a = c.args in
-    let words = a.input.words.now in
-    let text = a.input.text.now in
+    let words = a.node.input.words.now in
+    let text = a.node.input.text.now in
     let part = c.parts-parts.ensures in
     defines_bound a.leads (label_at words text a.reference) (path_at words text a.reference)
     c.node_kind-kind.result
-    c.span_at-span.result
+    c.span-span.result
     c.node_name_span-name_span.result
-    (span_at words a.r) _ c.define_at.ensures
+    (span_at words a.node.number) _ c.define_at.ensures
     (rw (part.input, part.next) at
     (c.node_kind-kind.ensures text))
-    c.span_at-span.ensures
+    c.span-span.ensures
     (c.node_name_span-name_span.ensures
-    text ∙ rw (part.input, part.next, c.span_at-span.ensures)
+    text ∙ rw (part.input, part.next, c.span-span.ensures)
     refl)
     _ (c.in-Ok.is ∙ ap Ok c.in-Bound.is)
     (ap (path_in a.ctx.bytes a.bytes.now) c.second_place-place.ensures)
@@ -36,16 +36,16 @@ returns-in-Bound c =
 pub returns-in-BoundPath : goal.returns-in-BoundPath
 returns-in-BoundPath c =
     let a = c.args in
-    let words = a.input.words.now in
-    let text = a.input.text.now in
+    let words = a.node.input.words.now in
+    let text = a.node.input.text.now in
     let part = c.parts-parts.ensures in
     defines_below a.leads (label_at words text a.reference) (path_at words text a.reference)
     c.node_kind-kind.result
-    c.span_at-span.result c.node_name_span-name_span.result (span_at words a.r) _ c.define.ensures
+    c.span-span.result c.node_name_span-name_span.result (span_at words a.node.number) _ c.define.ensures
     (rw (part.input, part.next) at
     (c.node_kind-kind.ensures text))
-    c.span_at-span.ensures
-    (c.node_name_span-name_span.ensures text ∙ rw (part.input, part.next, c.span_at-span.ensures) refl)
+    c.span-span.ensures
+    (c.node_name_span-name_span.ensures text ∙ rw (part.input, part.next, c.span-span.ensures) refl)
     _ (c.in-Ok.is ∙ ap Ok c.in-BoundPath.is)
     (rw (
       c.second_place-place-in-BoundPath.ensures,
@@ -56,37 +56,37 @@ returns-in-BoundPath c =
 pub returns-in-AtPath : goal.returns-in-AtPath
 returns-in-AtPath c =
     let a = c.args in
-    let words = a.input.words.now in
-    let text = a.input.text.now in
+    let words = a.node.input.words.now in
+    let text = a.node.input.text.now in
     let part = c.parts-parts.ensures in
     defines_path a.leads (label_at words text a.reference) (path_at words text a.reference)
     c.node_kind-kind.result
-    c.span_at-span.result
-    c.node_name_span-name_span.result (span_at words a.r) _
+    c.span-span.result
+    c.node_name_span-name_span.result (span_at words a.node.number) _
     c.define_text.ensures
     (rw (part.input, part.next) at (c.node_kind-kind.ensures
-    text)) c.span_at-span.ensures
+    text)) c.span-span.ensures
     (c.node_name_span-name_span.ensures text
-    ∙ rw (part.input, part.next, c.span_at-span.ensures) refl)
+    ∙ rw (part.input, part.next, c.span-span.ensures) refl)
     (c.in-Ok.is ∙ ap Ok c.in-AtPath.is)
     c.phandle_path_at-path.ensures
 
 pub returns-in-Node : goal.returns-in-Node
 returns-in-Node c =
     let a = c.args in
-    let words = a.input.words.now in
-    let text = a.input.text.now in
+    let words = a.node.input.words.now in
+    let text = a.node.input.text.now in
     let part = c.parts-parts.ensures in
     defines_named a.leads (label_at words text a.reference) (path_at words text a.reference)
     c.node_kind-kind.result
-    c.span_at-span.result
+    c.span-span.result
     c.node_name_span-name_span.result
-    (span_at words a.r) _ c.define_at-in-Node.ensures
+    (span_at words a.node.number) _ c.define_at-in-Node.ensures
     (rw (part.input, part.next) at
     (c.node_kind-kind.ensures text))
-    c.span_at-span.ensures
+    c.span-span.ensures
     (c.node_name_span-name_span.ensures
-    text ∙ rw (part.input, part.next, c.span_at-span.ensures)
+    text ∙ rw (part.input, part.next, c.span-span.ensures)
     refl)
     _ (c.in-Ok.is ∙ ap Ok c.in-Node.is)
     (ap (path_in a.ctx.bytes a.bytes.now) c.first_place-place.ensures)

@@ -4,22 +4,27 @@ use Rattle.input.proofs.Rows.{accepted_names, accepted_chain}
 use Rattle.lowering.proofs.LoweredWhole.{top_lowered}
 use Rattle.lowering.proofs.lower.lower_top.Goals as goal
 
-pub lower_items-requires-clause-chain_in : goal.lower_items-requires-clause-chain_in
-unfolding description
-lower_items-requires-clause-chain_in c =
+pub chain-items-requires : goal.chain-items-requires
+chain-items-requires c =
     let a = c.args in
-    rw c.child_at-first.ensures (accepted_chain a.input.words.now a.input.text.now c.requires)
+    record { at = rw c.child_at.ensures (accepted_chain a.input.words.now a.input.text.now c.requires).at }
 
-pub lower_items-requires-clause-first_value : goal.lower_items-requires-clause-first_value
-unfolding description
-lower_items-requires-clause-first_value c =
+pub lower_items-requires-clause-shallow : goal.lower_items-requires-clause-shallow
+lower_items-requires-clause-shallow c =
     let a = c.args in
-    rw c.child_at-first.ensures (accepted_names a.input.words.now a.input.text.now c.requires)
+    rw (c.chain-items.ensures.input, c.chain-items.ensures.next, c.child_at.ensures)
+    (accepted_chain a.input.words.now a.input.text.now c.requires).shallow
+
+pub lower_items-requires-clause-good : goal.lower_items-requires-clause-good
+unfolding description
+lower_items-requires-clause-good c =
+    let a = c.args in
+    rw (c.chain-items.ensures.input, c.chain-items.ensures.next, c.child_at.ensures)
+    (accepted_names a.input.words.now a.input.text.now c.requires)
 
 pub returns : goal.returns
 returns c =
     let a = c.args in
     top_lowered a.level a.input.words.now a.input.text.now
     c.start-ctx.ensures
-    (rw c.child_at-first.ensures at
-    c.lower_items.ensures)
+    (rw (c.chain-items.ensures.input, c.chain-items.ensures.next, c.child_at.ensures) at c.lower_items.ensures)

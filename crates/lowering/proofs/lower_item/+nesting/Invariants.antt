@@ -22,5 +22,6 @@ decreases-lower_items l = l.nesting * 4 + 2
 abbrev pub invariant-lower_items-loop-r : goal.invariant-lower_items-loop-r
 invariant-lower_items-loop-r l =
     (length l.out ≡ length l.initial.out) × (length l.bytes ≡ length l.initial.bytes)
-    × ItemsTo l.level l.parent l.initial.state l.state l.initial.out l.initial.bytes l.out l.bytes l.input.words.now l.input.text.now l.first l.nesting
+    × ItemsTo l.level l.parent l.initial.state l.state l.initial.out l.initial.bytes l.out l.bytes l.items.input.words.now l.items.input.text.now l.items.next
+    l.nesting
     (chain_left l.r-iterator)

@@ -6,9 +6,6 @@ pub returns-in_default : goal.returns-in_default
 returns-in_default c = full_alone _ c.name_or_macro-name.result c.name_or_macro-name.ensures _
     c.first_of.ensures c.in_default.is
 
-pub parts-requires : goal.parts-requires
-parts-requires c = record { r_bound = c.first_of.ensures.there _ c.in-Some.is }
-
 pub returns : goal.returns
 returns c =
     let s = c.args.self in

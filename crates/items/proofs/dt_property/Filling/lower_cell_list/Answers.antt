@@ -1,23 +1,28 @@
 -- The list, and then its cells (Filled); the nesting suffices for them (Read).
 use Rattle.items.proofs.Filled.{list_then}
-use Rattle.input.proofs.Read.{some_nesting, children_in}
+use Rattle.input.proofs.Read.{record_in, some_nesting, children_in}
 use Rattle.paths_numbers.specs.meaning.Cell.{bits_of}
 use native.Mathlib.Omega.{arith}
 use Rattle.items.proofs.dt_property.Filling.lower_cell_list.Goals as goal
 
 pub overflow_sub-nesting : goal.overflow_sub-nesting
-overflow_sub-nesting c = let s = c in omega
-    (arith, some_nesting s.args.self.input.words.now s.args.self.input.text.now s.args.self.input.linked s.args.r s.args.nesting s.requires.record_in)
+overflow_sub-nesting c =
+    let r = c.args.list in
+    let i = r.input in
+    omega (arith, some_nesting i.words.now i.text.now i.linked r.number c.args.nesting (record_in r c.args.nesting c.requires.shallow))
 
 pub lower_cells-requires : goal.lower_cells-requires
-lower_cells-requires c = let s = c in record {
-  chain_in = rw c.child_at-cells.ensures (children_in s.args.self.input.words.now s.args.self.input.text.now s.args.self.input.linked s.args.r
-      s.args.nesting s.requires.record_in);
-}
+lower_cells-requires c =
+    let r = c.args.list in
+    let i = r.input in
+    record {
+      shallow = rw (c.parts.ensures.input, c.parts.ensures.next)
+          (children_in i.words.now i.text.now i.linked r.number c.args.nesting (record_in r c.args.nesting c.requires.shallow)).shallow;
+    }
 
 pub returns : goal.returns
 returns c = let a = c.args in
     list_then a.self.keep (bits_of a.size) _
     c.push_cell_list-made.ensures
-    (rw c.child_at-cells.ensures at
+    (rw (c.parts.ensures.input, c.parts.ensures.next) at
     c.lower_cells.ensures)

@@ -16,7 +16,7 @@ returns-then-not-self c = let a = c.args in fills_dropped adding_cells a.self.ke
 pub returns : goal.returns
 returns c = let a = c.args in
     same_fills (ap (λ (t : Target). one (reference t)) (same_target a.kind
-    c.phandle_label_at.ensures
-    c.phandle_path_at.ensures))
+    c.label.ensures
+    c.path.ensures))
     (fills_one adding_cells a.self.keep _ _ (search rules) (part_grows _ _) (cell_added _)
     c.add_reference.ensures)

@@ -14,33 +14,33 @@ use Rattle.items.proofs.dt_property.Filling.push_value.Goals as goal
 
 pub returns-then-not-self : goal.returns-then-not-self
 returns-then-not-self c = let a = c.args in
-    fills_dropped adding_values a.self.keep (plain_made a.self.input.words.now a.self.input.text.now a.r a.value) (search rules)
-    (plain_reports a.self.input.words.now a.self.input.text.now a.r a.value)
+    fills_dropped adding_values a.self.keep (plain_made a.value.input.words.now a.value.input.text.now a.value.number a.plain) (search rules)
+    (plain_reports a.value.input.words.now a.value.input.text.now a.value.number a.plain)
 
 pub returns-in-String : goal.returns-in-String
 returns-in-String c = let a = c.args in
     same_fills
-    (ap (λ (t : List ℕ). one (string t)) c.text_at.ensures
-    ∙ sym (ap (plain_made a.self.input.words.now a.self.input.text.now a.r)
+    (ap (λ (t : List ℕ). one (string t)) c.text.ensures
+    ∙ sym (ap (plain_made a.value.input.words.now a.value.input.text.now a.value.number)
     c.in-String.is))
     (fills_one adding_values a.self.keep _ _ (search rules) (part_grows _ _)
     (value_one (string _) refl) c.add_string.ensures)
 
 pub returns-in-Bytestring : goal.returns-in-Bytestring
 returns-in-Bytestring c = let a = c.args in
-    same_fills (sym (ap (plain_made a.self.input.words.now a.self.input.text.now a.r)
+    same_fills (sym (ap (plain_made a.value.input.words.now a.value.input.text.now a.value.number)
     c.in-Bytestring.is))
     (bytes_fill a.self.keep _ (search rules)
-    (rw c.text_at-in-Bytestring.ensures at c.add_bytestring.ensures))
+    (rw c.text-in-Bytestring.ensures at c.add_bytestring.ensures))
 
 pub returns-in-Phandle : goal.returns-in-Phandle
 returns-in-Phandle c = let a = c.args in
     same_fills
     (ap (λ (t : Target). one (phandle t)) (same_target
     c.in-Phandle.kind
-    c.phandle_label_at.ensures
-    c.phandle_path_at.ensures)
-    ∙ sym (ap (plain_made a.self.input.words.now a.self.input.text.now a.r)
+    c.label.ensures
+    c.path.ensures)
+    ∙ sym (ap (plain_made a.value.input.words.now a.value.input.text.now a.value.number)
     c.in-Phandle.is))
     (fills_one adding_values a.self.keep _ _ (search rules) (part_grows _ _)
     (value_one (phandle _) refl) c.add_phandle.ensures)

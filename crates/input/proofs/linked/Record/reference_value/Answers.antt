@@ -2,7 +2,7 @@
 use Rattle.std.proofs.lemmas.Result.{err_from_is_err_and}
 use Rattle.input.specs.meaning.Property.{reference_value}
 use mathlib.Core.Path.{ap}
-use Rattle.input.proofs.linked.Input.reference_value.Goals as goal
+use Rattle.input.proofs.linked.Record.reference_value.Goals as goal
 
 pub returns-in_err-kind : goal.returns-in_err-kind
 returns-in_err-kind c =
