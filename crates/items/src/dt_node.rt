@@ -30,6 +30,7 @@ use input::phandle::{phandle_label_at, phandle_path_at};
 use input::record::span_at;
 use making::ctx::LowerCtx;
 use making::place::PathAt;
+use making::recs::Target;
 use paths_numbers::codes::{ROOT_INSIDE, SUBNODE_OUTSIDE};
 use paths_numbers::phandle::MirPhandleTarget;
 use queries::mir::sets_overlay_in;
@@ -255,9 +256,12 @@ pub fn settle_aside(
     if keeps {
         let span = span_at(words, r);
         let name_span = span_at(words, reference);
-        let label = phandle_label_at(words, text, reference);
-        let path = phandle_path_at(words, text, reference);
-        return body.leave_kept(out, bytes, outer, span, name_span, kind, label, path);
+        let target = Target {
+            kind,
+            label: phandle_label_at(words, text, reference),
+            path: phandle_path_at(words, text, reference),
+        };
+        return body.leave_kept(out, bytes, outer, span, name_span, target);
     }
     body.leave_dropped(out, bytes, outer)
 }

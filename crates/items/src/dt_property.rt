@@ -4,6 +4,7 @@ ghost use Rattle.std.specs.Prelude.{◌≡◌, ◌≤◌, true, cond, []};
 ghost use Rattle.paths_numbers.specs.meaning.Cell.{bits_of};
 ghost use Rattle.paths_numbers.specs.meaning.Reading as R;
 ghost use Rattle.definition_log.specs.meaning.Contents.{number, reference, cell_list};
+ghost use Rattle.making.specs.machine.Recs.{meant_target};
 ghost use Rattle.making.specs.meaning.State.{define};
 ghost use Rattle.input.specs.meaning.Report.{one};
 ghost use Rattle.input.specs.meaning.Property.{lower_cell, lower_cells, sized_list, lower_value, lower_values};
@@ -23,7 +24,7 @@ use input::name::{FullName, is_named, name_text, unit_text};
 use input::value_read::{CellValue, PlainValue, Value};
 use making::ctx::LowerCtx;
 use making::place::PathAt;
-use making::recs::DefKind;
+use making::recs::{DefKind, Target};
 use paths_numbers::codes::PROPERTY_OUTSIDE;
 use paths_numbers::dt_property::BitsSize;
 use paths_numbers::phandle::MirPhandleTarget;
@@ -177,13 +178,7 @@ impl Filling {
         match plain {
             PlainValue::String => ctx.add_string(out, bytes, value.text()),
             PlainValue::Bytestring => ctx.add_bytestring(out, bytes, value.text()),
-            PlainValue::Phandle(kind) => ctx.add_phandle(
-                out,
-                bytes,
-                kind,
-                value.label(),
-                value.path(),
-            ),
+            PlainValue::Phandle(kind) => ctx.add_phandle(out, bytes, target_of(value, kind)),
         }
     }
 
@@ -295,6 +290,17 @@ impl Filling {
         if !self.keep {
             return ctx;
         }
-        ctx.add_reference(out, bytes, kind, cell.label(), cell.path())
+        ctx.add_reference(out, bytes, target_of(cell, kind))
+    }
+}
+
+// What a reference record of a kind names.
+fn target_of(reference: Record<'_>, kind: MirPhandleTarget) -> Target<'_>
+    ensures { meant_target result ≡ named_in kind reference.entry }
+{
+    Target {
+        kind,
+        label: reference.label(),
+        path: reference.path(),
     }
 }

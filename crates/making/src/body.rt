@@ -1,19 +1,18 @@
 // A body with a log of its own: entered, and left again, dropped or kept as an extension.
 ghost use Rattle.std.specs.Prelude.{[]};
-ghost use Rattle.definition_log.specs.meaning.Record.{extension_kind, reference_kind};
+ghost use Rattle.definition_log.specs.meaning.Record.{extension_kind};
 ghost use Rattle.making.specs.machine.Made.{Told, end_link, child_link, with_ext};
-ghost use Rattle.making.specs.machine.Recs.{spanned_rec, part_rec, target_n, label_in, path_within, ToldPart};
-ghost use Rattle.definition_log.specs.machine.Parts.{meant, target_made};
+ghost use Rattle.making.specs.machine.Recs.{spanned_rec, target_rec, meant_target, label_in, path_within, ToldPart};
+ghost use Rattle.definition_log.specs.machine.Parts.{meant};
 ghost use Rattle.making.specs.machine.Represents.{Enters, LeavesDropped, LeavesKept, Newest};
 
 use crate::add::child_link;
 use crate::ctx::{Chain, LowerCtx, Rec};
 use crate::place::{PathAt, first_place};
-use crate::recs::{label_of, path_of};
+use crate::recs::Target;
 use crate::text::{NONE, Piece, Text};
-use definition_log::kinds::{EXTENSION, REFERENCE};
+use definition_log::kinds::EXTENSION;
 use definition_log::parts::Span;
-use paths_numbers::phandle::MirPhandleTarget;
 
 impl LowerCtx {
     // The state for a body; one that is kept adds its extensions to the same chain.
@@ -52,15 +51,13 @@ impl LowerCtx {
         outer: LowerCtx,
         span: Span,
         name_span: Span,
-        kind: MirPhandleTarget,
-        label: &[u8],
-        path: &[u8],
+        target: Target<'_>,
     ) -> LowerCtx
         ensures { LeavesKept self result outer words.old bytes.old words.new bytes.new
-            (target_made kind label.now path.now) (meant span) (meant name_span) }
+            (meant_target target.entry) (meant span) (meant name_span) }
     {
         let with = self.add_extension(words, bytes, span, name_span);
-        let made = with.add_target(words, bytes, self.records, kind, label, path);
+        let made = with.add_target(words, bytes, self.records, target);
         LowerCtx {
             defs: outer.defs,
             part: outer.part,
@@ -107,17 +104,21 @@ impl LowerCtx {
         words: &mut [u32],
         bytes: &mut [u8],
         owner: u32,
-        kind: MirPhandleTarget,
-        label: &[u8],
-        path: &[u8],
+        target: Target<'_>,
     ) -> LowerCtx
         ensures { Told self result words.old bytes.old words.new bytes.new
-            (part_rec reference_kind (target_n kind) 0) (label_in kind label.now) (path_within kind path.now)
-            (child_link owner 0) }
+            (target_rec target.entry.kind) (label_in target.entry.kind target.entry.label.now)
+            (path_within target.entry.kind target.entry.path.now) (child_link owner 0) }
     {
-        let rec = Rec::part(REFERENCE, u32::from(kind), 0);
-        let first = Text::Whole(Piece::Given(label_of(kind, label)));
-        let second = Text::Whole(Piece::Given(path_of(kind, path)));
-        self.make(words, bytes, rec, first, second, child_link(owner, 0))
+        let first = Text::Whole(Piece::Given(target.label_of()));
+        let second = Text::Whole(Piece::Given(target.path_of()));
+        self.make(
+            words,
+            bytes,
+            target.rec(),
+            first,
+            second,
+            child_link(owner, 0),
+        )
     }
 }

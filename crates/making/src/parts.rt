@@ -3,17 +3,15 @@ ghost use Rattle.std.specs.Prelude.{◌≡◌, ◌+◌, ◌*◌, ◌^◌, []};
 ghost use Rattle.definition_log.specs.meaning.Contents.{number, reference, string, cell_list, bytestring, phandle};
 ghost use Rattle.making.specs.machine.Adding.{in_node, in_property, in_cell_list, add_label, add_value, add_cell};
 ghost use Rattle.making.specs.machine.Made.{child_link, with_part, with_last_cell};
-ghost use Rattle.making.specs.machine.Recs.{ToldPart, StepsBytes};
-ghost use Rattle.definition_log.specs.machine.Parts.{target_made};
+ghost use Rattle.making.specs.machine.Recs.{meant_target, ToldPart, StepsBytes};
 ghost use Rattle.making.specs.machine.Represents.{StepsIn};
 
 use crate::add::child_link;
 use crate::ctx::{LowerCtx, Rec};
-use crate::recs::{label_of, path_of};
+use crate::recs::Target;
 use crate::text::{Piece, Text};
-use definition_log::kinds::{BYTESTRING, CELL_LIST, LABEL, NUMBER, REFERENCE, STRING};
+use definition_log::kinds::{BYTESTRING, CELL_LIST, LABEL, NUMBER, STRING};
 use paths_numbers::dt_property::bytestring_len;
-use paths_numbers::phandle::MirPhandleTarget;
 
 impl LowerCtx {
     // A label of a node.
@@ -41,24 +39,16 @@ impl LowerCtx {
     }
 
     // A reference as a value.
-    pub fn add_phandle(
-        self,
-        words: &mut [u32],
-        bytes: &mut [u8],
-        kind: MirPhandleTarget,
-        label: &[u8],
-        path: &[u8],
-    ) -> LowerCtx
+    pub fn add_phandle(self, words: &mut [u32], bytes: &mut [u8], target: Target<'_>) -> LowerCtx
         ensures { StepsIn in_property self result words.old bytes.old words.new bytes.new
-            (add_value (phandle (target_made kind label.now path.now))) }
+            (add_value (phandle (meant_target target.entry))) }
     {
-        let rec = Rec::part(REFERENCE, u32::from(kind), 0);
         self.add_part(
             words,
             bytes,
-            rec,
-            label_of(kind, label),
-            path_of(kind, path),
+            target.rec(),
+            target.label_of(),
+            target.path_of(),
         )
     }
 
@@ -92,24 +82,16 @@ impl LowerCtx {
     }
 
     // A reference in a cell list.
-    pub fn add_reference(
-        self,
-        words: &mut [u32],
-        bytes: &mut [u8],
-        kind: MirPhandleTarget,
-        label: &[u8],
-        path: &[u8],
-    ) -> LowerCtx
+    pub fn add_reference(self, words: &mut [u32], bytes: &mut [u8], target: Target<'_>) -> LowerCtx
         ensures { StepsIn in_cell_list self result words.old bytes.old words.new bytes.new
-            (add_cell (reference (target_made kind label.now path.now))) }
+            (add_cell (reference (meant_target target.entry))) }
     {
-        let rec = Rec::part(REFERENCE, u32::from(kind), 0);
         self.add_cell(
             words,
             bytes,
-            rec,
-            label_of(kind, label),
-            path_of(kind, path),
+            target.rec(),
+            target.label_of(),
+            target.path_of(),
         )
     }
 

@@ -1,10 +1,12 @@
 // What the records that lowering makes say beside their texts.
 ghost use Rattle.std.specs.Prelude.{◌≡◌};
 ghost use Rattle.std.specs.Int.{from_bool};
-ghost use Rattle.making.specs.machine.Recs.{kind_number, omit_number, part_rec, label_in, path_within};
+ghost use Rattle.making.specs.machine.Recs.{kind_number, omit_number, part_rec, target_rec, label_in, path_within};
 
 use crate::ctx::Rec;
-use definition_log::kinds::{DELETED_NODE, DELETED_PROPERTY, NODE, PLUGIN, PROPERTY, VERSION};
+use definition_log::kinds::{
+    DELETED_NODE, DELETED_PROPERTY, NODE, PLUGIN, PROPERTY, REFERENCE, VERSION,
+};
 use definition_log::parts::Span;
 use paths_numbers::phandle::MirPhandleTarget;
 
@@ -63,22 +65,39 @@ impl Rec {
     }
 }
 
-// The label that a reference names, empty where it names none.
-pub(crate) fn label_of(kind: MirPhandleTarget, label: &[u8]) -> &[u8]
-    ensures { result.now ≡ label_in kind label.now }
-{
-    match kind {
-        MirPhandleTarget::Label | MirPhandleTarget::LabelPath => label,
-        MirPhandleTarget::Path => b"",
-    }
+// A reference as it is made: its kind, and the label and the path of which it names one or both.
+#[derive(Clone, Copy, Debug, PartialEq, Eq)]
+pub struct Target<'a> {
+    pub kind: MirPhandleTarget,
+    pub label: &'a [u8],
+    pub path: &'a [u8],
 }
 
-// The path, likewise.
-pub(crate) fn path_of(kind: MirPhandleTarget, path: &[u8]) -> &[u8]
-    ensures { result.now ≡ path_within kind path.now }
-{
-    match kind {
-        MirPhandleTarget::Label => b"",
-        MirPhandleTarget::LabelPath | MirPhandleTarget::Path => path,
+impl<'a> Target<'a> {
+    // Its record.
+    pub(crate) fn rec(self) -> Rec
+        ensures { result ≡ target_rec self.entry.kind }
+    {
+        Rec::part(REFERENCE, u32::from(self.kind), 0)
+    }
+
+    // The label that it names, empty where it names none.
+    pub(crate) fn label_of(self) -> &'a [u8]
+        ensures { result.now ≡ label_in self.entry.kind self.entry.label.now }
+    {
+        match self.kind {
+            MirPhandleTarget::Label | MirPhandleTarget::LabelPath => self.label,
+            MirPhandleTarget::Path => b"",
+        }
+    }
+
+    // The path, likewise.
+    pub(crate) fn path_of(self) -> &'a [u8]
+        ensures { result.now ≡ path_within self.entry.kind self.entry.path.now }
+    {
+        match self.kind {
+            MirPhandleTarget::Label => b"",
+            MirPhandleTarget::LabelPath | MirPhandleTarget::Path => self.path,
+        }
     }
 }

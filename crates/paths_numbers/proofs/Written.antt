@@ -92,5 +92,5 @@ built_behind p d at h =
     let n : 0 + length p ≤ length (drop at d) = omega (arith, length-drop at d) in
     let e = (room p (drop at d) 0 (length p) (written (drop at d) 0 p) refl refl n).1 in
     let f : drop (0 + length p) (drop at d) ≡ drop (at + length p) d =
-        drop-drop (0 + length p) at d ∙ ap (λ (k : ℕ). drop k d) (omega arith) in
+    drop-drop (0 + length p) at d ∙ ap (λ (k : ℕ). drop k d) (omega arith) in
     ap (λ (l : List ℕ). take at d ++ l) (sym e ∙ ap (λ (l : List ℕ). p ++ l) f) ∙ sym (append_assoc (take at d) p (drop (at + length p) d))

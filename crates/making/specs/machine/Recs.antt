@@ -4,13 +4,15 @@ use Rattle.making.specs.declared.ctx.LowerCtx.{LowerCtx}
 use Rattle.making.specs.declared.ctx.Rec.{Rec}
 use Rattle.definition_log.specs.declared.parts.Span as declared
 use Rattle.making.specs.declared.recs.DefKind.{DefKind}
+use Rattle.making.specs.declared.recs.Target.{Target}
 use Rattle.making.specs.declared.recs.DefKind.TheVariants as D
 use Rattle.paths_numbers.specs.meaning.Reference as Reference
 use Rattle.paths_numbers.specs.declared.phandle.MirPhandleTarget.{MirPhandleTarget}
 use Rattle.paths_numbers.specs.declared.phandle.MirPhandleTarget.TheVariants as T
 use Rattle.definition_log.specs.meaning.Contents.{DefValue, node, property, deleted_node, deleted_property, version, plugin, Def, Binding, Diag}
 use Rattle.definition_log.specs.meaning.Contents.{bytestring}
-use Rattle.definition_log.specs.machine.Parts.{meant}
+use Rattle.definition_log.specs.machine.Parts.{meant, target_made}
+use Rattle.definition_log.specs.meaning.Record.{reference_kind}
 use Rattle.definition_log.specs.meaning.Record.{node_kind, property_kind, deleted_node_kind, deleted_property_kind, version_kind, plugin_kind}
 use Rattle.making.specs.machine.Made.{Told}
 use Rattle.making.specs.machine.Adding.{in_property, add_value}
@@ -80,6 +82,13 @@ abbrev pub path_within : MirPhandleTarget → List ℕ → List ℕ
 path_within T.Label p = []
 path_within T.LabelPath p = p
 path_within T.Path p = p
+
+abbrev pub meant_target : Target → Reference.Target
+meant_target t = target_made t.kind t.label.now t.path.now
+
+-- and its record
+abbrev pub target_rec : MirPhandleTarget → Rec
+target_rec kind = part_rec reference_kind (target_n kind) 0
 
 -- a record made below another, as the code answers
 pub record ToldPart (c f : LowerCtx) (words bytes w b : List ℕ) (r : Rec) (x y : List ℕ) (link : ℕ) (with : LowerCtx → ℕ → LowerCtx) : Type

@@ -5,8 +5,8 @@ use Rattle.items.proofs.dt_node.settle_aside.Goals as goal
 pub returns-then-keeps : goal.returns-then-keeps
 returns-then-keeps c = settles_kept _ _ _ _ c.if-keeps.true
     (rw (
-      c.phandle_label_at-label.ensures,
-      c.phandle_path_at-path.ensures,
+      c.phandle_label_at.ensures,
+      c.phandle_path_at.ensures,
       c.span_at-span.ensures,
       c.span_at-name_span.ensures,
     ) at

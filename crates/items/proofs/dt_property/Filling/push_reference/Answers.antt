@@ -1,6 +1,5 @@
 -- A cell more, where it is kept (Filled).
 use Rattle.paths_numbers.specs.meaning.Reference.{Target}
-use Rattle.input.proofs.ValueRead.{same_target}
 use Rattle.std.proofs.Common.{rules}
 use Rattle.items.proofs.Filled.{adding_cells, cell_added, fills_dropped, fills_one, same_fills}
 use Rattle.resolving.proofs.Lowers.{part_grows}
@@ -15,8 +14,6 @@ returns-then-not-self c = let a = c.args in fills_dropped adding_cells a.self.ke
 
 pub returns : goal.returns
 returns c = let a = c.args in
-    same_fills (ap (λ (t : Target). one (reference t)) (same_target a.kind
-    c.label.ensures
-    c.path.ensures))
+    same_fills (ap (λ (t : Target). one (reference t)) c.target_of.ensures)
     (fills_one adding_cells a.self.keep _ _ (search rules) (part_grows _ _) (cell_added _)
     c.add_reference.ensures)

@@ -1,7 +1,7 @@
 -- A value more, where it is kept (Filled).
 use Rattle.paths_numbers.specs.meaning.Reference.{Target}
 use Rattle.std.proofs.Common.{rules}
-use Rattle.input.proofs.ValueRead.{same_target, plain_reports}
+use Rattle.input.proofs.ValueRead.{plain_reports}
 use Rattle.items.proofs.Filled.{adding_values, value_one, fills_dropped, fills_one, same_fills, bytes_fill}
 use Rattle.resolving.proofs.Lowers.{part_grows}
 use Rattle.input.specs.machine.ValueRead.{plain_made}
@@ -36,10 +36,7 @@ returns-in-Bytestring c = let a = c.args in
 pub returns-in-Phandle : goal.returns-in-Phandle
 returns-in-Phandle c = let a = c.args in
     same_fills
-    (ap (λ (t : Target). one (phandle t)) (same_target
-    c.in-Phandle.kind
-    c.label.ensures
-    c.path.ensures)
+    (ap (λ (t : Target). one (phandle t)) c.target_of.ensures
     ∙ sym (ap (plain_made a.value.input.words.now a.value.input.text.now a.value.number)
     c.in-Phandle.is))
     (fills_one adding_values a.self.keep _ _ (search rules) (part_grows _ _)

@@ -1,9 +1,7 @@
 -- A reference made (Typed).
+use Rattle.std.proofs.Common.{refl}
 use Rattle.making.proofs.Typed.{makes_reference}
 use Rattle.making.proofs.ctx.LowerCtx.add_reference.Goals as goal
 
 pub returns : goal.returns
-returns c = let a = c.args in makes_reference c.add_cell.ensures a.kind _ _ _
-    c.part-rec.ensures
-    c.from.ensures
-    c.label_of.ensures c.path_of.ensures
+returns c = makes_reference c.add_cell.ensures c.args.target.kind _ _ _ c.rec.ensures refl c.label_of.ensures c.path_of.ensures

@@ -8,4 +8,4 @@ pub returns : goal.returns
 unfolding left_kept
 returns c =
     let a = c.args in
-    keeps_body a.span a.name_span a.kind _ _ c.add_extension-with.ensures c.add_target-made.ensures refl
+    keeps_body a.span a.name_span a.target.kind _ _ c.add_extension-with.ensures c.add_target-made.ensures refl
