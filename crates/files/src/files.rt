@@ -34,12 +34,9 @@ impl Files<'_> {
     pub fn file_of(self, place: u32) -> u32
         ensures { result ≡ file_of self.entry.starts.now place }
     {
-        let mut found = 0;
-        for (i, start) in self.starts.iter().enumerate() {
-            if *start <= place {
-                found = i as u32;
-            }
-        }
-        found
+        self.starts
+            .iter()
+            .rposition(|&start| start <= place)
+            .unwrap_or(0) as u32
     }
 }

@@ -1,23 +1,14 @@
-use Rattle.std.proofs.Common.{refl, sym, ◌∙◌, arith, le-leb}
-use borrow.Author.Tests.{lt-leb}
+-- The library's last start not above the place is the only one (LastStart).
+use Rattle.std.proofs.Common.{ℕ, ◌≡◌, ◌∙◌, refl, rules}
+use Rattle.std.specs.Prelude.{Option, Some, None}
+use Rattle.std.specs.Option.{unwrap_or}
 use Rattle.files.specs.meaning.Files.{file_of}
-use Rattle.files.proofs.Starts.{last_here, last_done}
+use Rattle.files.proofs.LastStart.{found_last, found_none}
 use Rattle.files.proofs.files.Files.file_of.Goals as goal
-use Rattle.files.proofs.files.Files.file_of.Goals.{then-start-place, else-start-place}
-
-pub loop-i-init : goal.loop-i-init
-unfolding file_of
-loop-i-init c = refl
-
-pub loop-i-preserved : goal.loop-i-preserved
-loop-i-preserved c =
-    let l = c.loop-i in
-    elim c.if-start-place.branch [
-      | then-start-place w ↦ l.invariant ∙ last_here l.found l.i _ c.args.self.starts.now (omega arith) ∙ rw (le-leb _ _ w.if-start-place.true, w.found-is) refl
-      | else-start-place w ↦ l.invariant ∙ last_here l.found l.i _ c.args.self.starts.now (omega arith) ∙ rw (lt-leb _ _ w.if-start-place.false, w.found-is) refl
-    ]
 
 pub returns : goal.returns
-returns c =
-    let l = c.loop-i in
-    sym (l.invariant ∙ last_done l.found l.i _ c.args.self.starts.now (omega arith))
+returns c = c.unwrap_or.ensures ∙ by_result c.rposition.result refl
+  where
+    by_result : (r : Option ℕ) → c.rposition.result ≡ r → unwrap_or r 0 ≡ file_of c.args.self.starts.now c.args.place
+    by_result (Some i) e = found_last c.args.self.starts.now c.args.place i (search rules) (search rules) (search rules)
+    by_result None e = found_none c.args.self.starts.now c.args.place (search rules)
