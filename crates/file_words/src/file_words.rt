@@ -19,7 +19,7 @@ const NAME_FILE: usize = layout::NAME_FILE as usize;
 // Puts the files' numbers into the first records of a log. All kinds are alike: a record without a span has zeros there,
 // and place 0 lies in file 0.
 pub fn put_files(words: &mut [u32], records: u32, files: Files<'_>)
-    requires record_words_in_bounds { records * record_words ≤ length words.old }
+    requires { records * record_words ≤ length words.old }
     ensures { FilesPut files.entry.starts.now words.old words.new records }
 {
     // kept: an index, since what `chunks_exact_mut` lends leaves no word of it known
@@ -30,7 +30,7 @@ pub fn put_files(words: &mut [u32], records: u32, files: Files<'_>)
 
 // Puts them into the record whose words start at `at`.
 fn put_record(words: &mut [u32], at: usize, files: Files<'_>)
-    requires record_words_in_bounds { at + record_words ≤ length words.old }
+    requires { at + record_words ≤ length words.old }
     ensures { words.new ≡ record_put files.entry.starts.now words.old at }
 {
     let file = file_at(words, at, SPAN_START, files);
@@ -41,7 +41,7 @@ fn put_record(words: &mut [u32], at: usize, files: Files<'_>)
 
 // The number of the file in which the place lies that word `i` of the record at `at` holds.
 fn file_at(words: &[u32], at: usize, i: usize, files: Files<'_>) -> u32
-    requires i_in_bounds { at + i < length words.now }
+    requires { at + i < length words.now }
     ensures { result ≡ file_of files.entry.starts.now (get_or words.now (at + i) 0) }
 {
     files.file_of(words[at + i])
