@@ -1,11 +1,11 @@
 -- The number of a place's file is that of the last start not above it, in plain words.
 use Prim.Native.Nat.{ℕ, zero, suc, ◌+◌, ◌≤◌, ◌<◌}
-use mathlib.Core.Path.{◌≡◌, refl}
+use mathlib.Core.Path.{◌≡◌, refl, sym}
 use mathlib.Core.Bool.{true, false, cond}
 use mathlib.Core.List.{List, [], ◌∷◌}
 use native.Mathlib.Omega.{arith}
-use borrow.Author.Tests.{eqb-true, leb-true, leb-false}
-use lib.Dec.{eqb, leb}
+use borrow.Author.Tests.{eqb-true, leb-true, leb-false, ltb-true, ltb-false}
+use lib.Dec.{eqb, leb, ltb}
 use lib.ListN.{length, get_or}
 use Rattle.paths_numbers.proofs.Texts.{by_test, not_both, both}
 use Rattle.files.specs.meaning.Files.{most_files, rises, good_files, last_from, file_of, LastNotAbove, FileIsLast}
@@ -63,3 +63,27 @@ file_is_last starts place good = go (searched 0 0 place starts)
         let b = begins_with_0 starts good in
         absurd (omega (arith, f 0 b.0, b.1))
     go (one_not j h e p f) = let q : last_from 0 0 starts place ≡ j = omega arith in rw q (record { one = h; not_above = p; last = f })
+
+-- the only one
+pub found_last : (starts : List ℕ) (place i : ℕ) → i < length starts → get_or starts i 0 ≤ place
+    → ((k : ℕ) → i + 1 ≤ k → k < length starts → place < get_or starts k 0) → i ≡ file_of starts place
+unfolding file_of
+found_last starts place i h p f = go (searched 0 0 place starts)
+  where
+    go : Searched 0 0 place starts (last_from 0 0 starts place) → i ≡ last_from 0 0 starts place
+    go (all_above e g) = absurd (omega (arith, g i h))
+    go (one_not j h' e p' g) =
+        by_test (ltb i j)
+        (λ t. absurd (omega (arith, f j (omega (arith, ltb-true i j t)) h')))
+        (λ t. by_test (ltb j i)
+        (λ u. absurd (omega (arith, g i (ltb-true j i u) h)))
+        (λ u. omega (arith, ltb-false i j t, ltb-false j i u)))
+
+-- where there is none, file 0
+pub found_none : (starts : List ℕ) (place : ℕ) → ((k : ℕ) → k < length starts → place < get_or starts k 0) → 0 ≡ file_of starts place
+unfolding file_of
+found_none starts place f = go (searched 0 0 place starts)
+  where
+    go : Searched 0 0 place starts (last_from 0 0 starts place) → 0 ≡ last_from 0 0 starts place
+    go (all_above e g) = sym e
+    go (one_not j h e p g) = absurd (omega (arith, f j h))

@@ -1,30 +1,16 @@
 -- Starts of files, one by one.
 use Prim.Native.Nat.{ℕ, zero, suc, ◌+◌, ◌≤◌, ◌<◌}
-use mathlib.Core.Path.{◌≡◌, refl, sym, ap, ◌∙◌}
-use mathlib.Core.Bool.{Bool, true, false, cond}
+use mathlib.Core.Path.{◌≡◌, refl, sym}
+use mathlib.Core.Bool.{Bool, true, false}
 use mathlib.Core.List.{List, [], ◌∷◌}
 use native.Mathlib.Omega.{arith}
 use borrow.Author.Tests.{eqb-true, leb-true, ltb-true, le-leb, lt-leb}
 use lib.Dec.{eqb, leb, ltb}
 use Rattle.paths_numbers.proofs.Texts.{by_test, not_both, both}
-use lib.ListN.{length, get_or, drop, drop_of_length-le}
-use lib.Seq.{drop-cons}
+use lib.ListN.{length, get_or}
 use native.Mathlib.Numerals.{add-one}
 use Rattle.std.specs.List.{IsAllAdjacentAnswer}
 use Rattle.files.specs.meaning.Files.{most_files, rises, good_files, last_from, file_of}
-
--- the last start not above a place: one more, and none left
-pub last_here : (found i place : ℕ) (s : List ℕ) → i < length s
-    → last_from found i (drop i s) place ≡ last_from (cond (leb (get_or s i 0) place) i found) (i + 1) (drop (i + 1) s) place
-unfolding last_from
-last_here found i place s h =
-    let e : suc i ≡ i + 1 = omega arith in
-    ap (λ (l : List ℕ). last_from found i l place) (drop-cons s i 0 h)
-    ∙ ap (λ (k : ℕ). last_from (cond (leb (get_or s i 0) place) i found) (i + 1) (drop k s) place) e
-
-pub last_done : (found i place : ℕ) (s : List ℕ) → length s ≤ i → last_from found i (drop i s) place ≡ found
-unfolding last_from
-last_done found i place s h = rw (drop_of_length-le s h) refl
 
 -- a list rises where each entry is above the one before it, and does not where one is not
 all_rise : (s : List ℕ) → ((k d : ℕ) → suc k < length s → true ≡ ltb (get_or s k d) (get_or s (suc k) d)) → rises s ≡ true

@@ -22,16 +22,21 @@ fn does_rise(starts: &[u32]) -> bool
     starts.is_sorted_by(|a, b| a < b)
 }
 
-// The number of the last start that is not above a place.
-pub fn file_of(starts: &[u32], place: u32) -> u32
-    requires { length starts.now ≤ most_files }
-    ensures { result ≡ file_of starts.now place }
-{
-    let mut found = 0;
-    for (i, start) in starts.iter().enumerate() {
-        if *start <= place {
-            found = i as u32;
-        }
+// The files' start offsets, of which there are few.
+#[derive(Clone, Copy)]
+pub struct Files<'a> {
+    pub starts: &'a [u32],
+    pub ghost few: { length starts.now ≤ most_files },
+}
+
+impl Files<'_> {
+    // The number of the last start that is not above a place.
+    pub fn file_of(self, place: u32) -> u32
+        ensures { result ≡ file_of self.entry.starts.now place }
+    {
+        self.starts
+            .iter()
+            .rposition(|&start| start <= place)
+            .unwrap_or(0) as u32
     }
-    found
 }

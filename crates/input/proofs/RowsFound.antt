@@ -17,7 +17,7 @@ use Rattle.input.specs.machine.Rising.{known, finds}
 use Rattle.input.specs.machine.RowsPass.{stand_of, Stands, breaks, fault_by, first_fault, rows_from, later_rows}
 use Rattle.input.proofs.Search.{lowest_same}
 use Rattle.input.specs.machine.Linked.{Link}
-use Rattle.input.proofs.Rows.{links, sizes}
+use Rattle.input.proofs.Rows.{links}
 use Rattle.input.proofs.Rising.{looked_apart, known_number, rising}
 use Rattle.input.proofs.RowsStands.{stand_some, stand_back}
 
@@ -75,10 +75,7 @@ module _ (words : List ℕ) (e : row_two words ≡ none) where
         fault_known row k (known words k k) a (λ z. omega arith) (stand_at k (λ z. omega arith) y) (λ v z. known_number words k k v z))
         ∙ ap (λ (o : Option ℕ). cond (fault_by row words text stands 0) (some 0) o) (sym (rising words e (breaks row words text) b))
 
-    module _ (z : wrong_size words text ≡ false) where
-      some_records : 0 < record_count words
-      some_records = (sizes words text z).least
-
+    module _ (some_records : 0 < record_count words) where
       found_three : first_fault 3 words text stands ≡ row_three words text
       unfolding first_fault row_three fault_by
       found_three = refl

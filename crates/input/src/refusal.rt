@@ -23,6 +23,16 @@ use paths_numbers::phandle::first_slash;
 // kept: fixed memory, of which an array of places and depths takes three times as much
 const PLACES: u32 = 16;
 
+// The records of an input, as many as row 1 leaves.
+#[derive(Clone, Copy)]
+struct Records<'a> {
+    words: &'a [u32],
+    count: u32,
+    ghost counted: { count ≡ record_count words.now },
+    ghost some: { 0 < count },
+    ghost few: { count ≤ most_records },
+}
+
 // The first cause against an input.
 pub fn check_input(words: &[u32], text: &[u8]) -> Result<(), Refusal>
     ensures { told result ≡ verdict words.now text.now }
@@ -30,11 +40,13 @@ pub fn check_input(words: &[u32], text: &[u8]) -> Result<(), Refusal>
     if wrong_size(words, text) {
         return Err(Refusal::Size);
     }
+    let count = (words.len() / layout::RECORD_WORDS) as u32;
+    let records = Records { words, count };
     let mut marks = [0u32; MOST_RECORDS];
-    if let Some(r) = first_bad_links(words, &mut marks) {
+    if let Some(r) = first_bad_links(records, &mut marks) {
         return Err(Refusal::Link(r));
     }
-    check_linked(words, text)
+    check_linked(records, text)
 }
 
 // Row 1.
@@ -55,42 +67,40 @@ fn wrong_size(words: &[u32], text: &[u8]) -> bool
 }
 
 // Row 2: the lowest record with a link at fault.
-fn first_bad_links(words: &[u32], marks: &mut [u32]) -> Option<u32>
-    requires words_bound { record_count words.now ≤ most_records }
-    requires marks { Marks words.now 0 marks.old }
-    ensures { found_in result ≡ row_two words.now }
+fn first_bad_links(records: Records<'_>, marks: &mut [u32]) -> Option<u32>
+    requires { Marks records.words.now 0 marks.old }
+    ensures { found_in result ≡ row_two records.entry.words.now }
 {
-    for r in 0..record_count(words) {
-        if bad_links(words, marks, r) {
+    for r in 0..records.count {
+        if bad_links(records, marks, r) {
             return Some(r);
         }
-        mark_links(words, marks, r);
+        mark_links(records.words, marks, r);
     }
     None
 }
 
 // Whether a record has a link at fault.
-fn bad_links(words: &[u32], marks: &[u32], r: u32) -> bool
-    requires words_bound { record_count words.now ≤ most_records }
-    requires marks { Marks words.now r marks.now }
-    ensures { result ≡ bad_links words.now r }
+fn bad_links(records: Records<'_>, marks: &[u32], r: u32) -> bool
+    requires { Marks records.words.now r marks.now }
+    ensures { result ≡ bad_links records.entry.words.now r }
 {
+    let words = records.words;
     let next = next_at(words, r);
     let child = child_at(words, r);
-    if bad_link(words, marks, r, &[], next) {
+    if bad_link(records, marks, r, &[], next) {
         return true;
     }
-    if bad_link(words, marks, r, &[next], child) {
+    if bad_link(records, marks, r, &[next], child) {
         return true;
     }
-    bad_link(words, marks, r, &[next, child], second_at(words, r))
+    bad_link(records, marks, r, &[next, child], second_at(words, r))
 }
 
 // Whether a link of a record is at fault, where these are the record's links before it.
-fn bad_link(words: &[u32], marks: &[u32], r: u32, earlier: &[u32], l: u32) -> bool
-    requires words_bound { record_count words.now ≤ most_records }
-    requires marks { Marks words.now r marks.now }
-    ensures { result ≡ bad_link words.now r earlier.now l }
+fn bad_link(records: Records<'_>, marks: &[u32], r: u32, earlier: &[u32], l: u32) -> bool
+    requires { Marks records.words.now r marks.now }
+    ensures { result ≡ bad_link records.entry.words.now r earlier.now l }
 {
     if l == 0 {
         return false;
@@ -98,7 +108,7 @@ fn bad_link(words: &[u32], marks: &[u32], r: u32, earlier: &[u32], l: u32) -> bo
     if l <= r {
         return true;
     }
-    if record_count(words) <= l {
+    if records.count <= l {
         return true;
     }
     if earlier.contains(&l) {
@@ -117,44 +127,42 @@ fn mark_links(words: &[u32], marks: &mut [u32], r: u32)
 }
 
 // Rows 3 to 6, once links go up.
-fn check_linked(words: &[u32], text: &[u8]) -> Result<(), Refusal>
-    requires text_value { wrong_size words.now text.now ≡ false }
-    requires words_value { row_two words.now ≡ none }
-    ensures { told result ≡ later_rows words.now text.now }
+fn check_linked(records: Records<'_>, text: &[u8]) -> Result<(), Refusal>
+    requires { row_two records.words.now ≡ none }
+    ensures { told result ≡ later_rows records.entry.words.now text.now }
 {
     let mut stands = [0u32; MOST_RECORDS];
-    find_stands(words, &mut stands);
-    check_reached(words, text, &stands)
+    find_stands(records, &mut stands);
+    check_reached(records, text, &stands)
 }
 
 // Rows 3 to 6, by how the records stand.
-fn check_reached(words: &[u32], text: &[u8], stands: &[u32]) -> Result<(), Refusal>
-    requires { record_count words.now ≤ most_records }
-    ensures { told result ≡ rows_from 4 3 words.now text.now stands.now }
+fn check_reached(records: Records<'_>, text: &[u8], stands: &[u32]) -> Result<(), Refusal>
+    ensures { told result ≡ rows_from 4 3 records.entry.words.now text.now stands.now }
 {
-    if let Some(r) = first_bad_text(words, text) {
+    if let Some(r) = first_bad_text(records, text) {
         return Err(Refusal::Text(r));
     }
-    if let Some(r) = first_unfit(words, stands) {
+    if let Some(r) = first_unfit(records, stands) {
         return Err(Refusal::Kind(r));
     }
-    if let Some(r) = first_misnamed(words, text, stands) {
+    if let Some(r) = first_misnamed(records, text, stands) {
         return Err(Refusal::Name(r));
     }
-    if let Some(r) = first_too_deep(words, stands) {
+    if let Some(r) = first_too_deep(records, stands) {
         return Err(Refusal::Depth(r));
     }
     Ok(())
 }
 
 // How each record stands: what a record is told by the one that leads to it.
-fn find_stands(words: &[u32], stands: &mut [u32])
-    requires words_nonzero { (0 < record_count words.now) × (record_count words.now ≤ most_records) }
-    requires stands { Stands words.now 0 stands.old }
-    ensures { Stands words.now (record_count words.now) stands.new }
+fn find_stands(records: Records<'_>, stands: &mut [u32])
+    requires { Stands records.words.now 0 stands.old }
+    ensures { Stands records.entry.words.now records.entry.count stands.new }
 {
+    let words = records.words;
     store(stands, child_at(words, 0), PLACES + u32::from(Place::Items));
-    for r in 1..record_count(words) {
+    for r in 1..records.count {
         lead_on(words, r, number_in(stands, r), stands);
     }
 }
@@ -183,35 +191,31 @@ fn lead_on(words: &[u32], r: u32, stand: u32, stands: &mut [u32])
 }
 
 // Row 3: the lowest record whose text ends behind the text.
-fn first_bad_text(words: &[u32], text: &[u8]) -> Option<u32>
-    requires { record_count words.now ≤ most_records }
-    ensures { (stands : List ℕ) → found_in result ≡ first_fault 3 words.now text.now stands }
+fn first_bad_text(records: Records<'_>, text: &[u8]) -> Option<u32>
+    ensures { (stands : List ℕ) → found_in result ≡ first_fault 3 records.entry.words.now text.now stands }
 {
-    (0..record_count(words)).find(|&r| bad_text(words, text, r))
+    (0..records.count).find(|&r| bad_text(records.words, text, r))
 }
 
 // Row 4: the lowest record that is unfit.
-fn first_unfit(words: &[u32], stands: &[u32]) -> Option<u32>
-    requires { record_count words.now ≤ most_records }
-    ensures { (text : List ℕ) → found_in result ≡ first_fault 4 words.now text stands.now }
+fn first_unfit(records: Records<'_>, stands: &[u32]) -> Option<u32>
+    ensures { (text : List ℕ) → found_in result ≡ first_fault 4 records.entry.words.now text stands.now }
 {
-    (0..record_count(words)).find(|&r| unfit_at(words, stands, r))
+    (0..records.count).find(|&r| unfit_at(records.words, stands, r))
 }
 
 // Row 5: the lowest record with a bad name.
-fn first_misnamed(words: &[u32], text: &[u8], stands: &[u32]) -> Option<u32>
-    requires { record_count words.now ≤ most_records }
-    ensures { found_in result ≡ first_fault 5 words.now text.now stands.now }
+fn first_misnamed(records: Records<'_>, text: &[u8], stands: &[u32]) -> Option<u32>
+    ensures { found_in result ≡ first_fault 5 records.entry.words.now text.now stands.now }
 {
-    (0..record_count(words)).find(|&r| misnamed_at(words, text, stands, r))
+    (0..records.count).find(|&r| misnamed_at(records.words, text, stands, r))
 }
 
 // Row 6: the lowest record that more links lead to than may.
-fn first_too_deep(words: &[u32], stands: &[u32]) -> Option<u32>
-    requires { record_count words.now ≤ most_records }
-    ensures { (text : List ℕ) → found_in result ≡ first_fault 6 words.now text stands.now }
+fn first_too_deep(records: Records<'_>, stands: &[u32]) -> Option<u32>
+    ensures { (text : List ℕ) → found_in result ≡ first_fault 6 records.entry.words.now text stands.now }
 {
-    (0..record_count(words)).find(|&r| too_deep_at(stands, r))
+    (0..records.count).find(|&r| too_deep_at(stands, r))
 }
 
 // Row 4, of record 0 and of another record that is reached.
@@ -323,14 +327,6 @@ fn holds_slash(text: &[u8]) -> bool
     ensures { result ≡ holds_slash text.now }
 {
     first_slash(text) < text.len()
-}
-
-// How many records the words hold.
-fn record_count(words: &[u32]) -> u32
-    requires { record_count words.now ≤ most_records }
-    ensures { result ≡ record_count words.now }
-{
-    (words.len() / layout::RECORD_WORDS) as u32
 }
 
 // What an array says of a record.

@@ -12,7 +12,7 @@ ghost use Rattle.lowering.specs.meaning.Lowered.{meaning, Lowered};
 use crate::lower_item::lower_items;
 use definition_log::answer::Refusal;
 use file_words::file_words::put_files;
-use files::files::good_files;
+use files::files::{Files, good_files};
 use input::limits::MOST_LINKS;
 use input::linked::Input;
 use input::record::child_at;
@@ -44,42 +44,24 @@ pub fn lower(
         return Err(Refusal::Level);
     }
     check_input(words, text)?;
-    lower_accepted(Input { words, text }, level, starts, out, bytes)
-}
-
-// Lowers an accepted input, if the files' starts are good.
-fn lower_accepted(
-    input: Input<'_>,
-    level: u32,
-    starts: &[u32],
-    out: &mut [u32],
-    bytes: &mut [u8],
-) -> Result<u32, Refusal>
-    requires level_value { is_level level ≡ true }
-    requires text_value { verdict input.words.now input.text.now ≡ accepted }
-    ensures { Lowered level starts.now input.entry.words.now input.entry.text.now out.old
-        bytes.old (told result)
-        out.new
-        bytes.new }
-{
     if !good_files(starts) {
         return Err(Refusal::Files);
     }
-    lower_files(input, level, starts, out, bytes)
+    lower_files(Input { words, text }, level, Files { starts }, out, bytes)
 }
 
 // Lowers an accepted input of these files. A log that does not fit is cleared away, by row 7.
 fn lower_files(
     input: Input<'_>,
     level: u32,
-    starts: &[u32],
+    files: Files<'_>,
     out: &mut [u32],
     bytes: &mut [u8],
 ) -> Result<u32, Refusal>
     requires level_value { is_level level ≡ true }
     requires text_value { verdict input.words.now input.text.now ≡ accepted }
-    requires starts_value { good_files starts.now ≡ true }
-    ensures { Lowered level starts.now input.entry.words.now input.entry.text.now out.old
+    requires files_value { good_files files.starts.now ≡ true }
+    ensures { Lowered level files.entry.starts.now input.entry.words.now input.entry.text.now out.old
         bytes.old (told result)
         out.new
         bytes.new }
@@ -92,7 +74,7 @@ fn lower_files(
         return Err(Refusal::Room);
     }
     checked.finish(out, reported);
-    put_files(out, checked.records, starts);
+    put_files(out, checked.records, files);
     Ok(0)
 }
 

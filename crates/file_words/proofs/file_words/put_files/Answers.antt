@@ -1,4 +1,3 @@
-use borrow.Author.Rules.{rules}
 use mathlib.Core.Path.{◌≡◌}
 use native.Mathlib.Omega.{arith}
 use Rattle.file_words.proofs.PutOne.{put_none, put_next}
@@ -8,7 +7,7 @@ pub loop-r-init : goal.loop-r-init
 loop-r-init c = put_none _ _
 
 pub put_record-requires : goal.put_record-requires
-put_record-requires c = record { record_words_in_bounds = omega (arith, c.loop-r.invariant.same_length); starts_len_bound = search rules }
+put_record-requires c = omega (arith, c.loop-r.invariant.same_length)
 
 pub loop-r-preserved : goal.loop-r-preserved
 loop-r-preserved c =

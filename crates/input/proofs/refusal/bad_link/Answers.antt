@@ -17,15 +17,15 @@ pub returns-then-l-r : goal.returns-then-l-r
 unfolding bad_link
 returns-then-l-r c = rw (ne_eqb _ _ c.if-l-eq0.false, le-leb _ _ c.if-l-r.true) refl
 
-pub returns-then-record_count-l : goal.returns-then-record_count-l
+pub returns-then-records-l : goal.returns-then-records-l
 unfolding bad_link
-returns-then-record_count-l c =
+returns-then-records-l c =
     rw (
       ne_eqb _ _ c.if-l-eq0.false,
       lt-leb _ _ c.if-l-r.false,
       ap
-          (λ (n : ℕ). leb n c.args.l) (sym c.record_count.ensures)
-          ∙ le-leb _ _ c.if-record_count-l.true,
+          (λ (n : ℕ). leb n c.args.l) (sym c.args.records.counted)
+          ∙ le-leb _ _ c.if-records-l.true,
     ) refl
 
 pub returns-then-contains : goal.returns-then-contains
@@ -36,15 +36,15 @@ returns-then-contains c =
       lt-leb _ _ c.if-l-r.false,
       ap
           (λ (n : ℕ). leb n c.args.l)
-          (sym c.record_count.ensures)
-          ∙ lt-leb _ _ c.if-record_count-l.false,
+          (sym c.args.records.counted)
+          ∙ lt-leb _ _ c.if-records-l.false,
       sym (c.contains.ensures.value ∙ any_contains c.args.l c.args.earlier.now) ∙ c.if-contains.true,
     ) refl
 
 pub returns : goal.returns
 unfolding bad_link
 returns c =
-    let m = c.requires.marks in
+    let m = c.requires in
     ap (λ (v : ℕ). not (eqb v 0)) c.number_in.ensures ∙ m.tell
     c.args.l (omega (arith, m.room))
     ∙ rw (
@@ -53,7 +53,7 @@ returns c =
           c.if-l-r.false,
       ap
           (λ (n : ℕ). leb n c.args.l)
-          (sym c.record_count.ensures)
-          ∙ lt-leb _ _ c.if-record_count-l.false,
+          (sym c.args.records.counted)
+          ∙ lt-leb _ _ c.if-records-l.false,
       sym (c.contains.ensures.value ∙ any_contains c.args.l c.args.earlier.now) ∙ c.if-contains.false,
     ) refl

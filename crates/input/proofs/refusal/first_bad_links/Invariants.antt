@@ -7,4 +7,4 @@ use Rattle.input.proofs.refusal.first_bad_links.Given as goal
 
 abbrev pub invariant-loop-r : goal.invariant-loop-r
 invariant-loop-r l =
-    Marks l.words l.r l.marks × (lowest (bad_links l.words) l.r-end 0 ≡ lowest (bad_links l.words) (l.r-end - l.r) l.r)
+    Marks l.records.words.now l.r l.marks × (lowest (bad_links l.records.words.now) l.records.count 0 ≡ lowest (bad_links l.records.words.now) (l.records.count - l.r) l.r)

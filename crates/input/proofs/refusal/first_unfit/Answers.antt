@@ -12,8 +12,8 @@ use Rattle.input.proofs.refusal.first_unfit.Goals as goal
 pub returns : goal.returns
 unfolding first_fault
 returns c =
-    λ text. let test = fault_by 4 c.args.words.now text c.args.stands.now in
-    let n = c.record_count.result in
+    λ text. let test = fault_by 4 c.args.records.words.now text c.args.stands.now in
+    let n = c.args.records.count in
     lowest_search test n _
     (find_from_yields_List test _ _ _ c.find.ensures.ran (YieldsList-from_range 0 n n (cc) (sub-zero n)) (λ x b q k. search (rules, tests)))
-    ∙ ap (λ k. lowest test k 0) c.record_count.ensures
+    ∙ ap (λ k. lowest test k 0) c.args.records.counted
