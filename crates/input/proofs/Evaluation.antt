@@ -20,14 +20,14 @@ use Rattle.input.specs.meaning.Expr.{Outcome, value, fails, missing, with_value,
 use Rattle.input.specs.meaning.Expr.{infix_of, combined, eval, evals}
 use Rattle.input.specs.meaning.Input.{record_count, kind_at, next_at, child_at, number_at, span_at, text_at, chain_at}
 use Rattle.input.specs.machine.At.{record_at}
-use Rattle.input.specs.machine.Linked.{Linked, At, ChainIn}
+use Rattle.input.specs.machine.Linked.{Linked, At}
 use Rattle.input.specs.machine.Read.{after_at}
 use Rattle.input.specs.machine.Evaluation.{outcome_of, failure, is_logical, decides}
 use Rattle.input.specs.machine.Reported.{reports_of}
 use Rattle.input.specs.declared.report.Report.{Report}
 use Rattle.input.specs.declared.report.Report.TheVariants as D
 use Rattle.input.proofs.Input.{chain_none, chain_more}
-use Rattle.input.proofs.Read.{after_some, before_some, chain_after}
+use Rattle.input.proofs.Read.{ChainIn, after_some, before_some, chain_after}
 
 -- a failure of an operand is the whole's
 pub failure_passes : (words text : List ℕ) (e : Result ℤ Report) (d : Report) (f : ℤ → Outcome ℤ) → e ≡ Err d

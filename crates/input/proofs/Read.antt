@@ -9,18 +9,18 @@ use borrow.Author.Tests.{ne_eqb, eqb-true}
 use lib.Dec.{eqb}
 use Rattle.paths_numbers.proofs.Texts.{by_test}
 use Rattle.input.specs.meaning.Tree.{Tree, Trees, empty, more, kind_of, first_of, has}
-use Rattle.input.specs.meaning.Input.{record_count, kind_at, next_at, child_at, second_at, chain_at, parts_at}
+use Rattle.input.specs.meaning.Input.{record_count, kind_at, next_at, child_at, chain_at, parts_at}
 use Rattle.input.specs.declared.linked.Input.{Input}
 use Rattle.input.specs.machine.At.{record_at}
 use Rattle.input.specs.machine.Fits.{depth_of, depths_of}
-use Rattle.input.specs.machine.Linked.{Linked, RecordIn, ChainIn}
+use Rattle.input.specs.machine.Linked.{Linked, At}
 use Rattle.std.specs.Prelude.{Option as Maybe, Some, None, is_some}
 use Rattle.std.specs.List.{find}
 use Rattle.std.specs.Option.{option_map}
 use Rattle.input.specs.machine.ChainLeft.{trees_of, AreRecords, chain_left, trees_over, trees_left}
 use Rattle.input.specs.declared.linked.Chain.{Chain}
 use Rattle.input.specs.declared.linked.Record.{Record}
-use Rattle.input.specs.machine.OfRecord.{tree_of}
+use Rattle.input.specs.machine.OfRecord.{tree_of, parts_of, contents_of}
 use Rattle.input.specs.machine.Read.{after_at, optional, FirstOf}
 use Rattle.input.proofs.Input.{chain_more}
 use Rattle.input.proofs.ChainLeft.{chain_is, are_records, parts_over}
@@ -115,17 +115,18 @@ module _ (words : List ℕ) (l : Linked words) (r : ℕ) (n : r ≡ 0 → ⊥) (
   unfolding depths_of
   depths_more text = rw (chain_more words l text r n a) refl
 
--- what is no deeper than a nesting, by its words
-pub record_in : (r : Record) (nesting : ℕ) → depth_of (tree_of r) ≤ nesting → RecordIn r.input.words.now r.input.text.now r.number nesting
-record_in r nesting h = record { there = r.known; shallow = h }
+-- the chain from a record on, which may be empty: no deeper than a nesting
+pub record ChainIn (words text : List ℕ) (first nesting : ℕ) : Type 0 where
+  pub at : At words first
+  pub shallow : depths_of (chain_at words text first) ≤ nesting
 
 pub chain_in : (c : Chain) (nesting : ℕ) → depths_of (trees_left c) ≤ nesting → ChainIn c.input.words.now c.input.text.now c.next nesting
 chain_in c nesting h = record { at = c.at; shallow = h }
 
 module _ (words text : List ℕ) (l : Linked words) (r nesting : ℕ) where
   -- the first record of a chain, and what follows it
-  pub chain_first : ChainIn words text r nesting → (r ≡ 0 → ⊥) → RecordIn words text r nesting
-  chain_first h n = record { there = h.at n; shallow = omega (arith, depths_more words l r n (h.at n) text, h.shallow) }
+  pub chain_first : ChainIn words text r nesting → (r ≡ 0 → ⊥) → depth_of (record_at words text r) ≤ nesting
+  chain_first h n = omega (arith, depths_more words l r n (h.at n) text, h.shallow)
 
   pub chain_next : ChainIn words text r nesting → (r ≡ 0 → ⊥) → ChainIn words text (next_at words r) nesting
   chain_next h n =
@@ -134,18 +135,19 @@ module _ (words text : List ℕ) (l : Linked words) (r nesting : ℕ) where
         shallow = omega (arith, depths_more words l r n (h.at n) text, h.shallow);
       }
 
-  -- a nesting is left for each record, and one less for the chains below it
-  pub some_nesting : RecordIn words text r nesting → 1 ≤ nesting
+-- a nesting is left for each record, and one less for the chains below it
+module _ (r : Record) (nesting : ℕ) (h : depth_of (tree_of r) ≤ nesting) where
+  pub some_nesting : 1 ≤ nesting
   unfolding depth_of record_at
-  some_nesting h = omega (arith, h.shallow)
+  some_nesting = omega (arith, h)
 
-  pub children_in : RecordIn words text r nesting → ChainIn words text (child_at words r) (nesting - 1)
+  pub parts_shallow : depths_of (parts_of r) ≤ nesting - 1
   unfolding depth_of record_at
-  children_in h = record { at = (l.all r h.there).child.within; shallow = omega (arith, h.shallow) }
+  parts_shallow = omega (arith, h)
 
-  pub second_in : RecordIn words text r nesting → ChainIn words text (second_at words r) (nesting - 1)
+  pub contents_shallow : depths_of (contents_of r) ≤ nesting - 1
   unfolding depth_of record_at
-  second_in h = record { at = (l.all r h.there).second.within; shallow = omega (arith, h.shallow) }
+  contents_shallow = omega (arith, h)
 
 -- the record behind another, where there is one
 pub after_none : (words : List ℕ) → after_at words 0 ≡ 0

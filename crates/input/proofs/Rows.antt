@@ -17,7 +17,7 @@ use Rattle.input.specs.meaning.Input.{record_words, record_count, kind_at, next_
 use Rattle.input.specs.meaning.Input.{second_at, number_at, trees_at, chain_at, description}
 use Rattle.input.specs.meaning.Place.{InputPlace, items, child_place, second_place, fits_alone}
 use Rattle.input.specs.machine.Fits.{fits_places, depths_of}
-use Rattle.input.specs.machine.Linked.{Link, Links, Linked, ChainIn}
+use Rattle.input.specs.machine.Linked.{Link, Links, Linked, At}
 use Rattle.input.specs.meaning.Rows.{Verdict, accepted, refused, most_records, most_text, most_links, wrong_size, links_of, linked_below}
 use Rattle.input.specs.meaning.Rows.{bad_link, bad_links, row_two, bad_text, row_three, Visit, visits, visits_from, reached, lowest_of}
 use Rattle.input.specs.meaning.Rows.{unfit, bad_head, row_four, bad_name, row_five, too_deep, row_six, or_else, verdict}
@@ -255,10 +255,5 @@ module _ (words text : List ℕ) where
   accepted_linked e = links words (accepted_rows words text e).two
 
   -- its top items
-  pub accepted_chain : verdict words text ≡ accepted → ChainIn words text (child_at words 0) most_links
-  unfolding description
-  accepted_chain e =
-      record {
-        at = ((accepted_linked e).all 0 (sizes words text (accepted_rows words text e).one).least).child.within;
-        shallow = accepted_depth e;
-      }
+  pub accepted_at : verdict words text ≡ accepted → At words (child_at words 0)
+  accepted_at e = ((accepted_linked e).all 0 (sizes words text (accepted_rows words text e).one).least).child.within

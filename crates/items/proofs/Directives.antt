@@ -35,11 +35,12 @@ use Rattle.items.specs.meaning.Lower.{bare, delete_node, delete_resolved, delete
 use Rattle.items.specs.meaning.Lower.{delete_property_named, lower_directive, version_directive, plugin_directive, include_directive}
 use Rattle.items.specs.meaning.Lower.{delete_node_directive, delete_property_directive}
 use Rattle.resolving.specs.machine.Lowers.{Lowers, LowersAt}
-use Rattle.input.specs.machine.Read.{optional, FirstOf}
+use Rattle.input.specs.machine.Read.{FirstOf}
 use Rattle.input.specs.machine.ChainLeft.{trees_left}
 use Rattle.input.specs.declared.linked.Chain.{Chain}
 use Rattle.input.specs.machine.NameRead.{name_text, unit_text, is_there, full_read, FullNameRead}
-use Rattle.input.specs.machine.PhandleRead.{phandle_read}
+use Rattle.input.specs.machine.OfRecord.{tree_of, phandle_told}
+use Rattle.input.specs.declared.linked.Record.{Record}
 use Rattle.input.specs.meaning.GoodName.{good_names_in}
 use Rattle.resolving.specs.machine.Leading.{resolution, bound_by, Leads, ReportsMissing}
 use Rattle.items.specs.declared.unbind.Below.{Below}
@@ -54,7 +55,7 @@ use Rattle.resolving.specs.declared.resolve.Missing.TheVariants as M
 use Rattle.input.proofs.Read.{first_missing, first_there}
 use Rattle.input.proofs.NameRead.{full_joined}
 use Rattle.resolving.proofs.Lowers.{Grows, define_grows, emit_grows, steps_lower}
-use Rattle.resolving.proofs.Under.{steps_under, lowers_under, idle, idle_under}
+use Rattle.resolving.proofs.Under.{steps_under, lowers_under, idle_under}
 use Rattle.resolving.proofs.Leading.{joined_plain}
 use Rattle.items.proofs.Deleting.{delete_grows}
 
@@ -176,18 +177,13 @@ referenced_grows span none s = (omega arith, omega arith)
 pub reference_grows : (span : Span) (o : Option Tree) → Grows (delete_referenced span o)
 reference_grows span o = record { records = λ s. (referenced_grows span o s).0; bytes = λ s. (referenced_grows span o s).1 }
 
--- by a reference, where there is one
-module _ (words text : List ℕ) (reference : Maybe ℕ) (span : Span) where
-  pub no_reference_lem : {c : LowerCtx} {out bytes : List ℕ} → reference ≡ None
-      → Lowers c c out bytes out bytes (delete_referenced span (optional words text reference))
-  no_reference_lem e = idle (λ s. rw e refl)
-
-  pub a_reference_lem : {c d : LowerCtx} {out bytes w b : List ℕ} (read : Result MirPhandleTarget Report) (r : ℕ) → reference ≡ Some r
-      → phandle_read words text r read ≡ lower_phandle (record_at words text r)
-      → Lowers c d out bytes w b (delete_target (record_at words text r) span (phandle_read words text r read).reports
-      (phandle_read words text r read).result)
-      → Lowers c d out bytes w b (delete_referenced span (optional words text reference))
-  a_reference_lem read r z e h = rw z (rw e at h)
+-- by a reference, from what it is read as
+pub a_reference_lem : (reference : Record) (span : Span) {c d : LowerCtx} {out bytes w b : List ℕ} (read : Result MirPhandleTarget Report)
+    → phandle_told reference read ≡ lower_phandle (tree_of reference)
+    → Lowers c d out bytes w b (delete_target (tree_of reference) span (phandle_told reference read).reports
+    (phandle_told reference read).result)
+    → Lowers c d out bytes w b (delete_referenced span (some (tree_of reference)))
+a_reference_lem reference span read e h = rw e at h
 
 -- by a name, or by a reference
 module _ (words text : List ℕ) (parts : ℕ) (f : FullName) (g : FullNameRead words parts f) (span : Span) where

@@ -1,14 +1,12 @@
 // Items: directives (handle_dts_directive and emit_delete_directive of item.rs).
-ghost use Rattle.std.specs.Prelude.{◌≡◌, true, false, ◌<◌};
-ghost use Rattle.std.specs.Option.{ForSome};
+ghost use Rattle.std.specs.Prelude.{◌≡◌, true, false};
+ghost use Rattle.std.proofs.Math.Option.{some};
 ghost use Rattle.paths_numbers.specs.meaning.Path.{joined};
 ghost use Rattle.definition_log.specs.machine.Parts.{meant};
 ghost use Rattle.making.specs.meaning.State.{emit};
 ghost use Rattle.input.specs.meaning.Tree.{name_kind, first_of};
-ghost use Rattle.input.specs.meaning.Input.{record_count};
 ghost use Rattle.input.specs.machine.OfRecord.{tree_of, parts_of, w_in, span_in};
 ghost use Rattle.input.specs.machine.ChainLeft.{trees_left};
-ghost use Rattle.input.specs.machine.Read.{optional};
 ghost use Rattle.items.specs.machine.AtRecord.{named_in};
 ghost use Rattle.resolving.specs.meaning.Resolve.{resolve};
 ghost use Rattle.input.specs.meaning.GoodName.{good_names_in};
@@ -23,7 +21,7 @@ use crate::unbind::{Base, Below, bound_base, goes_with, unbind_all, unbind_other
 use definition_log::parts::Span;
 use definition_log::record::Log;
 use input::kinds::{NAME, REFERENCE};
-use input::linked::{Chain, Input, Record};
+use input::linked::{Chain, Record};
 use input::name::{is_named, name_text, unit_text};
 use input::record::{no_text, number_at, text_at};
 use making::ctx::LowerCtx;
@@ -92,8 +90,11 @@ fn emit_delete_node(
             span,
         );
     }
-    let reference = parts.first_of(REFERENCE);
-    delete_referenced(input, reference, span, out, bytes, told)
+    let Some(number) = parts.first_of(REFERENCE) else {
+        return told;
+    };
+    let reference = Record { input, number };
+    delete_referenced(reference, span, out, bytes, told)
 }
 
 // A node deleted by its name and unit address under a path.
@@ -126,28 +127,23 @@ fn delete_named(
     )
 }
 
-// A node deleted by a reference, where there is one.
+// A node deleted by a reference.
 fn delete_referenced(
-    input: Input<'_>,
-    reference: Option<u32>,
+    reference: Record<'_>,
     span: Span,
     out: &mut [u32],
     bytes: &mut [u8],
     ctx: LowerCtx,
 ) -> LowerCtx
-    requires there { ForSome reference (λ r. r < record_count input.words.now) }
     ensures { Lowers ctx result out.old bytes.old out.new bytes.new
-        (delete_referenced (meant span) (optional input.entry.words.now input.entry.text.now reference)) }
+        (delete_referenced (meant span) (some (tree_of reference.entry))) }
 {
-    let Some(r) = reference else {
-        return ctx;
-    };
     if ctx.short {
         return ctx;
     }
-    let target = Record { input, number: r };
-    match target.lower_phandle() {
-        Ok(kind) => delete_target(target, kind, span, out, bytes, ctx),
+    let input = reference.input;
+    match reference.lower_phandle() {
+        Ok(kind) => delete_target(reference, kind, span, out, bytes, ctx),
         Err(report) => emit_report(input.words, input.text, report, out, bytes, ctx),
     }
 }

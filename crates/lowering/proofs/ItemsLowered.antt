@@ -1,5 +1,5 @@
 -- Items of a chain lowered one after the other, and one item by its kind.
-use Prim.Native.Nat.{ℕ}
+use Prim.Native.Nat.{ℕ, ◌≤◌}
 use mathlib.Core.Path.{◌≡◌, ap, subst}
 use mathlib.Core.Bool.{true}
 use mathlib.Core.List.{List, [], ◌∷◌}
@@ -15,10 +15,11 @@ use Rattle.items.specs.meaning.Lower.{lower_node, lower_property, lower_directiv
 use Rattle.input.specs.meaning.Input.{kind_at, child_at, second_at, number_at, span_at, chain_at}
 use Rattle.input.specs.machine.At.{record_at}
 use Rattle.input.specs.meaning.GoodName.{good_names, good_names_in}
-use Rattle.input.specs.machine.Linked.{Linked, ChainIn}
+use Rattle.input.specs.machine.Fits.{depths_of}
+use Rattle.input.specs.declared.linked.Chain.{Chain}
 use Rattle.resolving.specs.machine.Lowers.{Lowers, LowersAt}
 use Rattle.input.proofs.GoodNames.{good_parts, good_second}
-use Rattle.input.specs.machine.ChainLeft.{numbers_from, trees_of}
+use Rattle.input.specs.machine.ChainLeft.{trees_of, chain_left, trees_left}
 use Rattle.input.proofs.ChainLeft.{chain_is}
 use Rattle.items.proofs.ChainWalked.{RecordsIn, records_start, records_later}
 
@@ -32,14 +33,14 @@ pub record ItemsTo (level : ℕ) (parent : PathAt) (c d : LowerCtx) (words bytes
   pub whole : (p : List ℕ) (s : State) → lower_items level (trees_of input text left) p (done p s)
       ≡ lower_items level (chain_at input text first) p s
 
-pub items_start : (level : ℕ) {parent : PathAt} {c : LowerCtx} {words bytes : List ℕ} (input : List ℕ) → Linked input
-    → (text : List ℕ) (first nesting : ℕ)
-    → ChainIn input text first nesting → good_names_in (chain_at input text first) ≡ true
-    → ItemsTo level parent c c words bytes words bytes input text first nesting (numbers_from input first)
-items_start level input l text first nesting h g =
-    let e = chain_is input l text first h.at in
+pub items_start : (level : ℕ) {parent : PathAt} {c : LowerCtx} {words bytes : List ℕ} (items : Chain) (nesting : ℕ)
+    → depths_of (trees_left items) ≤ nesting → good_names_in (trees_left items) ≡ true
+    → ItemsTo level parent c c words bytes words bytes items.input.words.now items.input.text.now items.next nesting (chain_left items)
+items_start level items nesting h g =
+    let i = items.input in
+    let e = chain_is i.words.now i.linked i.text.now items.next items.at in
     record {
-      chain = records_start input text l first nesting h;
+      chain = records_start items nesting h;
       good = rw e g;
       done = λ p s. s;
       lowers = record { lowers = λ k p s r. r };

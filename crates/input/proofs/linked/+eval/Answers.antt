@@ -8,7 +8,7 @@ use Rattle.levels.specs.machine.Held.{rules_at}
 use Rattle.input.specs.meaning.Expr.{value, eval, applied}
 use Rattle.input.specs.meaning.Input.{span_at}
 use Rattle.input.specs.machine.At.{record_at}
-use Rattle.input.proofs.Read.{record_in, chain_in, before_some, chain_first, chain_after, some_nesting, children_in}
+use Rattle.input.proofs.Read.{chain_in, before_some, chain_first, chain_after, some_nesting, parts_shallow}
 use Rattle.input.proofs.Evaluation.{infix_short, conditional_short, decided}
 use Rattle.input.proofs.Evaluation.{value_passes, second_decides, second_fails, plain_infix}
 use Rattle.input.proofs.Evaluation.{no_first, first_is_lem, eval_kind, eval_macro, eval_other, binary_fails, binary_value}
@@ -20,217 +20,246 @@ pub Record::eval-returns-then-nesting-eq0 : goal.Record::eval-returns-then-nesti
 Record::eval-returns-then-nesting-eq0 t c =
     absurd (omega (
       arith,
-      some_nesting c.args.self.input.words.now c.args.self.input.text.now c.args.self.input.linked c.args.self.number c.args.nesting (record_in c.args.self c.args.nesting c.requires.shallow),
+      some_nesting c.args.self c.args.nesting c.requires.shallow,
     ))
 
 pub Record::eval-eval_prefix_at-requires : goal.Record::eval-eval_prefix_at-requires
 Record::eval-eval_prefix_at-requires t c = (
   omega arith,
-  (children_in c.args.self.input.words.now c.args.self.input.text.now c.args.self.input.linked c.args.self.number c.args.nesting
-      (record_in c.args.self c.args.nesting c.requires.shallow)).shallow,
+  parts_shallow c.args.self c.args.nesting c.requires.shallow,
 )
 
 pub Record::eval-eval_first-requires : goal.Record::eval-eval_first-requires
 Record::eval-eval_first-requires t c = (
   omega arith,
-  rw (c.parts.ensures.input, c.parts.ensures.next)
-      (children_in c.args.self.input.words.now c.args.self.input.text.now c.args.self.input.linked c.args.self.number c.args.nesting
-      (record_in c.args.self c.args.nesting c.requires.shallow)).shallow,
+  rw (c.parts.ensures.input, c.parts.ensures.next) (parts_shallow c.args.self c.args.nesting c.requires.shallow),
 )
 
 pub Record::eval-eval_infix_at-requires : goal.Record::eval-eval_infix_at-requires
 Record::eval-eval_infix_at-requires t c = (
   omega arith,
-  (children_in c.args.self.input.words.now c.args.self.input.text.now c.args.self.input.linked c.args.self.number c.args.nesting
-      (record_in c.args.self c.args.nesting c.requires.shallow)).shallow,
+  parts_shallow c.args.self c.args.nesting c.requires.shallow,
 )
 
 pub Record::eval-returns-in-9 : goal.Record::eval-returns-in-9
 Record::eval-returns-in-9 t c =
-    eval_macro c.args.level c.args.self.input.words.now c.args.self.input.text.now c.args.self.number (sym c.kind.ensures ∙ c.in-9.is)
+    let i = c.args.self.input in
+    eval_macro c.args.level i.words.now i.text.now c.args.self.number (sym c.kind.ensures ∙ c.in-9.is)
 
 pub Record::eval-returns-in-15 : goal.Record::eval-returns-in-15
 Record::eval-returns-in-15 t c =
-    c.evaluation_of.ensures c.args.self.input.words.now c.args.self.input.text.now
+    let i = c.args.self.input in
+    c.evaluation_of.ensures i.words.now i.text.now
     ∙ rw (c.literal.ensures, c.text.ensures)
-    (eval_kind c.args.level c.args.self.input.words.now c.args.self.input.text.now c.args.self.number 15 (sym c.kind.ensures ∙ c.in-15.is))
+    (eval_kind c.args.level i.words.now i.text.now c.args.self.number 15 (sym c.kind.ensures ∙ c.in-15.is))
 
 pub Record::eval-returns-in-16 : goal.Record::eval-returns-in-16
 Record::eval-returns-in-16 t c =
+    let i = c.args.self.input in
     ap value (signed_is c.number_at.result (search rules) ∙ character_at c.args.level c.number_at.result (search rules))
     ∙ rw c.number_at.ensures
-    (eval_kind c.args.level c.args.self.input.words.now c.args.self.input.text.now c.args.self.number 16 (sym c.kind.ensures ∙ c.in-16.is))
+    (eval_kind c.args.level i.words.now i.text.now c.args.self.number 16 (sym c.kind.ensures ∙ c.in-16.is))
 
 pub Record::eval-returns-in-18 : goal.Record::eval-returns-in-18
 Record::eval-returns-in-18 t c =
+    let i = c.args.self.input in
     c.eval_prefix_at.ensures
-    ∙ eval_kind c.args.level c.args.self.input.words.now c.args.self.input.text.now c.args.self.number 18 (sym c.kind.ensures ∙ c.in-18.is)
+    ∙ eval_kind c.args.level i.words.now i.text.now c.args.self.number 18 (sym c.kind.ensures ∙ c.in-18.is)
 
 pub Record::eval-returns-in-19 : goal.Record::eval-returns-in-19
 Record::eval-returns-in-19 t c =
+    let i = c.args.self.input in
     (rw (c.parts.ensures.input, c.parts.ensures.next) at c.eval_first.ensures)
-    ∙ (eval_kind c.args.level c.args.self.input.words.now c.args.self.input.text.now c.args.self.number 19 (sym c.kind.ensures ∙ c.in-19.is))
+    ∙ (eval_kind c.args.level i.words.now i.text.now c.args.self.number 19 (sym c.kind.ensures ∙ c.in-19.is))
 
 pub Record::eval-returns-in-20 : goal.Record::eval-returns-in-20
 Record::eval-returns-in-20 t c =
+    let i = c.args.self.input in
     c.eval_infix_at.ensures
-    ∙ eval_kind c.args.level c.args.self.input.words.now c.args.self.input.text.now c.args.self.number 20 (sym c.kind.ensures ∙ c.in-20.is)
+    ∙ eval_kind c.args.level i.words.now i.text.now c.args.self.number 20 (sym c.kind.ensures ∙ c.in-20.is)
 
 pub Record::eval-returns-in_default : goal.Record::eval-returns-in_default
 Record::eval-returns-in_default t c =
-    eval_other c.args.level c.args.self.input.words.now c.args.self.input.text.now c.args.self.number (λ e. omega arith) (λ e. omega arith) (λ e. omega arith)
+    let i = c.args.self.input in
+    eval_other c.args.level i.words.now i.text.now c.args.self.number (λ e. omega arith) (λ e. omega arith) (λ e. omega arith)
     (λ e. omega arith) (λ e. omega arith) (λ e. omega arith)
 
 pub Chain::eval_first-returns-then-number-eq0 : goal.Chain::eval_first-returns-then-number-eq0
-Chain::eval_first-returns-then-number-eq0 t c = rw c.if-number-eq0.true (no_first c.args.level c.args.self.input.words.now c.args.self.input.text.now)
+Chain::eval_first-returns-then-number-eq0 t c =
+    let i = c.args.self.input in
+    rw c.if-number-eq0.true (no_first c.args.level i.words.now i.text.now)
 
 pub Chain::eval_first-eval-requires : goal.Chain::eval_first-eval-requires
-Chain::eval_first-eval-requires t c = (
-  omega arith,
-  (chain_first c.args.self.input.words.now c.args.self.input.text.now c.args.self.input.linked c.args.self.next c.args.nesting (chain_in c.args.self c.args.nesting c.requires.shallow)
-      c.if-number-eq0.false).shallow,
-)
+Chain::eval_first-eval-requires t c =
+    let i = c.args.self.input in
+    let h = chain_in c.args.self c.args.nesting c.requires.shallow in (
+      omega arith,
+      chain_first i.words.now i.text.now i.linked c.args.self.next c.args.nesting h
+          c.if-number-eq0.false,
+    )
 
 pub Chain::eval_first-returns : goal.Chain::eval_first-returns
 Chain::eval_first-returns t c =
+    let i = c.args.self.input in
     c.eval.ensures
-    ∙ first_is_lem c.args.level c.args.self.input.words.now c.args.self.input.text.now c.args.self.input.linked c.args.self.next c.if-number-eq0.false
+    ∙ first_is_lem c.args.level i.words.now i.text.now i.linked c.args.self.next c.if-number-eq0.false
     (c.args.self.at c.if-number-eq0.false)
 
 pub Chain::eval_binary-returns-then-y-eq0 : goal.Chain::eval_binary-returns-then-y-eq0
 Chain::eval_binary-returns-then-y-eq0 t c =
-    infix_short c.args.level c.args.self.input.words.now c.args.self.input.text.now c.args.self.input.linked c.args.op
-    (span_at c.args.self.input.words.now c.args.r) c.args.self.next _ c.after-y.ensures c.args.self.at c.if-y-eq0.true
+    let i = c.args.self.input in
+    infix_short c.args.level i.words.now i.text.now i.linked c.args.op
+    (span_at i.words.now c.args.r) c.args.self.next _ c.after-y.ensures c.args.self.at c.if-y-eq0.true
 
 pub Chain::eval_binary-eval-requires : goal.Chain::eval_binary-eval-requires
-Chain::eval_binary-eval-requires t c = (
-  omega arith,
-  (chain_first c.args.self.input.words.now c.args.self.input.text.now c.args.self.input.linked c.args.self.next c.args.nesting (chain_in c.args.self c.args.nesting c.requires.shallow)
-      (before_some c.args.self.input.words.now c.args.self.input.text.now c.args.self.next _ c.after-y.ensures c.if-y-eq0.false)).shallow,
-)
+Chain::eval_binary-eval-requires t c =
+    let i = c.args.self.input in
+    let h = chain_in c.args.self c.args.nesting c.requires.shallow in (
+      omega arith,
+      chain_first i.words.now i.text.now i.linked c.args.self.next c.args.nesting h
+          (before_some i.words.now i.text.now c.args.self.next _ c.after-y.ensures c.if-y-eq0.false),
+    )
 
 pub Chain::eval_binary-returns-in_err-a : goal.Chain::eval_binary-returns-in_err-a
 Chain::eval_binary-returns-in_err-a t c =
+    let i = c.args.self.input in
+    let h = chain_in c.args.self c.args.nesting c.requires.shallow in
     let p = err_from_is_err_and c.from_residual.result c.from_residual.ensures.1 in
     rw (p.1, p.2)
-    (binary_fails c.args.level c.args.self.input.words.now c.args.self.input.text.now c.args.self.input.linked (span_at c.args.self.input.words.now c.args.r)
-    c.args.nesting c.args.self.next (chain_in c.args.self c.args.nesting c.requires.shallow) c.eval.result c.eval.ensures _ c.after-y.ensures c.args.op
+    (binary_fails c.args.level i.words.now i.text.now i.linked (span_at i.words.now c.args.r)
+    c.args.nesting c.args.self.next h c.eval.result c.eval.ensures _ c.after-y.ensures c.args.op
     c.requires.fact.0 c.requires.fact.1 c.if-y-eq0.false _ c.in_err-a.was)
 
 pub Chain::eval_binary-eval_second-requires : goal.Chain::eval_binary-eval_second-requires
-Chain::eval_binary-eval_second-requires t c = (
-  omega arith,
-  (chain_first c.args.self.input.words.now c.args.self.input.text.now c.args.self.input.linked c.after-y.result c.args.nesting
-      (chain_after c.args.self.input.words.now c.args.self.input.text.now c.args.self.next c.after-y.result c.after-y.ensures c.args.self.input.linked
-      c.args.nesting (chain_in c.args.self c.args.nesting c.requires.shallow))
-      c.if-y-eq0.false).shallow,
-)
+Chain::eval_binary-eval_second-requires t c =
+    let i = c.args.self.input in
+    let h = chain_in c.args.self c.args.nesting c.requires.shallow in (
+      omega arith,
+      chain_first i.words.now i.text.now i.linked c.after-y.result c.args.nesting
+          (chain_after i.words.now i.text.now c.args.self.next c.after-y.result c.after-y.ensures i.linked
+          c.args.nesting h)
+          c.if-y-eq0.false,
+    )
 
 pub Chain::eval_binary-returns : goal.Chain::eval_binary-returns
 Chain::eval_binary-returns t c =
+    let i = c.args.self.input in
+    let h = chain_in c.args.self c.args.nesting c.requires.shallow in
     c.eval_second.ensures
     ∙ rw (read {z = c.in_ok-a.a} (record { sfits = omega arith }))
-    (binary_value c.args.level c.args.self.input.words.now c.args.self.input.text.now c.args.self.input.linked (span_at c.args.self.input.words.now c.args.r)
-    c.args.nesting c.args.self.next (chain_in c.args.self c.args.nesting c.requires.shallow) c.eval.result c.eval.ensures _ c.after-y.ensures c.args.op
+    (binary_value c.args.level i.words.now i.text.now i.linked (span_at i.words.now c.args.r)
+    c.args.nesting c.args.self.next h c.eval.result c.eval.ensures _ c.after-y.ensures c.args.op
     c.requires.fact.0 c.requires.fact.1 c.if-y-eq0.false _ c.in_ok-a.was)
 
 pub Chain::eval_conditional_at-returns-then-z-eq0 : goal.Chain::eval_conditional_at-returns-then-z-eq0
 Chain::eval_conditional_at-returns-then-z-eq0 t c =
-    λ span. conditional_short c.args.level c.args.self.input.words.now c.args.self.input.text.now c.args.self.input.linked span c.args.self.next _ _
+    let i = c.args.self.input in
+    let h = chain_in c.args.self c.args.nesting c.requires.shallow in
+    λ span. conditional_short c.args.level i.words.now i.text.now i.linked span c.args.self.next _ _
     c.after-y.ensures c.after-z.ensures c.args.self.at
-    (chain_after c.args.self.input.words.now c.args.self.input.text.now c.args.self.next _ c.after-y.ensures c.args.self.input.linked c.args.nesting
-    (chain_in c.args.self c.args.nesting c.requires.shallow)).at
+    (chain_after i.words.now i.text.now c.args.self.next _ c.after-y.ensures i.linked c.args.nesting
+    h).at
     c.if-z-eq0.true
 
 pub Chain::eval_conditional_at-eval-requires : goal.Chain::eval_conditional_at-eval-requires
 Chain::eval_conditional_at-eval-requires t c =
-    let words = c.args.self.input.words.now in
-    let text = c.args.self.input.text.now in (
+    let i = c.args.self.input in
+    let h = chain_in c.args.self c.args.nesting c.requires.shallow in (
       omega arith,
-      (chain_first words text c.args.self.input.linked c.args.self.next c.args.nesting (chain_in c.args.self c.args.nesting c.requires.shallow)
-          (before_some words text c.args.self.next c.after-y.result c.after-y.ensures
-          (before_some words text c.after-y.result _ c.after-z.ensures c.if-z-eq0.false))).shallow,
+      chain_first i.words.now i.text.now i.linked c.args.self.next c.args.nesting h
+          (before_some i.words.now i.text.now c.args.self.next c.after-y.result c.after-y.ensures
+          (before_some i.words.now i.text.now c.after-y.result _ c.after-z.ensures c.if-z-eq0.false)),
     )
 
 pub Chain::eval_conditional_at-returns-in_err-a : goal.Chain::eval_conditional_at-returns-in_err-a
 Chain::eval_conditional_at-returns-in_err-a t c =
+    let i = c.args.self.input in
+    let h = chain_in c.args.self c.args.nesting c.requires.shallow in
     let p = err_from_is_err_and c.from_residual.result c.from_residual.ensures.1 in
     λ span. rw (p.1, p.2)
-    (conditional_fails c.args.level c.args.self.input.words.now c.args.self.input.text.now c.args.self.input.linked span c.args.nesting c.args.self.next
-    (chain_in c.args.self c.args.nesting c.requires.shallow) c.eval.result c.eval.ensures
+    (conditional_fails c.args.level i.words.now i.text.now i.linked span c.args.nesting c.args.self.next
+    h c.eval.result c.eval.ensures
     _ c.after-y.ensures _ c.after-z.ensures c.if-z-eq0.false _ c.in_err-a.was)
 
 pub Chain::eval_conditional_at-eval-requires-then-is_true : goal.Chain::eval_conditional_at-eval-requires-then-is_true
 Chain::eval_conditional_at-eval-requires-then-is_true t c =
-    let words = c.args.self.input.words.now in
-    let text = c.args.self.input.text.now in (
+    let i = c.args.self.input in
+    let h = chain_in c.args.self c.args.nesting c.requires.shallow in (
       omega arith,
-      (chain_first words text c.args.self.input.linked c.after-y.result c.args.nesting
-          (chain_after words text c.args.self.next c.after-y.result c.after-y.ensures c.args.self.input.linked c.args.nesting
-          (chain_in c.args.self c.args.nesting c.requires.shallow))
-          (before_some words text c.after-y.result _ c.after-z.ensures c.if-z-eq0.false)).shallow,
+      chain_first i.words.now i.text.now i.linked c.after-y.result c.args.nesting
+          (chain_after i.words.now i.text.now c.args.self.next c.after-y.result c.after-y.ensures i.linked c.args.nesting
+          h)
+          (before_some i.words.now i.text.now c.after-y.result _ c.after-z.ensures c.if-z-eq0.false),
     )
 
 pub Chain::eval_conditional_at-returns-then-is_true : goal.Chain::eval_conditional_at-returns-then-is_true
 Chain::eval_conditional_at-returns-then-is_true t c =
+    let i = c.args.self.input in
+    let h = chain_in c.args.self c.args.nesting c.requires.shallow in
     λ span. c.eval-then-is_true.ensures
     ∙ rw (rw (read {z = c.in_ok-a.a} (record { sfits = omega arith })) at (sym c.is_true.ensures ∙ c.if-is_true.true)) at
-    (conditional_value c.args.level c.args.self.input.words.now c.args.self.input.text.now c.args.self.input.linked span c.args.nesting c.args.self.next
-    (chain_in c.args.self c.args.nesting c.requires.shallow) c.eval.result c.eval.ensures _ c.after-y.ensures _ c.after-z.ensures c.if-z-eq0.false _
+    (conditional_value c.args.level i.words.now i.text.now i.linked span c.args.nesting c.args.self.next
+    h c.eval.result c.eval.ensures _ c.after-y.ensures _ c.after-z.ensures c.if-z-eq0.false _
     c.in_ok-a.was)
 
 pub Chain::eval_conditional_at-eval-requires-2 : goal.Chain::eval_conditional_at-eval-requires-2
 Chain::eval_conditional_at-eval-requires-2 t c =
-    let words = c.args.self.input.words.now in
-    let text = c.args.self.input.text.now in (
+    let i = c.args.self.input in
+    let h = chain_in c.args.self c.args.nesting c.requires.shallow in (
       omega arith,
-      (chain_first words text c.args.self.input.linked c.after-z.result c.args.nesting
-          (chain_after words text c.after-y.result c.after-z.result c.after-z.ensures c.args.self.input.linked c.args.nesting
-          (chain_after words text c.args.self.next c.after-y.result c.after-y.ensures c.args.self.input.linked c.args.nesting
-          (chain_in c.args.self c.args.nesting c.requires.shallow)))
-          c.if-z-eq0.false).shallow,
+      chain_first i.words.now i.text.now i.linked c.after-z.result c.args.nesting
+          (chain_after i.words.now i.text.now c.after-y.result c.after-z.result c.after-z.ensures i.linked c.args.nesting
+          (chain_after i.words.now i.text.now c.args.self.next c.after-y.result c.after-y.ensures i.linked c.args.nesting
+          h))
+          c.if-z-eq0.false,
     )
 
 pub Chain::eval_conditional_at-returns : goal.Chain::eval_conditional_at-returns
 Chain::eval_conditional_at-returns t c =
+    let i = c.args.self.input in
+    let h = chain_in c.args.self c.args.nesting c.requires.shallow in
     λ span. c.eval-2.ensures
     ∙ rw (rw (read {z = c.in_ok-a.a} (record { sfits = omega arith })) at (sym c.is_true.ensures ∙ c.if-is_true.false)) at
-    (conditional_value c.args.level c.args.self.input.words.now c.args.self.input.text.now c.args.self.input.linked span c.args.nesting c.args.self.next
-    (chain_in c.args.self c.args.nesting c.requires.shallow) c.eval.result c.eval.ensures _ c.after-y.ensures _ c.after-z.ensures c.if-z-eq0.false _
+    (conditional_value c.args.level i.words.now i.text.now i.linked span c.args.nesting c.args.self.next
+    h c.eval.result c.eval.ensures _ c.after-y.ensures _ c.after-z.ensures c.if-z-eq0.false _
     c.in_ok-a.was)
 
 pub Record::eval_second-returns-then-first_decides : goal.Record::eval_second-returns-then-first_decides
 Record::eval_second-returns-then-first_decides t c =
+    let i = c.args.self.input in
     rw (read_truth, c.is_true.ensures, read c.ranges.a)
-    (decided c.args.level c.args.op (span_at c.args.self.input.words.now c.args.r) c.args.a
-    (eval (rules_at c.args.level) (record_at c.args.self.input.words.now c.args.self.input.text.now c.args.self.number))
+    (decided c.args.level c.args.op (span_at i.words.now c.args.r) c.args.a
+    (eval (rules_at c.args.level) (record_at i.words.now i.text.now c.args.self.number))
     (rw (read c.ranges.a) at (sym c.first_decides.ensures ∙ c.if-first_decides.true)))
 
 pub Record::eval_second-returns-in_err-b : goal.Record::eval_second-returns-in_err-b
 Record::eval_second-returns-in_err-b t c =
+    let i = c.args.self.input in
     let p = err_from_is_err_and c.from_residual.result c.from_residual.ensures.1 in
     rw (p.1, p.2)
-    (second_fails c.args.level c.args.op (span_at c.args.self.input.words.now c.args.r) c.args.a _
+    (second_fails c.args.level c.args.op (span_at i.words.now c.args.r) c.args.a _
     (rw (read c.ranges.a) at (sym c.first_decides.ensures ∙ c.if-first_decides.false))
-    ∙ ap (applied (rules_at c.args.level) c.args.op (span_at c.args.self.input.words.now c.args.r) c.args.a) c.in_err-b.ensures)
+    ∙ ap (applied (rules_at c.args.level) c.args.op (span_at i.words.now c.args.r) c.args.a) c.in_err-b.ensures)
 
 pub Record::eval_second-returns-then-is_logical : goal.Record::eval_second-returns-then-is_logical
 Record::eval_second-returns-then-is_logical t c =
+    let i = c.args.self.input in
     rw (read_truth, c.is_true-then-is_logical.ensures, read {z = c.in_ok-b.b} (record { sfits = omega arith }))
-    (second_decides c.args.level c.args.op (span_at c.args.self.input.words.now c.args.r) c.args.a (value c.in_ok-b.b)
+    (second_decides c.args.level c.args.op (span_at i.words.now c.args.r) c.args.a (value c.in_ok-b.b)
     (rw (read c.ranges.a) at (sym c.first_decides.ensures ∙ c.if-first_decides.false))
     (sym c.is_logical.ensures ∙ c.if-is_logical.true)
-    ∙ ap (applied (rules_at c.args.level) c.args.op (span_at c.args.self.input.words.now c.args.r) c.args.a)
-    (value_passes c.args.self.input.words.now c.args.self.input.text.now _ _ _ c.in_ok-b.was c.eval.ensures))
+    ∙ ap (applied (rules_at c.args.level) c.args.op (span_at i.words.now c.args.r) c.args.a)
+    (value_passes i.words.now i.text.now _ _ _ c.in_ok-b.was c.eval.ensures))
 
 pub Record::eval_second-returns : goal.Record::eval_second-returns
 Record::eval_second-returns t c =
-    c.evaluation_of.ensures c.args.self.input.words.now c.args.self.input.text.now
+    let i = c.args.self.input in
+    c.evaluation_of.ensures i.words.now i.text.now
     ∙ rw (c.binary.ensures, read c.ranges.a, read {z = c.in_ok-b.b} (record { sfits = omega arith }))
-    (plain_infix c.args.level c.args.op (span_at c.args.self.input.words.now c.args.r) c.args.a (value c.in_ok-b.b)
+    (plain_infix c.args.level c.args.op (span_at i.words.now c.args.r) c.args.a (value c.in_ok-b.b)
     (sym c.is_logical.ensures ∙ c.if-is_logical.false)
-    ∙ ap (applied (rules_at c.args.level) c.args.op (span_at c.args.self.input.words.now c.args.r) c.args.a)
-    (value_passes c.args.self.input.words.now c.args.self.input.text.now _ _ _ c.in_ok-b.was c.eval.ensures))
+    ∙ ap (applied (rules_at c.args.level) c.args.op (span_at i.words.now c.args.r) c.args.a)
+    (value_passes i.words.now i.text.now _ _ _ c.in_ok-b.was c.eval.ensures))
 
 pub Chain::eval_binary-invariant_of-first : goal.Chain::eval_binary-invariant_of-first
 Chain::eval_binary-invariant_of-first t c =

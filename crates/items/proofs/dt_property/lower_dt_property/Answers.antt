@@ -1,6 +1,6 @@
 -- By whether the state ran short and whether the path is empty; else the definition, its values and its name's reports (PropertyMade).
 use Rattle.items.proofs.PropertyMade.{property_short, property_top, property_lowers}
-use Rattle.input.proofs.Read.{record_in, some_nesting, second_in}
+use Rattle.input.proofs.Read.{some_nesting, contents_shallow}
 use Rattle.input.specs.meaning.Input.{child_at, second_at, span_at, chain_at}
 use mathlib.Core.Path.{sym, ◌∙◌}
 use native.Mathlib.Omega.{arith}
@@ -22,18 +22,11 @@ returns-then-is_top c = let a = c.args in
 
 pub overflow_sub-nesting : goal.overflow_sub-nesting
 overflow_sub-nesting c =
-    let r = c.args.property in
-    let i = r.input in
-    omega (arith, some_nesting i.words.now i.text.now i.linked r.number c.args.nesting (record_in r c.args.nesting c.requires.shallow))
+    omega (arith, some_nesting c.args.property c.args.nesting c.requires.shallow)
 
 pub lower_prop_values-filled-requires : goal.lower_prop_values-filled-requires
 lower_prop_values-filled-requires c =
-    let r = c.args.property in
-    let i = r.input in
-    record {
-      shallow = rw (c.contents.ensures.input, c.contents.ensures.next)
-          (second_in i.words.now i.text.now i.linked r.number c.args.nesting (record_in r c.args.nesting c.requires.shallow)).shallow;
-    }
+    record { shallow = rw (c.contents.ensures.input, c.contents.ensures.next) (contents_shallow c.args.property c.args.nesting c.requires.shallow) }
 
 pub returns : goal.returns
 returns c = let s = c

@@ -3,8 +3,8 @@ use native.Mathlib.Omega.{arith}
 use Rattle.input.specs.machine.OfRecord.{contents_of}
 use Rattle.items.specs.meaning.Lower.{lower_items}
 use Rattle.input.specs.machine.ChainLeft.{chain_left}
-use Rattle.input.proofs.Read.{record_in, chain_in, some_nesting, second_in}
-use Rattle.items.proofs.ChainWalked.{record_here}
+use Rattle.input.proofs.Read.{some_nesting, contents_shallow}
+use Rattle.items.proofs.ChainWalked.{record_there, record_shallow}
 use Rattle.lowering.proofs.CountsGrow.{node_grows}
 use Rattle.items.proofs.Short.{short_lowers}
 use Rattle.items.proofs.NodeLowered.{enters_apart, node_at_lem, node_aside, node_discarded, node_nowhere}
@@ -23,34 +23,30 @@ lower_dt_node-place_node-placed-requires t c = record { good = parts_good _ _ _ 
 
 pub lower_dt_node-overflow_sub-deeper : goal.lower_dt_node-overflow_sub-deeper
 lower_dt_node-overflow_sub-deeper t c =
-    let r = c.args.node in
-    omega (arith, some_nesting _ _ r.input.linked _ _ (record_in r c.args.nesting c.requires.shallow))
+    omega (arith, some_nesting c.args.node c.args.nesting c.requires.shallow)
 
 pub lower_dt_node-lower_items-requires : goal.lower_dt_node-lower_items-requires
 lower_dt_node-lower_items-requires t c =
-    let r = c.args.node in
-    let h = record_in r c.args.nesting c.requires.shallow in
+    let h = c.requires.shallow in
     let b = c.contents-body.ensures in (
-      omega (arith, some_nesting _ _ r.input.linked _ _ h),
-      (rw (b.input, b.next) (second_in _ _ r.input.linked _ _ h).shallow, rw (b.input, b.next) (body_good _ _ _ c.requires.good)),
+      omega (arith, some_nesting c.args.node c.args.nesting h),
+      (rw (b.input, b.next) (contents_shallow c.args.node c.args.nesting h), rw (b.input, b.next) (body_good _ _ _ c.requires.good)),
     )
 
 pub lower_dt_node-lower_apart-apart-requires : goal.lower_dt_node-lower_apart-apart-requires
 lower_dt_node-lower_apart-apart-requires t c =
-    let r = c.args.node in
-    let h = record_in r c.args.nesting c.requires.shallow in
+    let h = c.requires.shallow in
     let b = c.contents-body.ensures in (
-      omega (arith, some_nesting _ _ r.input.linked _ _ h),
-      (rw (b.input, b.next) (second_in _ _ r.input.linked _ _ h).shallow, rw (b.input, b.next) (body_good _ _ _ c.requires.good)),
+      omega (arith, some_nesting c.args.node c.args.nesting h),
+      (rw (b.input, b.next) (contents_shallow c.args.node c.args.nesting h), rw (b.input, b.next) (body_good _ _ _ c.requires.good)),
     )
 
 pub lower_dt_node-lower_apart-apart-requires-in-Discarded : goal.lower_dt_node-lower_apart-apart-requires-in-Discarded
 lower_dt_node-lower_apart-apart-requires-in-Discarded t c =
-    let r = c.args.node in
-    let h = record_in r c.args.nesting c.requires.shallow in
+    let h = c.requires.shallow in
     let b = c.contents-body.ensures in (
-      omega (arith, some_nesting _ _ r.input.linked _ _ h),
-      (rw (b.input, b.next) (second_in _ _ r.input.linked _ _ h).shallow, rw (b.input, b.next) (body_good _ _ _ c.requires.good)),
+      omega (arith, some_nesting c.args.node c.args.nesting h),
+      (rw (b.input, b.next) (contents_shallow c.args.node c.args.nesting h), rw (b.input, b.next) (body_good _ _ _ c.requires.good)),
     )
 
 pub lower_dt_node-returns-in-At : goal.lower_dt_node-returns-in-At
@@ -116,23 +112,21 @@ lower_item-returns-in_default t c = let a = c.args in
 pub lower_items-loop-r-init : goal.lower_items-loop-r-init
 lower_items-loop-r-init t c =
     let a = c.args in
-    let i = a.items.input in
     let e = ap chain_left c.into_iter-r-iterator.ensures.into_iter_gives in (
       refl,
       refl,
-      rw e (items_start a.level i.words.now i.linked i.text.now a.items.next a.nesting (chain_in a.items a.nesting c.requires.shallow)
-          c.requires.good),
+      rw e (items_start a.level a.items a.nesting c.requires.shallow c.requires.good),
     )
 
 pub lower_items-invariant_of-item : goal.lower_items-invariant_of-item
 lower_items-invariant_of-item t c =
     let inv = rw c.in-Some.ensures.steps at c.loop-r.invariant in
-    record { known = (record_here inv.2.chain).there }
+    record { known = record_there inv.2.chain }
 
 pub lower_items-lower_item-state-requires : goal.lower_items-lower_item-state-requires
 lower_items-lower_item-state-requires t c =
     let inv = rw c.in-Some.ensures.steps at c.loop-r.invariant in
-    (omega arith, ((record_here inv.2.chain).shallow, item_good inv.2))
+    (omega arith, (record_shallow inv.2.chain, item_good inv.2))
 
 pub lower_items-loop-r-preserved : goal.lower_items-loop-r-preserved
 lower_items-loop-r-preserved t c =

@@ -1,24 +1,17 @@
 -- The list, and then its cells (Filled); the nesting suffices for them (Read).
 use Rattle.items.proofs.Filled.{list_then}
-use Rattle.input.proofs.Read.{record_in, some_nesting, children_in}
+use Rattle.input.proofs.Read.{some_nesting, parts_shallow}
 use Rattle.paths_numbers.specs.meaning.Cell.{bits_of}
 use native.Mathlib.Omega.{arith}
 use Rattle.items.proofs.dt_property.Filling.lower_cell_list.Goals as goal
 
 pub overflow_sub-nesting : goal.overflow_sub-nesting
 overflow_sub-nesting c =
-    let r = c.args.list in
-    let i = r.input in
-    omega (arith, some_nesting i.words.now i.text.now i.linked r.number c.args.nesting (record_in r c.args.nesting c.requires.shallow))
+    omega (arith, some_nesting c.args.list c.args.nesting c.requires.shallow)
 
 pub lower_cells-requires : goal.lower_cells-requires
 lower_cells-requires c =
-    let r = c.args.list in
-    let i = r.input in
-    record {
-      shallow = rw (c.parts.ensures.input, c.parts.ensures.next)
-          (children_in i.words.now i.text.now i.linked r.number c.args.nesting (record_in r c.args.nesting c.requires.shallow)).shallow;
-    }
+    record { shallow = rw (c.parts.ensures.input, c.parts.ensures.next) (parts_shallow c.args.list c.args.nesting c.requires.shallow) }
 
 pub returns : goal.returns
 returns c = let a = c.args in

@@ -3,9 +3,8 @@ use mathlib.Core.List.{List}
 use Prim.Native.Nat.{ℕ}
 use Rattle.input.specs.meaning.Property.{lower_cells}
 use Rattle.input.specs.machine.ChainLeft.{trees_of, chain_left}
-use Rattle.input.proofs.Read.{chain_in}
 use Rattle.input.proofs.ChainLeft.{chain_is}
-use Rattle.items.proofs.ChainWalked.{records_start, record_here, records_later}
+use Rattle.items.proofs.ChainWalked.{records_start, record_there, record_shallow, records_later}
 use Rattle.items.proofs.Filled.{adding_cells, fills_none, fills_then, same_fills}
 use Rattle.items.proofs.dt_property.Filling.lower_cells.Goals as goal
 
@@ -13,20 +12,19 @@ pub loop-r-init : goal.loop-r-init
 loop-r-init c =
     let a = c.args in
     let i = a.cells.input in
-    let h = chain_in a.cells a.nesting c.requires.shallow in
     let e = ap chain_left c.into_iter-r-iterator.ensures.into_iter_gives in (
-      rw e (records_start i.words.now i.text.now i.linked a.cells.next a.nesting h),
+      rw e (records_start a.cells a.nesting c.requires.shallow),
       refl,
       refl,
       λ d w b f. same_fills (ap (λ (l : List ℕ). lower_cells a.self.level a.size (trees_of i.words.now i.text.now l)) e
-          ∙ ap (lower_cells a.self.level a.size) (chain_is i.words.now i.linked i.text.now a.cells.next h.at)) f,
+          ∙ ap (lower_cells a.self.level a.size) (chain_is i.words.now i.linked i.text.now a.cells.next a.cells.at)) f,
     )
 
 pub invariant_of-cell : goal.invariant_of-cell
-invariant_of-cell c = record { known = (record_here (rw c.in-Some.ensures.steps at c.loop-r.invariant.0)).there }
+invariant_of-cell c = record { known = record_there (rw c.in-Some.ensures.steps at c.loop-r.invariant.0) }
 
 pub lower_cell-next-requires : goal.lower_cell-next-requires
-lower_cell-next-requires c = record { shallow = (record_here (rw c.in-Some.ensures.steps at c.loop-r.invariant.0)).shallow }
+lower_cell-next-requires c = record { shallow = record_shallow (rw c.in-Some.ensures.steps at c.loop-r.invariant.0) }
 
 pub loop-r-preserved : goal.loop-r-preserved
 unfolding lower_cells
