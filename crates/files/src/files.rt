@@ -22,7 +22,7 @@ fn does_rise(starts: &[u32]) -> bool
     starts.is_sorted_by(|a, b| a < b)
 }
 
-// The files' start offsets, of which there are few.
+// The files' start offsets, no more than a rack is built from.
 #[derive(Clone, Copy)]
 pub struct Files<'a> {
     pub starts: &'a [u32],

@@ -1,6 +1,6 @@
 // Rows 1 to 6 of 01's table: the check of an input, any words and any text. Row 2 marks the records that are linked; then links go up, so
 // that one pass in rising order knows how each reached record stands; the other rows are each a search in rising order.
-ghost use Rattle.std.specs.Prelude.{ℕ, ◌<◌, ◌≤◌, false, ◌≡◌, get_or, List};
+ghost use Rattle.std.specs.Prelude.{ℕ, ◌<◌, ◌≤◌, ◌≡◌, get_or, List};
 ghost use Rattle.std.proofs.Math.Option.{none};
 ghost use Rattle.input.specs.meaning.Input.{record_count};
 ghost use Rattle.input.specs.meaning.Rows.{most_records, wrong_size, bad_link, bad_links, row_two, bad_text, unfit, bad_head, holds_slash};
@@ -23,7 +23,7 @@ use paths_numbers::phandle::first_slash;
 // kept: fixed memory, of which an array of places and depths takes three times as much
 const PLACES: u32 = 16;
 
-// The records of an input, as many as row 1 leaves.
+// An input's words and how many records they hold: one at least, and no more than may be, by row 1.
 #[derive(Clone, Copy)]
 struct Records<'a> {
     words: &'a [u32],

@@ -7,4 +7,5 @@ use Rattle.input.proofs.refusal.first_bad_links.Given as goal
 
 abbrev pub invariant-loop-r : goal.invariant-loop-r
 invariant-loop-r l =
-    Marks l.records.words.now l.r l.marks × (lowest (bad_links l.records.words.now) l.records.count 0 ≡ lowest (bad_links l.records.words.now) (l.records.count - l.r) l.r)
+    let test = bad_links l.records.words.now in
+    Marks l.records.words.now l.r l.marks × (lowest test l.records.count 0 ≡ lowest test (l.records.count - l.r) l.r)
