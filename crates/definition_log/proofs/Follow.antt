@@ -12,7 +12,8 @@ use lib.ListN.{length, get_or, set, take, length-set, length-map}
 use lib.Seq.{take-suc-set, length-take-le, take_all}
 use Rattle.definition_log.specs.meaning.Record.{kind_of, next_of, child_of, m_of, first_def, first_ext, first_bind, first_diag, first_post}
 use Rattle.definition_log.specs.meaning.Record.{extension_kind, leads}
-use Rattle.definition_log.specs.meaning.Sound.{Place, definitions, extensions, bindings, diagnostics, Link, below, link_to, links_of, head_links}
+use Rattle.definition_log.specs.meaning.Sound.{Place, definitions, extensions, bindings, diagnostics, Link, below, link_to, links_of}
+use Rattle.definition_log.specs.meaning.Sound.{head_links}
 use Rattle.definition_log.specs.declared.links.Mark.{Mark}
 use Rattle.definition_log.specs.declared.links.Mark.TheVariants.{Unmet, Wrong}
 use Rattle.definition_log.specs.machine.Walk.{chains, place_of, link_in, link_of, stored, unmet, first_mark, Held, held, follow, follow_all}

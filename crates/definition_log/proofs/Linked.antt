@@ -8,9 +8,11 @@ use native.Mathlib.Omega.{arith}
 use borrow.Author.Tests.{eq-eqb, eqb-true}
 use lib.Dec.{eqb}
 use Rattle.paths_numbers.proofs.Texts.{by_test}
-use Rattle.definition_log.specs.meaning.Record.{kind_of, next_of, child_of, m_of, first_def, first_ext, first_bind, first_diag, first_post, extension_kind}
+use Rattle.definition_log.specs.meaning.Record.{kind_of, next_of, child_of, m_of, first_def, first_ext, first_bind, first_diag, first_post}
+use Rattle.definition_log.specs.meaning.Record.{extension_kind}
 use Rattle.definition_log.specs.meaning.Record.{leads}
-use Rattle.definition_log.specs.meaning.Sound.{Place, definitions, extensions, bindings, diagnostics, below, Link, link_to, head_links, links_of}
+use Rattle.definition_log.specs.meaning.Sound.{Place, definitions, extensions, bindings, diagnostics, below, Link, link_to, head_links}
+use Rattle.definition_log.specs.meaning.Sound.{links_of}
 use Rattle.definition_log.specs.meaning.Sound.{targets, times, walk, most_links, followed, times_reached}
 use Rattle.definition_log.proofs.Walk.{heads_followed, outs_followed}
 use Rattle.definition_log.proofs.Reached.{Reached, times_to, times_outs, Head, defs, exts, binds, diags, post, head_led}

@@ -11,7 +11,8 @@ use lib.Dec.{eqb, leb}
 use lib.ListN.{get_or}
 use Rattle.paths_numbers.proofs.Texts.{by_test}
 use Rattle.definition_log.specs.meaning.Record.{one_of, kind_of}
-use Rattle.definition_log.specs.meaning.Sound.{Link, kinds_in, targets, times, times_reached, unfit, any_of, links_out, texts_out, record_fault}
+use Rattle.definition_log.specs.meaning.Sound.{Link, kinds_in, targets, times, times_reached, unfit, any_of, links_out, texts_out}
+use Rattle.definition_log.specs.meaning.Sound.{record_fault}
 use Rattle.definition_log.specs.meaning.Sound.{at_fault, first_fault}
 use Rattle.definition_log.specs.declared.links.Mark.{Mark}
 use Rattle.definition_log.specs.declared.links.Mark.TheVariants.{Unmet, Met, Wrong}

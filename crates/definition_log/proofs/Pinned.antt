@@ -10,24 +10,32 @@ use lib.Dec.{eqb}
 use lib.ListN.{length, take, drop}
 use Rattle.paths_numbers.specs.meaning.Reference.{Target, label, label_path, path, unreadable, label_of, path_of}
 use Rattle.paths_numbers.proofs.Texts.{by_test, not_both}
-use Rattle.definition_log.specs.meaning.Contents.{Span, Cell, number, reference, Value, string, cell_list, bytestring, phandle, DefValue, node}
+use Rattle.definition_log.specs.meaning.Contents.{Span, Cell, number, reference, Value, string, cell_list, bytestring, phandle, DefValue}
+use Rattle.definition_log.specs.meaning.Contents.{node}
 use Rattle.definition_log.specs.meaning.Contents.{property, deleted_node, deleted_property, version, plugin, Def, Ext, Binding, Diag}
-use Rattle.definition_log.specs.meaning.Record.{record_words, out_field, kind_of, next_of, text_start, text_length, second_start, second_length, child_of}
-use Rattle.definition_log.specs.meaning.Record.{n_of, m_of, extension_kind, reference_kind, one_of, def_kinds, has_children, has_span, has_name_span}
+use Rattle.definition_log.specs.meaning.Record.{record_words, out_field, kind_of, next_of, text_start, text_length, second_start}
+use Rattle.definition_log.specs.meaning.Record.{second_length, child_of}
+use Rattle.definition_log.specs.meaning.Record.{n_of, m_of, extension_kind, reference_kind, one_of, def_kinds, has_children, has_span}
+use Rattle.definition_log.specs.meaning.Record.{has_name_span}
 use Rattle.definition_log.specs.meaning.Record.{first_text, second_text}
-use Rattle.definition_log.specs.meaning.ReadBack.{chain_of, span_at, name_span_at, target_at, read_labels, cell_at, read_cells, value_at, read_values}
-use Rattle.definition_log.specs.meaning.ReadBack.{def_value_at, def_at, read_defs, ext_target, ext_at, read_exts, binding_at, read_bindings, diag_at}
+use Rattle.definition_log.specs.meaning.ReadBack.{chain_of, span_at, name_span_at, target_at, read_labels, cell_at, read_cells, value_at}
+use Rattle.definition_log.specs.meaning.ReadBack.{read_values}
+use Rattle.definition_log.specs.meaning.ReadBack.{def_value_at, def_at, read_defs, ext_target, ext_at, read_exts, binding_at, read_bindings}
+use Rattle.definition_log.specs.meaning.ReadBack.{diag_at}
 use Rattle.definition_log.specs.meaning.ReadBack.{read_diags, Log, read_log}
-use Rattle.definition_log.specs.meaning.Sound.{Place, definitions, extensions, bindings, diagnostics, labels, values, cells, references, kinds_in}
+use Rattle.definition_log.specs.meaning.Sound.{Place, definitions, extensions, bindings, diagnostics, labels, values, cells, references}
+use Rattle.definition_log.specs.meaning.Sound.{kinds_in}
 use Rattle.definition_log.specs.meaning.Sound.{followed, times_reached, sound, lowest_fault}
 use Rattle.files.specs.meaning.Files.{file_of}
 use Rattle.definition_log.specs.meaning.Record.{span_start, name_start}
 use Rattle.definition_log.specs.meaning.Written.{has_text, has_second_text, has_n, has_m, named, Kept, Written}
 use Rattle.definition_log.specs.meaning.Alike.{AlikeWords, AlikeAll, none, more, AlikeValue, AlikeDef, AlikeExt, AlikeLog, Words32}
-use Rattle.definition_log.proofs.Reached.{Reached, reached_leads, reached_inside, text_length_lem, childless, Head, defs, exts, binds, diags, post}
+use Rattle.definition_log.proofs.Reached.{Reached, reached_leads, reached_inside, text_length_lem, childless, Head, defs, exts, binds}
+use Rattle.definition_log.proofs.Reached.{diags, post}
 use Rattle.definition_log.proofs.Chains.{Chain, ends, goes_on_lem, Starts, chain_list, chain_end, along_start, along_chain, head_starts}
 use Rattle.definition_log.proofs.Chains.{child_starts, body_starts}
-use Rattle.definition_log.proofs.Places.{Stands, EndOrStands, stands_reached, stands_kind, next_stands, child_stands, body_stands, head_stands}
+use Rattle.definition_log.proofs.Places.{Stands, EndOrStands, stands_reached, stands_kind, next_stands, child_stands, body_stands}
+use Rattle.definition_log.proofs.Places.{head_stands}
 
 -- one of several kinds
 one_kind : (k a : ℕ) (l : List ℕ) → one_of k (a ∷ l) ≡ true → (k ≡ a) ⊎ (one_of k l ≡ true)

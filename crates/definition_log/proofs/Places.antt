@@ -11,14 +11,19 @@ use borrow.Author.Tests.{eq-eqb, eqb-false}
 use lib.Dec.{eqb}
 use lib.ListN.{length}
 use Rattle.paths_numbers.proofs.Texts.{by_test, not_both}
-use Rattle.definition_log.specs.meaning.Record.{kind_of, next_of, child_of, m_of, extension_kind, has_children, one_of, log_count, leads, first_def}
+use Rattle.definition_log.specs.meaning.Record.{kind_of, next_of, child_of, m_of, extension_kind, has_children, one_of, log_count, leads}
+use Rattle.definition_log.specs.meaning.Record.{first_def}
 use Rattle.definition_log.specs.meaning.Record.{first_ext, first_bind, first_diag, first_post}
-use Rattle.definition_log.specs.meaning.Sound.{Place, definitions, extensions, bindings, diagnostics, kinds_in, below, Link, link_to, head_links}
-use Rattle.definition_log.specs.meaning.Sound.{links_of, targets, times, walk, most_links, followed, times_reached, unfit, sound, lowest_fault}
+use Rattle.definition_log.specs.meaning.Sound.{Place, definitions, extensions, bindings, diagnostics, kinds_in, below, Link, link_to}
+use Rattle.definition_log.specs.meaning.Sound.{head_links}
+use Rattle.definition_log.specs.meaning.Sound.{links_of, targets, times, walk, most_links, followed, times_reached, unfit, sound}
+use Rattle.definition_log.specs.meaning.Sound.{lowest_fault}
 use Rattle.definition_log.proofs.Counts.{times_other, unmet, unmet_le}
-use Rattle.definition_log.proofs.Walk.{next_part, child_part, body_part, Inside, none, one, inside_append, inside_if, inside_of, inside_heads}
+use Rattle.definition_log.proofs.Walk.{next_part, child_part, body_part, Inside, none, one, inside_append, inside_if, inside_of}
+use Rattle.definition_log.proofs.Walk.{inside_heads}
 use Rattle.definition_log.proofs.Walk.{length_heads, enough_left}
-use Rattle.definition_log.proofs.Reached.{Reached, EndOrReached, good, reached_leads, reached_once, next_reached, child_reached, body_reached}
+use Rattle.definition_log.proofs.Reached.{Reached, EndOrReached, good, reached_leads, reached_once, next_reached, child_reached}
+use Rattle.definition_log.proofs.Reached.{body_reached}
 use Rattle.definition_log.proofs.Reached.{head_reached, Head, defs, exts, binds, diags, post}
 
 abbrev In : Link → List Link → Type 0

@@ -11,15 +11,21 @@ use lib.Dec.{eqb, leb, ltb}
 use lib.ListN.{length, drop, length-drop}
 use lib.Seq.{length-take-le}
 use Rattle.paths_numbers.proofs.Texts.{by_test, not_both}
-use Rattle.definition_log.specs.meaning.Record.{record_words, kind_of, next_of, text_start, text_length, second_start, second_length, child_of, m_of}
-use Rattle.definition_log.specs.meaning.Record.{first_def, first_ext, first_bind, first_diag, first_post, extension_kind, has_children, first_text}
+use Rattle.definition_log.specs.meaning.Record.{record_words, kind_of, next_of, text_start, text_length, second_start, second_length}
+use Rattle.definition_log.specs.meaning.Record.{child_of, m_of}
+use Rattle.definition_log.specs.meaning.Record.{first_def, first_ext, first_bind, first_diag, first_post, extension_kind, has_children}
+use Rattle.definition_log.specs.meaning.Record.{first_text}
 use Rattle.definition_log.specs.meaning.Record.{second_text, out_count, most_records, log_count, leads, leads_out}
-use Rattle.definition_log.specs.meaning.Sound.{Place, definitions, extensions, bindings, diagnostics, Link, link_to, targets, times, head_links}
-use Rattle.definition_log.specs.meaning.Sound.{followed, times_reached, any_of, heads_out, links_out, reached_twice, unfit, texts_out, spans_reversed}
-use Rattle.definition_log.specs.meaning.Sound.{path_wrong, record_fault, at_fault, Soundness, sound, broken, first_fault, lowest_fault, wrong_count}
+use Rattle.definition_log.specs.meaning.Sound.{Place, definitions, extensions, bindings, diagnostics, Link, link_to, targets, times}
+use Rattle.definition_log.specs.meaning.Sound.{head_links}
+use Rattle.definition_log.specs.meaning.Sound.{followed, times_reached, any_of, heads_out, links_out, reached_twice, unfit, texts_out}
+use Rattle.definition_log.specs.meaning.Sound.{spans_reversed}
+use Rattle.definition_log.specs.meaning.Sound.{path_wrong, record_fault, at_fault, Soundness, sound, broken, first_fault, lowest_fault}
+use Rattle.definition_log.specs.meaning.Sound.{wrong_count}
 use Rattle.definition_log.specs.meaning.Sound.{soundness}
 use Rattle.definition_log.proofs.Counts.{times_append}
-use Rattle.definition_log.proofs.Walk.{targets_to, reached_append, to_of, outs, Inside, none, one, inside_followed, leads_below, heads_followed}
+use Rattle.definition_log.proofs.Walk.{targets_to, reached_append, to_of, outs, Inside, none, one, inside_followed, leads_below}
+use Rattle.definition_log.proofs.Walk.{heads_followed}
 use Rattle.definition_log.proofs.Walk.{outs_followed}
 
 -- a record that some link leads to

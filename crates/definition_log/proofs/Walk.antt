@@ -8,9 +8,11 @@ use borrow.Author.Tests.{eq-eqb, ne_eqb, eqb-true, eqb-false, ltb-true}
 use lib.Dec.{eqb}
 use lib.ListN.{length, length-append}
 use Rattle.paths_numbers.proofs.Texts.{by_test, not_both}
-use Rattle.definition_log.specs.meaning.Record.{kind_of, next_of, child_of, m_of, first_def, first_ext, first_bind, first_diag, first_post, extension_kind}
+use Rattle.definition_log.specs.meaning.Record.{kind_of, next_of, child_of, m_of, first_def, first_ext, first_bind, first_diag, first_post}
+use Rattle.definition_log.specs.meaning.Record.{extension_kind}
 use Rattle.definition_log.specs.meaning.Record.{log_count, leads}
-use Rattle.definition_log.specs.meaning.Sound.{Place, definitions, extensions, bindings, diagnostics, below, Link, link_to, head_links, links_of}
+use Rattle.definition_log.specs.meaning.Sound.{Place, definitions, extensions, bindings, diagnostics, below, Link, link_to, head_links}
+use Rattle.definition_log.specs.meaning.Sound.{links_of}
 use Rattle.definition_log.specs.meaning.Sound.{targets, times, walk, most_links, followed, times_reached}
 use Rattle.definition_log.proofs.Counts.{times_append, times_other, times_more, unmet, unmet_le, unmet_more, unmet_new}
 

@@ -17,7 +17,8 @@ use Rattle.definition_log.specs.meaning.Record.{kind_of, one_of, log_count}
 use Rattle.definition_log.specs.meaning.Sound.{kinds_in, Link, links_of, head_links, times, walk, most_links, followed}
 use Rattle.definition_log.specs.declared.links.Mark.{Mark}
 use Rattle.definition_log.specs.declared.links.Mark.TheVariants.{Unmet, Met}
-use Rattle.definition_log.specs.machine.Walk.{link_of, stored, unmet, first_mark, next_mark, Held, held, follow, follow_all, expand, all_marks}
+use Rattle.definition_log.specs.machine.Walk.{link_of, stored, unmet, first_mark, next_mark, Held, held, follow, follow_all, expand}
+use Rattle.definition_log.specs.machine.Walk.{all_marks}
 use Rattle.definition_log.proofs.Walk.{Inside, one, inside_of, inside_heads, length_of, length_heads, leads_below}
 use Rattle.definition_log.proofs.Follow.{room_all}
 use Rattle.definition_log.proofs.Marks.{marked}

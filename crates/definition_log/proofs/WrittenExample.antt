@@ -10,11 +10,14 @@ use Rattle.paths_numbers.specs.meaning.Path.{good_path, components}
 use Rattle.files.specs.meaning.Files.{last_from, file_of}
 use Rattle.definition_log.specs.meaning.Record.{out_field, one_of, log_count}
 use Rattle.definition_log.specs.meaning.ReadBack.{Log, read_log}
-use Rattle.definition_log.specs.meaning.Sound.{link_to, head_links, links_of, targets, times, walk, followed, any_of, heads_out, links_out, unfit}
-use Rattle.definition_log.specs.meaning.Sound.{texts_out, spans_reversed, path_wrong, record_fault, at_fault, first_fault, lowest_fault, sound}
+use Rattle.definition_log.specs.meaning.Sound.{link_to, head_links, links_of, targets, times, walk, followed, any_of, heads_out, links_out}
+use Rattle.definition_log.specs.meaning.Sound.{unfit}
+use Rattle.definition_log.specs.meaning.Sound.{texts_out, spans_reversed, path_wrong, record_fault, at_fault, first_fault, lowest_fault}
+use Rattle.definition_log.specs.meaning.Sound.{sound}
 use Rattle.definition_log.specs.meaning.Written.{named, holders_in, Written}
 use Rattle.definition_log.specs.examples.RecordExample.{listing, listing_bytes, kinds, kinds_bytes, but}
-use Rattle.definition_log.proofs.WrittenTest.{all_below, all_of, zero_or_named, kept_test, rest_test, reached_test, shared_test, word_test, byte_test}
+use Rattle.definition_log.proofs.WrittenTest.{all_below, all_of, zero_or_named, kept_test, rest_test, reached_test, shared_test, word_test}
+use Rattle.definition_log.proofs.WrittenTest.{byte_test}
 use Rattle.definition_log.proofs.WrittenTest.{written_test, written_by_test}
 
 -- of one file, which starts at 0
@@ -23,12 +26,14 @@ one_file = 0 ∷ []
 
 -- they keep row 8's rules and pass the tests of the others
 listing_kept : lowest_fault listing listing_bytes ≡ sound
-unfolding lowest_fault first_fault at_fault record_fault path_wrong spans_reversed texts_out unfit links_out heads_out any_of followed walk times
+unfolding lowest_fault first_fault at_fault record_fault path_wrong spans_reversed texts_out unfit links_out heads_out any_of followed walk
+    times
     targets links_of head_links link_to log_count one_of out_field good_path components is_empty same starts_with
 listing_kept = refl
 
 listing_tested : written_test one_file listing listing_bytes ≡ true
-unfolding written_test all_of all_below rest_test reached_test kept_test zero_or_named shared_test word_test byte_test file_of last_from named
+unfolding written_test all_of all_below rest_test reached_test kept_test zero_or_named shared_test word_test byte_test file_of last_from
+    named
     holders_in followed walk times targets links_of head_links link_to log_count one_of out_field
 listing_tested = refl
 
@@ -37,12 +42,14 @@ unfolding out_field
 listing_written = written_by_test one_file listing listing_bytes listing_kept listing_tested
 
 kinds_kept : lowest_fault kinds kinds_bytes ≡ sound
-unfolding lowest_fault first_fault at_fault record_fault path_wrong spans_reversed texts_out unfit links_out heads_out any_of followed walk times
+unfolding lowest_fault first_fault at_fault record_fault path_wrong spans_reversed texts_out unfit links_out heads_out any_of followed walk
+    times
     targets links_of head_links link_to log_count one_of out_field good_path components is_empty same starts_with
 kinds_kept = refl
 
 kinds_tested : written_test one_file kinds kinds_bytes ≡ true
-unfolding written_test all_of all_below rest_test reached_test kept_test zero_or_named shared_test word_test byte_test file_of last_from named
+unfolding written_test all_of all_below rest_test reached_test kept_test zero_or_named shared_test word_test byte_test file_of last_from
+    named
     holders_in followed walk times targets links_of head_links link_to log_count one_of out_field
 kinds_tested = refl
 
@@ -55,12 +62,14 @@ abbrev odd : ℕ → List ℕ
 odd v = listing ++ 0 ∷ v ∷ []
 
 odd_kept : lowest_fault (odd 0) listing_bytes ≡ sound
-unfolding lowest_fault first_fault at_fault record_fault path_wrong spans_reversed texts_out unfit links_out heads_out any_of followed walk times
+unfolding lowest_fault first_fault at_fault record_fault path_wrong spans_reversed texts_out unfit links_out heads_out any_of followed walk
+    times
     targets links_of head_links link_to log_count one_of out_field good_path components is_empty same starts_with
 odd_kept = refl
 
 odd_tested : written_test one_file (odd 0) listing_bytes ≡ true
-unfolding written_test all_of all_below rest_test reached_test kept_test zero_or_named shared_test word_test byte_test file_of last_from named
+unfolding written_test all_of all_below rest_test reached_test kept_test zero_or_named shared_test word_test byte_test file_of last_from
+    named
     holders_in followed walk times targets links_of head_links link_to log_count one_of out_field
 odd_tested = refl
 

@@ -8,10 +8,12 @@ use mathlib.Core.List.{List}
 use native.Mathlib.Omega.{arith}
 use borrow.Author.Tests.{le-leb, leb-true}
 use Rattle.paths_numbers.proofs.Texts.{by_test, not_both}
-use Rattle.definition_log.specs.meaning.Record.{kind_of, next_of, child_of, m_of, first_def, first_ext, first_bind, first_diag, first_post, extension_kind}
+use Rattle.definition_log.specs.meaning.Record.{kind_of, next_of, child_of, m_of, first_def, first_ext, first_bind, first_diag, first_post}
+use Rattle.definition_log.specs.meaning.Record.{extension_kind}
 use Rattle.definition_log.specs.meaning.Record.{one_of, has_children, leads}
 use Rattle.definition_log.specs.meaning.ReadBack.{chain_of, Log}
-use Rattle.definition_log.specs.meaning.Sound.{Place, definitions, extensions, bindings, diagnostics, labels, values, cells, references, nowhere}
+use Rattle.definition_log.specs.meaning.Sound.{Place, definitions, extensions, bindings, diagnostics, labels, values, cells, references}
+use Rattle.definition_log.specs.meaning.Sound.{nowhere}
 use Rattle.definition_log.specs.meaning.Sound.{kinds_in, below, followed, times_reached, sound, lowest_fault}
 use Rattle.definition_log.specs.meaning.Written.{Written}
 use Rattle.definition_log.specs.meaning.Alike.{AlikeWords, AlikeAll, more, AlikeValue, AlikeDef, AlikeExt, AlikeLog, Words32}

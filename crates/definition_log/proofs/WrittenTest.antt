@@ -8,7 +8,8 @@ use borrow.Author.Tests.{eq-eqb, eqb-true, eqb-false, le-leb, leb-true, ltb-true
 use lib.Dec.{eqb, leb, ltb}
 use lib.ListN.{length, get_or, get_or-eq_default}
 use Rattle.paths_numbers.proofs.Texts.{by_test, not_both, both}
-use Rattle.definition_log.specs.meaning.Record.{record_words, head_words, out_field, kind_of, next_of, child_of, text_start, text_length, second_start}
+use Rattle.definition_log.specs.meaning.Record.{record_words, head_words, out_field, kind_of, next_of, child_of, text_start, text_length}
+use Rattle.definition_log.specs.meaning.Record.{second_start}
 use Rattle.definition_log.specs.meaning.Record.{second_length, n_of, records_used, bytes_used, extension_kind, log_count}
 use Rattle.definition_log.specs.meaning.ReadBack.{read_log}
 use Rattle.definition_log.specs.meaning.Sound.{Link, targets, times, followed, times_reached, is_reached, sound, lowest_fault}

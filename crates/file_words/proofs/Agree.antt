@@ -5,8 +5,10 @@ use mathlib.Core.List.{List, [], ◌∷◌, map}
 use native.Mathlib.Omega.{arith}
 use lib.ListN.{length}
 use Rattle.definition_log.specs.meaning.Record.{out_field, kind_of, next_of, child_of, m_of, first_text, second_text, log_count}
-use Rattle.definition_log.specs.meaning.ReadBack.{chain_from, chain_of, target_at, read_labels, cell_at, read_cells, value_at, read_values, def_value_at}
-use Rattle.definition_log.specs.meaning.ReadBack.{def_at, read_defs, ext_at, read_exts, binding_at, read_bindings, diag_at, read_diags, read_log}
+use Rattle.definition_log.specs.meaning.ReadBack.{chain_from, chain_of, target_at, read_labels, cell_at, read_cells, value_at, read_values}
+use Rattle.definition_log.specs.meaning.ReadBack.{def_value_at}
+use Rattle.definition_log.specs.meaning.ReadBack.{def_at, read_defs, ext_at, read_exts, binding_at, read_bindings, diag_at, read_diags}
+use Rattle.definition_log.specs.meaning.ReadBack.{read_log}
 use Rattle.definition_log.specs.meaning.Sound.{Link, link_to, head_links, links_of, walk, followed, is_reached, heads_out, links_out, unfit}
 use Rattle.definition_log.specs.meaning.Sound.{texts_out, spans_reversed, path_wrong, record_fault, at_fault, first_fault, lowest_fault}
 use Rattle.definition_log.specs.meaning.Written.{holders_in, holders}

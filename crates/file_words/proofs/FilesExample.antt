@@ -10,13 +10,17 @@ use Rattle.paths_numbers.specs.meaning.Text.{same, is_empty, starts_with}
 use Rattle.paths_numbers.specs.meaning.Path.{good_path, components}
 use Rattle.files.specs.meaning.Files.{last_from, file_of}
 use Rattle.definition_log.specs.meaning.Record.{out_field, one_of, log_count}
-use Rattle.definition_log.specs.meaning.ReadBack.{Log, read_log, chain_from, chain_of, read_labels, read_values, def_value_at, def_at, read_defs, read_exts}
+use Rattle.definition_log.specs.meaning.ReadBack.{Log, read_log, chain_from, chain_of, read_labels, read_values, def_value_at, def_at}
+use Rattle.definition_log.specs.meaning.ReadBack.{read_defs, read_exts}
 use Rattle.definition_log.specs.meaning.ReadBack.{binding_at, read_bindings, read_diags}
-use Rattle.definition_log.specs.meaning.Sound.{link_to, head_links, links_of, targets, times, walk, followed, any_of, heads_out, links_out, unfit}
-use Rattle.definition_log.specs.meaning.Sound.{texts_out, spans_reversed, path_wrong, record_fault, at_fault, first_fault, lowest_fault, sound}
+use Rattle.definition_log.specs.meaning.Sound.{link_to, head_links, links_of, targets, times, walk, followed, any_of, heads_out, links_out}
+use Rattle.definition_log.specs.meaning.Sound.{unfit}
+use Rattle.definition_log.specs.meaning.Sound.{texts_out, spans_reversed, path_wrong, record_fault, at_fault, first_fault, lowest_fault}
+use Rattle.definition_log.specs.meaning.Sound.{sound}
 use Rattle.definition_log.specs.meaning.Written.{named, holders_in, Written}
 use Rattle.definition_log.specs.examples.RecordExample.{listing, listing_bytes}
-use Rattle.definition_log.proofs.WrittenTest.{all_below, all_of, zero_or_named, kept_test, rest_test, reached_test, shared_test, word_test, byte_test}
+use Rattle.definition_log.proofs.WrittenTest.{all_below, all_of, zero_or_named, kept_test, rest_test, reached_test, shared_test, word_test}
+use Rattle.definition_log.proofs.WrittenTest.{byte_test}
 use Rattle.definition_log.proofs.WrittenTest.{written_test, written_by_test}
 use Rattle.file_words.specs.machine.Put.{record_put}
 
@@ -33,12 +37,14 @@ unfolding record_put file_of last_from
 put_all = refl
 
 three_kept : lowest_fault listing_of_three listing_bytes ≡ sound
-unfolding lowest_fault first_fault at_fault record_fault path_wrong spans_reversed texts_out unfit links_out heads_out any_of followed walk times
+unfolding lowest_fault first_fault at_fault record_fault path_wrong spans_reversed texts_out unfit links_out heads_out any_of followed walk
+    times
     targets links_of head_links link_to log_count one_of out_field good_path components is_empty same starts_with
 three_kept = refl
 
 three_tested : written_test three_files listing_of_three listing_bytes ≡ true
-unfolding written_test all_of all_below rest_test reached_test kept_test zero_or_named shared_test word_test byte_test file_of last_from named holders_in
+unfolding written_test all_of all_below rest_test reached_test kept_test zero_or_named shared_test word_test byte_test file_of last_from
+    named holders_in
     followed walk times targets links_of head_links link_to log_count one_of out_field
 three_tested = refl
 
@@ -48,7 +54,8 @@ three_written = written_by_test three_files listing_of_three listing_bytes three
 
 -- it says what the listing says
 pub three_reads : read_log listing_of_three listing_bytes ≡ read_log listing listing_bytes
-unfolding read_log read_defs read_exts read_bindings read_diags def_at def_value_at read_labels read_values binding_at chain_of chain_from log_count
+unfolding read_log read_defs read_exts read_bindings read_diags def_at def_value_at read_labels read_values binding_at chain_of chain_from
+    log_count
     out_field
 three_reads = refl
 

@@ -10,7 +10,8 @@ use lib.ListN.{length}
 use Rattle.std.specs.Prelude.{Option, Some, None, Ok, Err}
 use Rattle.std.specs.Option.{ok_or}
 use Rattle.paths_numbers.specs.meaning.Text.{is_empty}
-use Rattle.paths_numbers.specs.meaning.Reference.{Target, label, label_path, path, unreadable, target, number_of, target_number, label_of, path_of}
+use Rattle.paths_numbers.specs.meaning.Reference.{Target, label, label_path, path, unreadable, target, number_of, target_number, label_of}
+use Rattle.paths_numbers.specs.meaning.Reference.{path_of}
 use Rattle.input.specs.meaning.Tree.{macro_kind, first_of}
 use Rattle.input.specs.meaning.Phandle.{readable, plain_target, lower_phandle}
 use Rattle.input.specs.meaning.Input.{number_at, text_at, parts_at}

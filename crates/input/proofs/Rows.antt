@@ -13,7 +13,8 @@ use lib.ListN.{length}
 use Rattle.paths_numbers.proofs.Texts.{by_test, not_both, both}
 use Rattle.paths_numbers.specs.meaning.Lists.{any}
 use Rattle.input.specs.meaning.Tree.{name_kind}
-use Rattle.input.specs.meaning.Input.{record_words, record_count, kind_at, next_at, child_at, text_start_at, text_length_at, span_at, text_at}
+use Rattle.input.specs.meaning.Input.{record_words, record_count, kind_at, next_at, child_at, text_start_at, text_length_at, span_at}
+use Rattle.input.specs.meaning.Input.{text_at}
 use Rattle.input.specs.meaning.Input.{second_at, number_at, trees_at, chain_at, description}
 use Rattle.input.specs.meaning.Place.{InputPlace, items, child_place, second_place, fits_alone}
 use Rattle.input.specs.machine.Fits.{fits_places, depths_of}

@@ -43,7 +43,8 @@ use Rattle.items.specs.declared.unbind.Base.{Base}
 use Rattle.items.specs.declared.unbind.Unbound.{Unbound}
 use Rattle.resolving.proofs.Lowers.{stays_over}
 use Rattle.resolving.proofs.Leading.{last_snoc, label_missing, label_there}
-use Rattle.items.proofs.Unbinding.{member_behind, removed_at, walk_start, walk_here, walk_ended, nothing_left, to_the_end, todo_is, without_append}
+use Rattle.items.proofs.Unbinding.{member_behind, removed_at, walk_start, walk_here, walk_ended, nothing_left, to_the_end, todo_is}
+use Rattle.items.proofs.Unbinding.{without_append}
 
 -- whether a binding has a label
 abbrev named : List ℕ → Binding → Bool

@@ -7,10 +7,12 @@ use lib.ListN.{length-append}
 use native.Mathlib.Omega.{arith}
 use Rattle.paths_numbers.proofs.Texts.{by_test, not_both}
 use Rattle.making.specs.declared.ctx.LowerCtx.{LowerCtx}
-use Rattle.definition_log.specs.meaning.Contents.{Span, Cell, Value, string, cell_list, bytestring, phandle, DefValue, node, property, deleted_node}
+use Rattle.definition_log.specs.meaning.Contents.{Span, Cell, Value, string, cell_list, bytestring, phandle, DefValue, node, property}
+use Rattle.definition_log.specs.meaning.Contents.{deleted_node}
 use Rattle.definition_log.specs.meaning.Contents.{deleted_property, version, plugin, Def, Diag}
 use Rattle.making.specs.meaning.State.{State, define, emit, value_records, values_records, values_bytes, cells_bytes}
-use Rattle.making.specs.machine.Adding.{on_last, changed, on_values, with_cell, last_is, is_property_with, is_cell_list, newest_is, add_part}
+use Rattle.making.specs.machine.Adding.{on_last, changed, on_values, with_cell, last_is, is_property_with, is_cell_list, newest_is}
+use Rattle.making.specs.machine.Adding.{add_part}
 use Rattle.making.specs.machine.Adding.{add_value, add_cell, in_property, in_cell_list}
 use Rattle.making.specs.machine.Represents.{StepsIn}
 use Rattle.making.specs.machine.Recs.{StepsBytes}

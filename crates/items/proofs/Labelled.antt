@@ -5,7 +5,8 @@ use mathlib.Core.Bool.{true}
 use mathlib.Core.List.{List, [], ◌∷◌, ◌++◌, append_assoc, append-nil}
 use native.Mathlib.Omega.{arith}
 use lib.ListN.{length-append}
-use Rattle.definition_log.specs.meaning.Contents.{DefValue, node, property, deleted_node, deleted_property, version, plugin, Def, Ext, Binding}
+use Rattle.definition_log.specs.meaning.Contents.{DefValue, node, property, deleted_node, deleted_property, version, plugin, Def, Ext}
+use Rattle.definition_log.specs.meaning.Contents.{Binding}
 use Rattle.definition_log.specs.meaning.Contents.{Diag}
 use Rattle.making.specs.meaning.State.{State, texts_bytes, bindings_bytes, diags_bytes, bind, emit}
 use Rattle.making.specs.machine.Adding.{on_last, changed, with_label, last_is, is_node, in_node, add_part, add_label}

@@ -1,5 +1,6 @@
 -- At level 2 every value is a number of 64 bits, and what fails has one of six codes, or none: 19 and 24 never arise.
-use Rattle.std.proofs.Common.{◌≡◌, ℕ, ◌+◌, ◌-◌, ◌*◌, ◌%◌, ◌^◌, ◌<◌, ◌≤◌, Bool, true, false, cond, not, ◌&&◌, ◌||◌, eqb, ltb, leb, List, [], ◌∷◌, refl, div-le_self, arith, leb-true}
+use Rattle.std.proofs.Common.{◌≡◌, ℕ, ◌+◌, ◌-◌, ◌*◌, ◌%◌, ◌^◌, ◌<◌, ◌≤◌, Bool, true, false, cond, not, ◌&&◌, ◌||◌, eqb, ltb, leb, List, []}
+use Rattle.std.proofs.Common.{◌∷◌, refl, div-le_self, arith, leb-true}
 use native.Mathlib.Nat.{mod-le}
 use lib.Bits.{and_le_l, or_lt, xor_lt}
 use Rattle.paths_numbers.specs.meaning.Reading.{Reading, value, fails, no_code}

@@ -1,5 +1,6 @@
 -- The cell rule of level 2 is 01's of the result read as a signed number.
-use Rattle.std.proofs.Common.{◌≡◌, ℕ, suc, ◌+◌, ◌-◌, ◌*◌, ◌/◌, ◌%◌, ◌^◌, ◌<◌, ◌≤◌, true, ltb, leb, ℤ, pos, negsuc, refl, ap, ◌∙◌, add-zero, mod-eq_of_lt, arith, pow_pos, w64, to_z, ltb-false, ltb-true, le-ltb, lt-ltb, eq-eqb, leb-false, leb-true}
+use Rattle.std.proofs.Common.{◌≡◌, ℕ, suc, ◌+◌, ◌-◌, ◌*◌, ◌/◌, ◌%◌, ◌^◌, ◌<◌, ◌≤◌, true, ltb, leb, ℤ, pos, negsuc, refl, ap, ◌∙◌, add-zero}
+use Rattle.std.proofs.Common.{mod-eq_of_lt, arith, pow_pos, w64, to_z, ltb-false, ltb-true, le-ltb, lt-ltb, eq-eqb, leb-false, leb-true}
 use mathlib.Core.Bool.{and-false}
 use native.Mathlib.Nat.{mul-add-mod_self_right, mul-add-div_right, div-eq_of_lt}
 use borrow.Author.Tests.{lt-leb}

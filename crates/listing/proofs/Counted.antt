@@ -13,7 +13,8 @@ use Rattle.paths_numbers.specs.meaning.Path.{root, join}
 use Rattle.paths_numbers.specs.meaning.Reference.{Target}
 use Rattle.paths_numbers.proofs.Texts.{by_test}
 use Rattle.definition_log.specs.meaning.Contents.{Span, Def, Ext, Binding, Diag}
-use Rattle.making.specs.meaning.State.{State, start, part_records, part_bytes, bindings_bytes, diags_bytes, define, bind, emit, apart, dropped}
+use Rattle.making.specs.meaning.State.{State, start, part_records, part_bytes, bindings_bytes, diags_bytes, define, bind, emit, apart}
+use Rattle.making.specs.meaning.State.{dropped}
 use Rattle.making.specs.meaning.State.{extended}
 use Rattle.queries.specs.meaning.Kind.{sets_overlay}
 use Rattle.paths_numbers.specs.meaning.Lists.{any}
@@ -24,7 +25,8 @@ use Rattle.input.specs.meaning.Name.{full_name, labels_of}
 use Rattle.input.specs.meaning.Phandle.{lower_phandle}
 use Rattle.resolving.specs.meaning.Resolve.{Resolution, reaches, missing, resolve}
 use Rattle.items.specs.meaning.Unbind.{binds_label_of, without, unbind}
-use Rattle.items.specs.meaning.Lower.{Place, at, aside, discarded, nowhere, place_of, node_def, opened, lower_placed, lower_node, named_property}
+use Rattle.items.specs.meaning.Lower.{Place, at, aside, discarded, nowhere, place_of, node_def, opened, lower_placed, lower_node}
+use Rattle.items.specs.meaning.Lower.{named_property}
 use Rattle.items.specs.meaning.Lower.{lower_property, delete_node, delete_resolved, delete_target, delete_referenced, delete_named}
 use Rattle.items.specs.meaning.Lower.{lower_delete_node, delete_property_named, lower_directive, lower_as, lower_item, lower_items, lowered}
 use Rattle.items.proofs.Labelled.{diags_append}

@@ -9,7 +9,8 @@ use lib.Dec.{leb, ltb}
 use lib.ListN.{length, replicate, length-append, length-replicate}
 use Rattle.paths_numbers.proofs.Texts.{by_test, both}
 use Rattle.levels.specs.meaning.Rules.{signed_level}
-use Rattle.definition_log.specs.meaning.Contents.{Span, DefValue, node, property, deleted_node, deleted_property, version, plugin, Def, Binding, Diag}
+use Rattle.definition_log.specs.meaning.Contents.{Span, DefValue, node, property, deleted_node, deleted_property, version, plugin, Def}
+use Rattle.definition_log.specs.meaning.Contents.{Binding, Diag}
 use Rattle.definition_log.specs.meaning.Record.{out_count}
 use Rattle.making.specs.meaning.State.{State, part_records, part_bytes, texts_bytes, bindings_bytes}
 use Rattle.queries.specs.meaning.Labels.{labels_in}

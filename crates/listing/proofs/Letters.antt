@@ -10,7 +10,8 @@ use lib.Dec.{eqb}
 use lib.ListN.{length}
 use Rattle.paths_numbers.proofs.Texts.{no_byte}
 use Rattle.definition_log.specs.meaning.Contents.{Value}
-use Rattle.definition_log.specs.meaning.Record.{kind_of, child_of, node_kind, property_kind, deleted_node_kind, deleted_property_kind, plugin_kind}
+use Rattle.definition_log.specs.meaning.Record.{kind_of, child_of, node_kind, property_kind, deleted_node_kind, deleted_property_kind}
+use Rattle.definition_log.specs.meaning.Record.{plugin_kind}
 use Rattle.definition_log.specs.meaning.ReadBack.{def_at, def_value_at, read_labels}
 use Rattle.queries.specs.meaning.Labels.{labels_in}
 use Rattle.queries.proofs.Records.{by_kind, value_of, labels_kind}

@@ -19,7 +19,8 @@ use Rattle.resolving.specs.meaning.Resolve.{Resolution, reaches, missing, resolv
 use Rattle.items.specs.meaning.Unbind.{unbind}
 use Rattle.items.specs.meaning.Lower.{Place, at, aside, discarded, nowhere, place_of, node_def, opened, lower_placed, lower_node}
 use Rattle.items.specs.meaning.Lower.{named_property, lower_property, delete_node, delete_resolved, delete_target, delete_referenced}
-use Rattle.items.specs.meaning.Lower.{delete_named, lower_delete_node, delete_property_named, lower_directive, lower_as, lower_item, lower_items}
+use Rattle.items.specs.meaning.Lower.{delete_named, lower_delete_node, delete_property_named, lower_directive, lower_as, lower_item}
+use Rattle.items.specs.meaning.Lower.{lower_items}
 use Rattle.resolving.proofs.Lowers.{Grows, define_grows, bind_grows, emit_grows}
 
 -- from one state to another neither count falls

@@ -22,7 +22,8 @@ use Rattle.resolving.specs.meaning.Resolve.{Resolution, reaches, missing, resolv
 use Rattle.input.specs.meaning.Property.{lower_values}
 use Rattle.input.specs.meaning.GoodName.{good_names, good_names_in}
 use Rattle.items.specs.meaning.Lower.{named_property, lower_property, bare, delete_node, delete_resolved, delete_target, delete_referenced}
-use Rattle.items.specs.meaning.Lower.{delete_named, lower_delete_node, delete_property_named, lower_directive, lower_as, lower_item, lower_items}
+use Rattle.items.specs.meaning.Lower.{delete_named, lower_delete_node, delete_property_named, lower_directive, lower_as, lower_item}
+use Rattle.items.specs.meaning.Lower.{lower_items}
 use Rattle.items.specs.meaning.Lower.{lowered}
 use Rattle.input.specs.meaning.Input.{description}
 use Rattle.input.specs.meaning.Place.{items}
@@ -30,7 +31,8 @@ use Rattle.input.specs.meaning.Rows.{accepted, verdict}
 use Rattle.lowering.specs.meaning.Lowered.{log_of, meaning}
 use Rattle.input.proofs.GoodNames.{full_plain, first_plain, good_parts, good_second}
 use Rattle.input.proofs.Rows.{accepted_names, accepted_places}
-use Rattle.input.proofs.Spans.{spans, spans_in, fits_spans, own_span_lem, child_spans, second_spans, chain_spans, first_spans, property_span}
+use Rattle.input.proofs.Spans.{spans, spans_in, fits_spans, own_span_lem, child_spans, second_spans, chain_spans, first_spans}
+use Rattle.input.proofs.Spans.{property_span}
 use Rattle.lowering.proofs.GoodLists.{all_append}
 use Rattle.lowering.proofs.GoodReports.{GoodDiags, good_report, full_reports, phandle_reports}
 use Rattle.lowering.proofs.GoodValues.{value_reports}

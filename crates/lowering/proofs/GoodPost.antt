@@ -7,7 +7,8 @@ use mathlib.Core.List.{List, [], ◌∷◌, ◌++◌}
 use Rattle.paths_numbers.specs.meaning.Text.{same}
 use Rattle.paths_numbers.specs.meaning.Reference.{Target}
 use Rattle.paths_numbers.proofs.Texts.{cond_in}
-use Rattle.definition_log.specs.meaning.Contents.{Span, Cell, number, reference, Value, string, cell_list, bytestring, phandle, DefValue, node}
+use Rattle.definition_log.specs.meaning.Contents.{Span, Cell, number, reference, Value, string, cell_list, bytestring, phandle, DefValue}
+use Rattle.definition_log.specs.meaning.Contents.{node}
 use Rattle.definition_log.specs.meaning.Contents.{property, deleted_node, deleted_property, version, plugin, Def, Binding}
 use Rattle.making.specs.meaning.State.{State}
 use Rattle.definition_log.specs.machine.Good.{all, in_order, good_def, good_binding, good_diag}
@@ -15,8 +16,10 @@ use Rattle.queries.specs.meaning.Kind.{sets_overlay}
 use Rattle.paths_numbers.specs.meaning.Lists.{any}
 use Rattle.queries.specs.meaning.Live.{live}
 use Rattle.resolving.specs.meaning.Resolve.{Resolution, reaches, missing, resolve}
-use Rattle.post_checks.specs.meaning.Post.{duplicates_of, duplicate_labels, reference_report, check_target, check_cell, check_cells, check_value}
-use Rattle.post_checks.specs.meaning.Post.{check_values, check_def, check_defs, check_references, Headers, at_first, next_headers, header_report}
+use Rattle.post_checks.specs.meaning.Post.{duplicates_of, duplicate_labels, reference_report, check_target, check_cell, check_cells}
+use Rattle.post_checks.specs.meaning.Post.{check_value}
+use Rattle.post_checks.specs.meaning.Post.{check_values, check_def, check_defs, check_references, Headers, at_first, next_headers}
+use Rattle.post_checks.specs.meaning.Post.{header_report}
 use Rattle.post_checks.specs.meaning.Post.{directives_from, check_directives, post_checks}
 use Rattle.lowering.proofs.GoodLists.{all_first, all_rest, all_append}
 use Rattle.lowering.proofs.GoodReports.{GoodDiags, no_reports, good_report}

@@ -17,7 +17,8 @@ use Rattle.levels.specs.meaning.Rules.{Rules, unsigned_level, signed_rules, unsi
 use Rattle.definition_log.specs.meaning.Contents.{Span}
 use Rattle.definition_log.specs.machine.Good.{in_order, good_diag}
 use Rattle.input.specs.meaning.Tree.{Tree, Trees, empty, more, kind_of, text_of, w_of, span_of, children_of, reference_kind, macro_kind}
-use Rattle.input.specs.meaning.Tree.{directive_kind, preprocessor_kind, string_kind, cell_list_kind, bytestring_kind, number_kind, character_kind}
+use Rattle.input.specs.meaning.Tree.{directive_kind, preprocessor_kind, string_kind, cell_list_kind, bytestring_kind, number_kind}
+use Rattle.input.specs.meaning.Tree.{character_kind}
 use Rattle.input.specs.meaning.Tree.{expression_kind}
 use Rattle.input.specs.meaning.Report.{Got, Made}
 use Rattle.input.specs.meaning.Phandle.{lower_phandle}

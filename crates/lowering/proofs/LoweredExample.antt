@@ -26,13 +26,15 @@ use Rattle.lowering.specs.examples.InputExample.{listing_words, listing_text, li
 
 -- what the definitions make of the tree, all that is written among it
 made_log : log_of (lowered signed_level items) ≡ read_log listing listing_bytes
-unfolding log_of lowered lower_item lower_items lower_node lower_directive place_of opened label_texts define bind emit labels_of name_or_macro
+unfolding log_of lowered lower_item lower_items lower_node lower_directive place_of opened label_texts define bind emit labels_of
+    name_or_macro
     full_name node_name_span first_of has join same is_empty post_checks check_directives directives_from check_references check_defs duplicate_labels
     duplicates_of any sets_overlay live is_live gone at_or_under strip begins starts_with
 made_log = sym listing_reads
 
 made_records : records_made (lowered signed_level items) ≡ 6
-unfolding records_made lowered lower_item lower_items lower_node lower_directive place_of opened label_texts define bind emit labels_of name_or_macro
+unfolding records_made lowered lower_item lower_items lower_node lower_directive place_of opened label_texts define bind emit labels_of
+    name_or_macro
     full_name node_name_span first_of has join same is_empty post_checks check_directives directives_from check_references check_defs duplicate_labels
     duplicates_of any sets_overlay live is_live gone at_or_under strip begins starts_with
 made_records = refl

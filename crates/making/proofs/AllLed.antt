@@ -21,7 +21,8 @@ use Rattle.definition_log.proofs.Reached.{Reached, out_reached, times_outs, time
 use Rattle.making.proofs.ReadEvents.{Splits, splits_here, splits_later, next_at_lem, leads_there}
 use Rattle.making.proofs.FirstOf.{at_to, first_member, first_some, in_chain_lem}
 use Rattle.making.proofs.Standing.{extends}
-use Rattle.making.proofs.LogLinks.{sixteen, head_def_lem, head_ext_lem, head_bind_lem, head_diag_lem, head_post_lem, kind_is, child_is, m_is}
+use Rattle.making.proofs.LogLinks.{sixteen, head_def_lem, head_ext_lem, head_bind_lem, head_diag_lem, head_post_lem, kind_is, child_is}
+use Rattle.making.proofs.LogLinks.{m_is}
 
 -- an owner stands before its children
 owner_before : {k t o : ℕ} {es : List Event} {y : Event} → Ordered k es → At k es t y → y.chain ≡ children_of o → o < t

@@ -133,7 +133,8 @@ making_made = making_stays told (λ a. (stays_diagnostic refl refl, plain_diagno
 
 -- so the log is complete, by the spans and paths that it says
 good : good_log (log_in made) ≡ true
-unfolding good_log good_def good_ext good_binding good_diag all log_in defs_in def_of def_value_of ext_of target_of members good_path components is_empty
+unfolding good_log good_def good_ext good_binding good_diag all log_in defs_in def_of def_value_of ext_of target_of members good_path
+    components is_empty
     same starts_with
 good = refl
 

@@ -13,7 +13,8 @@ use Rattle.making.specs.declared.ctx.LowerCtx.{LowerCtx}
 use Rattle.making.specs.declared.place.PathAt.TheVariants as P
 use Rattle.definition_log.specs.meaning.Contents.{Def}
 use Rattle.making.specs.meaning.State.{State}
-use Rattle.definition_log.specs.meaning.Record.{log_count, out_field, text_start, text_length, second_start, second_length, first_text, second_text}
+use Rattle.definition_log.specs.meaning.Record.{log_count, out_field, text_start, text_length, second_start, second_length, first_text}
+use Rattle.definition_log.specs.meaning.Record.{second_text}
 use Rattle.definition_log.specs.meaning.ReadBack.{chain_of, read_defs, read_bindings}
 use Rattle.making.specs.machine.Events.{Event, defs_of, bindings, first, start_of, end_of, members, all_words, def_of, defs_in}
 use Rattle.making.specs.machine.Events.{binding_of}

@@ -16,7 +16,8 @@ use Rattle.making.specs.declared.ctx.LowerCtx.{LowerCtx}
 use Rattle.making.specs.declared.ctx.Chain.{Chain}
 use Rattle.making.specs.declared.ctx.Rec.{Rec}
 use Rattle.making.specs.meaning.State.{State}
-use Rattle.definition_log.specs.meaning.Record.{out_field, kind_of, child_of, text_start, text_length, second_start, second_length, text_in, first_text}
+use Rattle.definition_log.specs.meaning.Record.{out_field, kind_of, child_of, text_start, text_length, second_start, second_length, text_in}
+use Rattle.definition_log.specs.meaning.Record.{first_text}
 use Rattle.definition_log.specs.meaning.Record.{second_text, log_count, diagnostic_kind}
 use Rattle.definition_log.specs.meaning.ReadBack.{chain_of}
 use Rattle.making.specs.machine.Events.{Event, defs_of, bindings, diagnostics, post_diagnostics, children_of, in_chain, first}

@@ -8,7 +8,8 @@ use borrow.Author.Tests.{eqb-true, le-leb, leb-false}
 use lib.Dec.{eqb, leb}
 use lib.ListN.{length}
 use Rattle.paths_numbers.proofs.Texts.{by_test, not_both, both}
-use Rattle.definition_log.specs.meaning.Record.{one_of, def_kinds, node_kind, property_kind, cell_list_kind, extension_kind, binding_kind, diagnostic_kind}
+use Rattle.definition_log.specs.meaning.Record.{one_of, def_kinds, node_kind, property_kind, cell_list_kind, extension_kind, binding_kind}
+use Rattle.definition_log.specs.meaning.Record.{diagnostic_kind}
 use Rattle.definition_log.specs.meaning.Record.{has_children}
 use Rattle.definition_log.specs.meaning.Sound.{kinds_in, labels, values, cells, references, nowhere}
 use Rattle.making.specs.machine.Events.{Event, children_of, in_chain, first, last, Ordered, members}

@@ -17,7 +17,8 @@ use Rattle.definition_log.proofs.Walk.{to_of, outs, leads_below, from_new, new_n
 use Rattle.definition_log.proofs.Reached.{times_outs, times_heads}
 use Rattle.making.proofs.FirstOf.{at_from, at_same, Leads, leads_first}
 use Rattle.making.proofs.Standing.{extends}
-use Rattle.making.proofs.LogLinks.{kind_is, head_def_lem, head_ext_lem, head_bind_lem, head_diag_lem, head_post_lem, link_next, link_child, link_body}
+use Rattle.making.proofs.LogLinks.{kind_is, head_def_lem, head_ext_lem, head_bind_lem, head_diag_lem, head_post_lem, link_next, link_child}
+use Rattle.making.proofs.LogLinks.{link_body}
 use Rattle.making.proofs.LogLinks.{reached_there}
 
 -- a link to t: the record that has it, 0 for record 0, and which of its links it is

@@ -9,9 +9,11 @@ use borrow.Author.Tests.{eqb-true}
 use lib.Dec.{eqb}
 use lib.ListN.{length}
 use Rattle.paths_numbers.proofs.Texts.{by_test}
-use Rattle.definition_log.specs.meaning.Record.{out_field, kind_of, next_of, child_of, m_of, first_def, first_ext, first_bind, first_diag, first_post}
+use Rattle.definition_log.specs.meaning.Record.{out_field, kind_of, next_of, child_of, m_of, first_def, first_ext, first_bind, first_diag}
+use Rattle.definition_log.specs.meaning.Record.{first_post}
 use Rattle.definition_log.specs.meaning.Record.{extension_kind, one_of, log_count, leads}
-use Rattle.definition_log.specs.meaning.Sound.{Place, definitions, extensions, kinds_in, below, Link, link_to, head_links, links_of, targets, times, walk}
+use Rattle.definition_log.specs.meaning.Sound.{Place, definitions, extensions, kinds_in, below, Link, link_to, head_links, links_of}
+use Rattle.definition_log.specs.meaning.Sound.{targets, times, walk}
 use Rattle.definition_log.specs.meaning.Sound.{most_links, followed, times_reached, unfit}
 use Rattle.definition_log.specs.meaning.Sound as S
 use Rattle.making.specs.machine.Events.{Event, defs_of, exts_of, bindings, diagnostics, post_diagnostics, children_of, first, all_words}

@@ -8,7 +8,8 @@ use native.Mathlib.Omega.{arith}
 use borrow.Author.Tests.{ne_eqb}
 use lib.ListN.{length, length-append}
 use Rattle.paths_numbers.proofs.Texts.{by_test}
-use Rattle.definition_log.specs.meaning.Record.{reference_kind, extension_kind, binding_kind, diagnostic_kind, one_of, def_kinds, has_children}
+use Rattle.definition_log.specs.meaning.Record.{reference_kind, extension_kind, binding_kind, diagnostic_kind, one_of, def_kinds}
+use Rattle.definition_log.specs.meaning.Record.{has_children}
 use Rattle.definition_log.specs.meaning.Sound.{kinds_in, below as place_below}
 use Rattle.making.specs.machine.Events.{Event, defs_of, exts_of, bindings, diagnostics, post_diagnostics, children_of, in_chain, first}
 use Rattle.making.specs.machine.Events.{members}

@@ -14,9 +14,11 @@ use Rattle.definition_log.specs.meaning.Contents.{Cell, Value, DefValue, Def}
 use Rattle.making.specs.meaning.State.{State, value_bytes, cell_bytes}
 use Rattle.making.specs.machine.Adding.{last_is, is_node, is_cell_list, is_property_with, newest_is, add_part, changed, on_values, on_last}
 use Rattle.making.specs.machine.Adding.{with_label, with_cell, in_node, in_property, in_cell_list, add_label, add_value, add_cell}
-use Rattle.definition_log.specs.meaning.Record.{node_kind, property_kind, deleted_node_kind, deleted_property_kind, plugin_kind, cell_list_kind, bytestring_kind}
+use Rattle.definition_log.specs.meaning.Record.{node_kind, property_kind, deleted_node_kind, deleted_property_kind, plugin_kind}
+use Rattle.definition_log.specs.meaning.Record.{cell_list_kind, bytestring_kind}
 use Rattle.definition_log.specs.meaning.Record.{reference_kind, label_kind, one_of, has_children, extension_kind}
-use Rattle.making.specs.machine.Events.{Event, defs_of, exts_of, children_of, last, Ordered, ordered_none, ordered_next, Numbered, members, below}
+use Rattle.making.specs.machine.Events.{Event, defs_of, exts_of, children_of, last, Ordered, ordered_none, ordered_next, Numbered, members}
+use Rattle.making.specs.machine.Events.{below}
 use Rattle.making.specs.machine.Events.{cell_of, value_of, def_value_of, def_of, defs_in}
 use Rattle.making.specs.machine.Buffers.{event_of}
 use Rattle.making.specs.machine.Made.{Told, child_link, with_part, with_last_cell}

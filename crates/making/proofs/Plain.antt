@@ -7,7 +7,8 @@ use native.Mathlib.Omega.{arith}
 use borrow.Author.Tests.{eqb-true, eqb-false}
 use lib.Dec.{eqb}
 use Rattle.paths_numbers.proofs.Texts.{by_test, not_both}
-use Rattle.definition_log.specs.meaning.Record.{node_kind, cell_list_kind, number_kind, reference_kind, extension_kind, binding_kind, diagnostic_kind, one_of}
+use Rattle.definition_log.specs.meaning.Record.{node_kind, cell_list_kind, number_kind, reference_kind, extension_kind, binding_kind}
+use Rattle.definition_log.specs.meaning.Record.{diagnostic_kind, one_of}
 use Rattle.definition_log.specs.meaning.Record.{def_kinds}
 use Rattle.definition_log.specs.meaning.Written.{has_text, has_second_text, has_n, has_m, largest_n}
 use Rattle.making.specs.machine.Events.{Event}

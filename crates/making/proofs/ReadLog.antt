@@ -7,13 +7,18 @@ use native.Mathlib.Omega.{arith}
 use borrow.Author.Tests.{eqb-true}
 use lib.ListN.{length}
 use Rattle.paths_numbers.proofs.Texts.{by_test, both}
-use Rattle.definition_log.specs.meaning.Record.{kind_of, child_of, n_of, m_of, span_start, span_end, name_start, name_end, text_start, text_length, second_start}
+use Rattle.definition_log.specs.meaning.Record.{kind_of, child_of, n_of, m_of, span_start, span_end, name_start, name_end, text_start}
+use Rattle.definition_log.specs.meaning.Record.{text_length, second_start}
 use Rattle.definition_log.specs.meaning.Record.{second_length, first_text, second_text, log_count}
-use Rattle.definition_log.specs.meaning.ReadBack.{chain_of, span_at, name_span_at, target_at, read_labels, cell_at, read_cells, value_at, read_values}
-use Rattle.definition_log.specs.meaning.ReadBack.{def_value_at, def_at, read_defs, binding_at, read_bindings, diag_at, read_diags, ext_target, ext_at, read_exts}
+use Rattle.definition_log.specs.meaning.ReadBack.{chain_of, span_at, name_span_at, target_at, read_labels, cell_at, read_cells, value_at}
+use Rattle.definition_log.specs.meaning.ReadBack.{read_values}
+use Rattle.definition_log.specs.meaning.ReadBack.{def_value_at, def_at, read_defs, binding_at, read_bindings, diag_at, read_diags}
+use Rattle.definition_log.specs.meaning.ReadBack.{ext_target, ext_at, read_exts}
 use Rattle.making.specs.machine.Events.{Event, Ordered, ordered_none, ordered_next, children_of, defs_of, in_chain, first, words16}
-use Rattle.making.specs.machine.Events.{bytes_in, Numbered, members, all_words, all_bytes, start_of, span_of, name_span_of, target_of, below}
-use Rattle.making.specs.machine.Events.{label_of, cell_of, value_of, def_value_of, def_of, defs_in, binding_of, diag_of, target_below, ext_of}
+use Rattle.making.specs.machine.Events.{bytes_in, Numbered, members, all_words, all_bytes, start_of, span_of, name_span_of, target_of}
+use Rattle.making.specs.machine.Events.{below}
+use Rattle.making.specs.machine.Events.{label_of, cell_of, value_of, def_value_of, def_of, defs_in, binding_of, diag_of, target_below}
+use Rattle.making.specs.machine.Events.{ext_of}
 use Rattle.making.proofs.ReadEvents.{Splits, splits_here, splits_later, splits_from, field_at, numbers_of, leads_there, chain_members}
 use Rattle.making.proofs.ReadEvents.{text_at_lem, second_at_lem}
 

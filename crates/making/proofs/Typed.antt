@@ -16,7 +16,8 @@ use Rattle.paths_numbers.specs.declared.phandle.MirPhandleTarget.TheVariants as 
 use Rattle.definition_log.specs.meaning.Contents.{number, reference, string, cell_list, bytestring, phandle}
 use Rattle.making.specs.meaning.State.{define, bind, emit, target_bytes, texts_bytes, values_records, values_bytes, cells_bytes}
 use Rattle.making.specs.machine.Adding.{in_node, in_property, in_cell_list, add_label, add_value, add_cell}
-use Rattle.definition_log.specs.meaning.Record.{one_of, string_kind, cell_list_kind, bytestring_kind, number_kind, reference_kind, label_kind, binding_kind}
+use Rattle.definition_log.specs.meaning.Record.{one_of, string_kind, cell_list_kind, bytestring_kind, number_kind, reference_kind}
+use Rattle.definition_log.specs.meaning.Record.{label_kind, binding_kind}
 use Rattle.definition_log.specs.meaning.Record.{diagnostic_kind, extension_kind}
 use Rattle.making.specs.machine.Events.{children_of, target_of, cell_of, value_of, def_value_of, def_of}
 use Rattle.making.specs.machine.Buffers.{event_of}

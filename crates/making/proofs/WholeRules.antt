@@ -10,11 +10,15 @@ use lib.ListN.{length, get_or}
 use Rattle.paths_numbers.specs.meaning.Text.{is_empty}
 use Rattle.paths_numbers.specs.meaning.Path.{good_path}
 use Rattle.paths_numbers.proofs.Texts.{by_test, not_both}
-use Rattle.definition_log.specs.meaning.Record.{out_field, kind_of, next_of, child_of, m_of, text_start, text_length, second_start, second_length, span_start}
-use Rattle.definition_log.specs.meaning.Record.{span_end, name_start, name_end, first_def, first_ext, first_bind, first_diag, first_post, version_kind}
-use Rattle.definition_log.specs.meaning.Record.{plugin_kind, binding_kind, extension_kind, one_of, def_kinds, has_children, has_span, has_name_span, log_count}
+use Rattle.definition_log.specs.meaning.Record.{out_field, kind_of, next_of, child_of, m_of, text_start, text_length, second_start}
+use Rattle.definition_log.specs.meaning.Record.{second_length, span_start}
+use Rattle.definition_log.specs.meaning.Record.{span_end, name_start, name_end, first_def, first_ext, first_bind, first_diag, first_post}
+use Rattle.definition_log.specs.meaning.Record.{version_kind}
+use Rattle.definition_log.specs.meaning.Record.{plugin_kind, binding_kind, extension_kind, one_of, def_kinds, has_children, has_span}
+use Rattle.definition_log.specs.meaning.Record.{has_name_span, log_count}
 use Rattle.definition_log.specs.meaning.Record.{leads_out}
-use Rattle.definition_log.specs.meaning.Sound.{Link, nonempty_path, followed, times_reached, any_of, heads_out, links_out, texts_out, spans_reversed}
+use Rattle.definition_log.specs.meaning.Sound.{Link, nonempty_path, followed, times_reached, any_of, heads_out, links_out, texts_out}
+use Rattle.definition_log.specs.meaning.Sound.{spans_reversed}
 use Rattle.definition_log.specs.meaning.Sound.{path_wrong, record_fault, at_fault, sound, first_fault, lowest_fault}
 use Rattle.making.specs.machine.Events.{Event, defs_of, exts_of, bindings, diagnostics, post_diagnostics, children_of, first, start_of}
 use Rattle.making.specs.machine.Events.{alive16, words16, bytes_in, end_of, all_words, all_bytes, Ordered}
@@ -25,7 +29,8 @@ use Rattle.making.proofs.ReadLog.{first_text_at, second_text_at}
 use Rattle.making.proofs.Removing.{end_least, length_bytes}
 use Rattle.making.proofs.FirstOf.{at_to, at_same, split, leads_first, leads_next}
 use Rattle.making.proofs.Standing.{extends, owned}
-use Rattle.making.proofs.LogLinks.{sixteen, head_def_lem, head_ext_lem, head_bind_lem, head_diag_lem, head_post_lem, kind_is, next_is, child_is, m_is}
+use Rattle.making.proofs.LogLinks.{sixteen, head_def_lem, head_ext_lem, head_bind_lem, head_diag_lem, head_post_lem, kind_is, next_is}
+use Rattle.making.proofs.LogLinks.{child_is, m_is}
 use Rattle.making.proofs.LogLinks.{reached_there, followed_fits}
 use Rattle.making.proofs.LedOnce.{led_once}
 

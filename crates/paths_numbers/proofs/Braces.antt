@@ -1,5 +1,6 @@
 -- The braces around a raw reference, and the text between them.
-use Rattle.std.proofs.Common.{◌≡◌, ℕ, suc, ◌+◌, ◌-◌, ◌<◌, ◌≤◌, Bool, true, false, cond, eqb, List, [], ◌∷◌, ◌++◌, length, get_or, take, drop, sym, refl, ap, ◌∙◌, arith, length-append, drop_of_length-le, take_at, eq-eqb, eqb-true}
+use Rattle.std.proofs.Common.{◌≡◌, ℕ, suc, ◌+◌, ◌-◌, ◌<◌, ◌≤◌, Bool, true, false, cond, eqb, List, [], ◌∷◌, ◌++◌, length, get_or, take}
+use Rattle.std.proofs.Common.{drop, sym, refl, ap, ◌∙◌, arith, length-append, drop_of_length-le, take_at, eq-eqb, eqb-true}
 use lib.Seq.{get_or_at, split_at}
 use Rattle.paths_numbers.specs.meaning.Byte.{ampersand, opening_brace, closing_brace}
 use Rattle.paths_numbers.specs.meaning.Text.{begins}

@@ -1,5 +1,7 @@
 -- The hex digits of a bytestring read byte by byte, paired to bytes, and written.
-use Rattle.std.proofs.Common.{◌≡◌, ℕ, suc, Option, None, Some, ◌+◌, ◌*◌, ◌/◌, ◌%◌, ◌<◌, ◌≤◌, Bool, true, false, not, nat_lt, ◌==◌, List, [], ◌∷◌, length, get_or, drop, set, sym, refl, ap, ◌∙◌, add-one, arith, length-set, drop_of_length-le, drop-cons, le-ltb, lt-ltb, eq-eqb, ne_eqb, le-leb}
+use Rattle.std.proofs.Common.{◌≡◌, ℕ, suc, Option, None, Some, ◌+◌, ◌*◌, ◌/◌, ◌%◌, ◌<◌, ◌≤◌, Bool, true, false, not, nat_lt, ◌==◌, List, []}
+use Rattle.std.proofs.Common.{◌∷◌, length, get_or, drop, set, sym, refl, ap, ◌∙◌, add-one, arith, length-set, drop_of_length-le, drop-cons}
+use Rattle.std.proofs.Common.{le-ltb, lt-ltb, eq-eqb, ne_eqb, le-leb}
 use mathlib.Core.Option.{some, none}
 use borrow.Author.Tests.{lt-leb}
 use Rattle.std.specs.Char.{digit_value, is_digit}

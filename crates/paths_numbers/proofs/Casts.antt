@@ -1,5 +1,6 @@
 -- Signed numbers of 64 bits as the machine reads them: the test of the sign, the cast, and -1 minus one of them.
-use Rattle.std.proofs.Common.{◌≡◌, ℕ, zero, suc, ◌+◌, ◌-◌, ◌%◌, ◌^◌, ◌<◌, ◌≤◌, true, false, T, ℤ, pos, negsuc, ◌-ℤ◌, neg_ℤ, nat_abs, refl, ap, ◌∙◌, arith, w64, SFits, to_z, le-ltb}
+use Rattle.std.proofs.Common.{◌≡◌, ℕ, zero, suc, ◌+◌, ◌-◌, ◌%◌, ◌^◌, ◌<◌, ◌≤◌, true, false, T, ℤ, pos, negsuc, ◌-ℤ◌, neg_ℤ, nat_abs, refl}
+use Rattle.std.proofs.Common.{ap, ◌∙◌, arith, w64, SFits, to_z, le-ltb}
 use lib.Dec.{leb-zero}
 use lib.Signed.{le_z, non_neg, pos-nat_abs}
 use mir.ValLaws.{to_z_pos, to_z-neg}

@@ -1,5 +1,6 @@
 -- Which numbers a width holds, with its largest unsigned number in place of its power of two.
-use Rattle.std.proofs.Common.{◌≡◌, ℕ, suc, ◌+◌, ◌-◌, ◌/◌, ◌^◌, ◌<◌, ◌≤◌, pos, negsuc, refl, ap, ◌∙◌, mod-eq_of_lt, arith, pow_pos, le-ltb, lt-ltb}
+use Rattle.std.proofs.Common.{◌≡◌, ℕ, suc, ◌+◌, ◌-◌, ◌/◌, ◌^◌, ◌<◌, ◌≤◌, pos, negsuc, refl, ap, ◌∙◌, mod-eq_of_lt, arith, pow_pos, le-ltb}
+use Rattle.std.proofs.Common.{lt-ltb}
 use native.Mathlib.Nat.{two-pow-succ}
 use Rattle.paths_numbers.specs.meaning.Cell.{bits_of, largest, expr_cell, char_cell}
 use Rattle.paths_numbers.specs.meaning.Code.{character_too_large, cell_outside}

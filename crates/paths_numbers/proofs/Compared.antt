@@ -1,5 +1,6 @@
 -- What the library's comparisons of slices decide: `same`, `begins`, and the last byte.
-use Rattle.std.proofs.Common.{◌≡◌, ℕ, suc, ◌-◌, ◌<◌, Bool, true, false, cond, ◌&&◌, eqb, List, [], ◌∷◌, length, take, drop, sym, refl, ap, ◌∙◌, arith, drop_of_length-le, drop-cons, ne_eqb, eq-eqb, eqb-true, get_or, ◌++◌}
+use Rattle.std.proofs.Common.{◌≡◌, ℕ, suc, ◌-◌, ◌<◌, Bool, true, false, cond, ◌&&◌, eqb, List, [], ◌∷◌, length, take, drop, sym, refl, ap}
+use Rattle.std.proofs.Common.{◌∙◌, arith, drop_of_length-le, drop-cons, ne_eqb, eq-eqb, eqb-true, get_or, ◌++◌}
 use Rattle.std.specs.Prelude.{Option, Some, None, unwrap_or, option_map}
 use Rattle.std.specs.Option.{option_eq}
 use denote.Ref.{Bor}

@@ -1,5 +1,6 @@
 -- Row 9's form of a path: its components byte by byte, and that joining keeps it.
-use Rattle.std.proofs.Common.{◌≡◌, ℕ, ◌+◌, ◌-◌, ◌<◌, ◌≤◌, Bool, true, false, cond, not, ◌||◌, eqb, List, [], ◌∷◌, ◌++◌, length, get_or, drop, sym, refl, ap, ◌∙◌, add-one, arith, drop_of_length-le, drop-cons, eqb-true}
+use Rattle.std.proofs.Common.{◌≡◌, ℕ, ◌+◌, ◌-◌, ◌<◌, ◌≤◌, Bool, true, false, cond, not, ◌||◌, eqb, List, [], ◌∷◌, ◌++◌, length, get_or}
+use Rattle.std.proofs.Common.{drop, sym, refl, ap, ◌∙◌, add-one, arith, drop_of_length-le, drop-cons, eqb-true}
 use Rattle.paths_numbers.specs.meaning.Byte.{slash, at_sign}
 use Rattle.paths_numbers.specs.meaning.Text.{same, is_empty, starts_with}
 use Rattle.paths_numbers.specs.meaning.Path.{root, components, good_path, join, joined, with_unit}

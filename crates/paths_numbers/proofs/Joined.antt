@@ -1,5 +1,6 @@
 -- What joining a parent and a name comes to, byte by byte and in length.
-use Rattle.std.proofs.Common.{◌≡◌, ℕ, suc, ◌+◌, ◌-◌, ◌<◌, ◌≤◌, Bool, true, false, cond, eqb, List, [], ◌∷◌, ◌++◌, length, get_or, take, sym, refl, ap, ◌∙◌, arith, length-append, get_or-append-add, ne_eqb}
+use Rattle.std.proofs.Common.{◌≡◌, ℕ, suc, ◌+◌, ◌-◌, ◌<◌, ◌≤◌, Bool, true, false, cond, eqb, List, [], ◌∷◌, ◌++◌, length, get_or, take, sym}
+use Rattle.std.proofs.Common.{refl, ap, ◌∙◌, arith, length-append, get_or-append-add, ne_eqb}
 use lib.ListN.{get_or-append, get_or-eq_default}
 use lib.Seq.{get_or_at, take_all}
 use Rattle.paths_numbers.specs.meaning.Byte.{slash, at_sign}

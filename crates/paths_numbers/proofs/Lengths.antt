@@ -1,5 +1,6 @@
 -- Lengths that are cut at a largest number: `at_most m n` is n, or m where n is larger.
-use Rattle.std.proofs.Common.{◌≡◌, ℕ, ◌+◌, ◌<◌, ◌≤◌, Bool, true, false, eqb, leb, sym, refl, ◌∙◌, arith, ne_eqb, le-leb, leb-false, leb-true, min}
+use Rattle.std.proofs.Common.{◌≡◌, ℕ, ◌+◌, ◌<◌, ◌≤◌, Bool, true, false, eqb, leb, sym, refl, ◌∙◌, arith, ne_eqb, le-leb, leb-false}
+use Rattle.std.proofs.Common.{leb-true, min}
 use Rattle.paths_numbers.specs.meaning.Path.{at_most}
 use Rattle.paths_numbers.proofs.Texts.{by_test}
 

@@ -1,5 +1,6 @@
 -- What a raw reference names: what the place of the first "/" between its braces tells, and what the answer tells of the text.
-use Rattle.std.proofs.Common.{◌≡◌, ℕ, ◌+◌, Bool, true, false, eqb, List, [], ◌∷◌, ◌++◌, length, take, drop, sym, refl, ap, ◌∙◌, subst, add-one, arith, eqb-true}
+use Rattle.std.proofs.Common.{◌≡◌, ℕ, ◌+◌, Bool, true, false, eqb, List, [], ◌∷◌, ◌++◌, length, take, drop, sym, refl, ap, ◌∙◌, subst}
+use Rattle.std.proofs.Common.{add-one, arith, eqb-true}
 use borrow.Author.Tests.{eqb-false}
 use lib.Seq.{take-length}
 use Rattle.paths_numbers.specs.meaning.Byte.{slash}

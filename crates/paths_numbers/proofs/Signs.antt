@@ -1,5 +1,6 @@
 -- What a text's first byte does to its reading: nothing there, a sign, or a digit.
-use Rattle.std.proofs.Common.{◌≡◌, ℕ, ◌-◌, ◌<◌, ◌≤◌, ◌^◌, Bool, true, false, cond, ◌==◌, List, [], ◌∷◌, length, get_or, drop, refl, arith, eq-eqb, ne_eqb}
+use Rattle.std.proofs.Common.{◌≡◌, ℕ, ◌-◌, ◌<◌, ◌≤◌, ◌^◌, Bool, true, false, cond, ◌==◌, List, [], ◌∷◌, length, get_or, drop, refl, arith}
+use Rattle.std.proofs.Common.{eq-eqb, ne_eqb}
 use Rattle.paths_numbers.specs.meaning.Byte.{plus, minus}
 use Rattle.paths_numbers.specs.meaning.Number.{digits, behind_sign, unsigned, signed, positive, negative}
 use Rattle.paths_numbers.specs.meaning.Code.{number_empty, not_a_digit, number_too_large, number_too_small}

@@ -1,5 +1,6 @@
 -- The first "/" of a text: where it stands, and the texts before and behind it.
-use Rattle.std.proofs.Common.{◌≡◌, ℕ, suc, ◌+◌, ◌<◌, ◌≤◌, Bool, true, false, eqb, List, [], ◌∷◌, ◌++◌, length, take, drop, refl, sym, subst, ap, ◌∙◌, arith, length-take, eqb-true}
+use Rattle.std.proofs.Common.{◌≡◌, ℕ, suc, ◌+◌, ◌<◌, ◌≤◌, Bool, true, false, eqb, List, [], ◌∷◌, ◌++◌, length, take, drop, refl, sym, subst}
+use Rattle.std.proofs.Common.{ap, ◌∙◌, arith, length-take, eqb-true}
 use Rattle.std.specs.Prelude.{Option, Some, None}
 use native.Mathlib.Nat.{min-le_right}
 use Rattle.slashes.specs.meaning.Slash.{first_from, next_slash, Stands, FirstOrNone}

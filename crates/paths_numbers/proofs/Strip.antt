@@ -1,5 +1,6 @@
 -- What stripping a base from a path comes to by the tests that the code makes.
-use Rattle.std.proofs.Common.{◌≡◌, ℕ, ◌<◌, ◌≤◌, Bool, true, false, cond, eqb, List, [], ◌∷◌, length, get_or, drop, sym, refl, ap, ◌∙◌, arith, eqb-true, eq-eqb, ne_eqb}
+use Rattle.std.proofs.Common.{◌≡◌, ℕ, ◌<◌, ◌≤◌, Bool, true, false, cond, eqb, List, [], ◌∷◌, length, get_or, drop, sym, refl, ap, ◌∙◌}
+use Rattle.std.proofs.Common.{arith, eqb-true, eq-eqb, ne_eqb}
 use borrow.Author.Tests.{eqb-false}
 use Rattle.paths_numbers.specs.meaning.Byte.{slash}
 use Rattle.paths_numbers.specs.meaning.Text.{begins, same, starts_with}

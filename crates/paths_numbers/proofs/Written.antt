@@ -1,5 +1,7 @@
 -- What writing a text into a buffer byte by byte comes to, and what is answered where a path does not fit.
-use Rattle.std.proofs.Common.{◌≡◌, ℕ, suc, ◌+◌, ◌<◌, ◌≤◌, List, [], ◌∷◌, ◌++◌, length, get_or, take, drop, set, sym, refl, ap, ◌∙◌, append-nil, add-zero, add-one, arith, length-append, length-drop, take-append-drop, drop_of_length-le, length-take-le, drop-cons, take-suc-set, drop-set-lt, le-leb}
+use Rattle.std.proofs.Common.{◌≡◌, ℕ, suc, ◌+◌, ◌<◌, ◌≤◌, List, [], ◌∷◌, ◌++◌, length, get_or, take, drop, set, sym, refl, ap, ◌∙◌}
+use Rattle.std.proofs.Common.{append-nil, add-zero, add-one, arith, length-append, length-drop, take-append-drop, drop_of_length-le}
+use Rattle.std.proofs.Common.{length-take-le, drop-cons, take-suc-set, drop-set-lt, le-leb}
 use mathlib.Core.List.{append_assoc}
 use Rattle.std.proofs.lemmas.List.{take_at, drop_at, drop-drop}
 use Rattle.std.proofs.lemmas.Slice.{put_mid-paste}

@@ -17,9 +17,11 @@ use Rattle.making.specs.declared.place.PathAt.{PathAt}
 use Rattle.definition_log.specs.declared.parts.Span as declared
 use Rattle.definition_log.specs.meaning.Contents.{Span, Def, Diag}
 use Rattle.definition_log.specs.meaning.Record.{kind_of, child_of, n_of, m_of, span_start, span_end, name_start, name_end, first_text}
-use Rattle.definition_log.specs.meaning.Record.{second_text, log_count, node_kind, property_kind, deleted_node_kind, deleted_property_kind, plugin_kind}
+use Rattle.definition_log.specs.meaning.Record.{second_text, log_count, node_kind, property_kind, deleted_node_kind, deleted_property_kind}
+use Rattle.definition_log.specs.meaning.Record.{plugin_kind}
 use Rattle.definition_log.specs.meaning.Record.{cell_list_kind, bytestring_kind, reference_kind}
-use Rattle.definition_log.specs.meaning.ReadBack.{chain_of, name_span_at, target_at, read_labels, cell_at, read_cells, value_at, read_values, def_value_at, def_at}
+use Rattle.definition_log.specs.meaning.ReadBack.{chain_of, name_span_at, target_at, read_labels, cell_at, read_cells, value_at}
+use Rattle.definition_log.specs.meaning.ReadBack.{read_values, def_value_at, def_at}
 use Rattle.definition_log.specs.meaning.ReadBack.{read_defs, binding_at, read_bindings}
 use Rattle.making.specs.machine.PathPlaces.{path_in, placed_in}
 use Rattle.making.specs.machine.Recs.{diag_made, no_span}

@@ -10,7 +10,8 @@ use Rattle.paths_numbers.specs.meaning.Text.{same}
 use Rattle.paths_numbers.specs.meaning.Path.{at_or_under}
 use Rattle.paths_numbers.proofs.Texts.{by_test}
 use Rattle.definition_log.specs.meaning.Contents.{Value, DefValue, node, property, deleted_node, deleted_property, version, plugin}
-use Rattle.definition_log.specs.meaning.Record.{kind_of, child_of, first_text, node_kind, property_kind, deleted_node_kind, deleted_property_kind, plugin_kind}
+use Rattle.definition_log.specs.meaning.Record.{kind_of, child_of, first_text, node_kind, property_kind, deleted_node_kind}
+use Rattle.definition_log.specs.meaning.Record.{deleted_property_kind, plugin_kind}
 use Rattle.definition_log.specs.meaning.ReadBack.{def_at, def_value_at, read_labels}
 use Rattle.queries.specs.meaning.Kind.{is_node, is_property, is_deleted_node, is_deleted_property, is_plugin}
 use Rattle.paths_numbers.specs.meaning.Lists.{any}

@@ -17,7 +17,8 @@ use Rattle.queries.specs.meaning.Kind.{is_deleted_node, is_of_property}
 use Rattle.paths_numbers.specs.meaning.Lists.{any}
 use Rattle.queries.specs.meaning.Live.{overwrites}
 use Rattle.definition_log.specs.meaning.Record.{most_records}
-use Rattle.queries.specs.machine.Table.{hash_from, least_heads, few_heads, many_heads, place_of, slot_of, can_take, slot_at, in_list, first_of}
+use Rattle.queries.specs.machine.Table.{hash_from, least_heads, few_heads, many_heads, place_of, slot_of, can_take, slot_at, in_list}
+use Rattle.queries.specs.machine.Table.{first_of}
 use Rattle.queries.specs.machine.Table.{Linked, ended, more, Holds, Table, deleted_at, Deleted, Room}
 
 -- the first is among them

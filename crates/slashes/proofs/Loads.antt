@@ -1,5 +1,6 @@
 -- Eight bytes read with the low one first are their word.
-use Rattle.std.proofs.Common.{◌<◌, ◌≡◌, ℕ, zero, suc, ◌+◌, ◌*◌, ◌≤◌, List, [], ◌∷◌, length, drop, get_or, refl, ◌∙◌, arith, drop_of_length-le, w64}
+use Rattle.std.proofs.Common.{◌<◌, ◌≡◌, ℕ, zero, suc, ◌+◌, ◌*◌, ◌≤◌, List, [], ◌∷◌, length, drop, get_or, refl, ◌∙◌, arith}
+use Rattle.std.proofs.Common.{drop_of_length-le, w64}
 use Rattle.std.specs.Int.{from_le_bytes}
 use Rattle.slashes.specs.machine.Word.{Bytes, none, more, word, Loaded}
 

@@ -7,7 +7,8 @@ use Rattle.paths_numbers.specs.meaning.Text.{same}
 use Rattle.paths_numbers.specs.meaning.Reference.{Target}
 use Rattle.paths_numbers.specs.meaning.Lists.{any}
 use Rattle.paths_numbers.proofs.Texts.{cond_in}
-use Rattle.definition_log.specs.meaning.Contents.{Span, Cell, number, reference, Value, string, cell_list, bytestring, phandle, DefValue, node}
+use Rattle.definition_log.specs.meaning.Contents.{Span, Cell, number, reference, Value, string, cell_list, bytestring, phandle, DefValue}
+use Rattle.definition_log.specs.meaning.Contents.{node}
 use Rattle.definition_log.specs.meaning.Contents.{property, deleted_node, deleted_property, version, plugin, Def, Binding}
 use Rattle.definition_log.specs.meaning.ReadBack.{Log}
 use Rattle.making.specs.meaning.State.{State}
@@ -17,7 +18,8 @@ use Rattle.input.specs.meaning.Report.{report}
 use Rattle.input.specs.meaning.NeverGiven.{never_given, is_never_given}
 use Rattle.resolving.specs.meaning.Resolve.{Resolution, reaches, missing, resolve}
 use Rattle.post_checks.specs.meaning.Post.{duplicates_of, duplicate_labels, reference_report, check_target, check_cells, check_value}
-use Rattle.post_checks.specs.meaning.Post.{check_values, check_def, check_defs, check_references, Headers, at_first, next_headers, header_report}
+use Rattle.post_checks.specs.meaning.Post.{check_values, check_def, check_defs, check_references, Headers, at_first, next_headers}
+use Rattle.post_checks.specs.meaning.Post.{header_report}
 use Rattle.post_checks.specs.meaning.Post.{directives_from, check_directives, post_checks}
 use Rattle.lowering.specs.meaning.Lowered.{log_of, meaning}
 use Rattle.two_runs.proofs.WholeRuns.{wrote}

@@ -26,7 +26,8 @@ use Rattle.resolving.specs.meaning.Resolve.{unresolved}
 use Rattle.items.specs.meaning.Unbind.{unbind}
 use Rattle.items.specs.meaning.Lower.{Place, at, aside, discarded, nowhere, Placed, by_resolution, by_target, placed_as, by_name, by_parts}
 use Rattle.items.specs.meaning.Lower.{place_of, opened, settled, lower_placed, lower_node, named_property, lower_property, delete_node}
-use Rattle.items.specs.meaning.Lower.{delete_resolved, delete_target, delete_referenced, delete_named, lower_delete_node, delete_property_named}
+use Rattle.items.specs.meaning.Lower.{delete_resolved, delete_target, delete_referenced, delete_named, lower_delete_node}
+use Rattle.items.specs.meaning.Lower.{delete_property_named}
 use Rattle.items.specs.meaning.Lower.{lower_directive, lower_item, lower_items, lowered}
 use Rattle.lowering.specs.meaning.Lowered.{meaning}
 use Rattle.input.proofs.NeverGiven.{Quiet, quiet_none, quiet_report, quiet_append}

@@ -20,8 +20,10 @@ use Rattle.levels.specs.meaning.Rules.{unsigned_level, unsigned_rules}
 use Rattle.levels.specs.meaning.Unsigned.{fits_below, upper_ones, fits_negative, unsigned_cell}
 use Rattle.levels.proofs.Below.{Within, number_within}
 use Rattle.definition_log.specs.meaning.Contents.{Span}
-use Rattle.input.specs.meaning.Tree.{Tree, Trees, empty, more, kind_of, text_of, w_of, span_of, children_of, first_of, name_kind, unit_address_kind}
-use Rattle.input.specs.meaning.Tree.{reference_kind, macro_kind, directive_kind, preprocessor_kind, string_kind, cell_list_kind, bytestring_kind}
+use Rattle.input.specs.meaning.Tree.{Tree, Trees, empty, more, kind_of, text_of, w_of, span_of, children_of, first_of, name_kind}
+use Rattle.input.specs.meaning.Tree.{unit_address_kind}
+use Rattle.input.specs.meaning.Tree.{reference_kind, macro_kind, directive_kind, preprocessor_kind, string_kind, cell_list_kind}
+use Rattle.input.specs.meaning.Tree.{bytestring_kind}
 use Rattle.input.specs.meaning.Tree.{number_kind, character_kind, expression_kind}
 use Rattle.input.specs.meaning.Report.{Got, Made, undefined_macro}
 use Rattle.input.specs.meaning.Name.{name_or, name_or_macro, addressed, full_name}

@@ -7,7 +7,8 @@ use mathlib.Core.Option.{Option, some, none}
 use borrow.Author.Tests.{not-true}
 use Rattle.paths_numbers.specs.meaning.Byte.{at_sign}
 use Rattle.paths_numbers.proofs.Texts.{by_test, not_both, both}
-use Rattle.input.specs.meaning.Tree.{Tree, Trees, text_of, children_of, first_of, has, name_kind, unit_address_kind, reference_kind, slash_kind}
+use Rattle.input.specs.meaning.Tree.{Tree, Trees, text_of, children_of, first_of, has, name_kind, unit_address_kind, reference_kind}
+use Rattle.input.specs.meaning.Tree.{slash_kind}
 use Rattle.input.specs.meaning.Name.{name_or_macro, addressed, full_name}
 use Rattle.two_runs.specs.meaning.TwoRuns.{address_named, plain_name}
 use Rattle.input.proofs.GoodNames.{first_none, first_some}

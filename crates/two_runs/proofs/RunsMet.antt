@@ -15,12 +15,16 @@ use Rattle.paths_numbers.specs.meaning.Path.{good_path, components}
 use Rattle.paths_numbers.specs.meaning.Lists.{any}
 use Rattle.paths_numbers.proofs.Texts.{by_test, not_both}
 use Rattle.definition_log.specs.meaning.Record.{out_field, one_of, log_count}
-use Rattle.definition_log.specs.meaning.ReadBack.{read_log, chain_from, chain_of, read_labels, def_value_at, def_at, read_defs, read_exts, read_bindings}
+use Rattle.definition_log.specs.meaning.ReadBack.{read_log, chain_from, chain_of, read_labels, def_value_at, def_at, read_defs, read_exts}
+use Rattle.definition_log.specs.meaning.ReadBack.{read_bindings}
 use Rattle.definition_log.specs.meaning.ReadBack.{diag_at, read_diags}
-use Rattle.definition_log.specs.meaning.Sound.{link_to, head_links, links_of, targets, times, walk, followed, any_of, heads_out, links_out, unfit}
-use Rattle.definition_log.specs.meaning.Sound.{texts_out, spans_reversed, path_wrong, record_fault, at_fault, first_fault, lowest_fault, sound}
+use Rattle.definition_log.specs.meaning.Sound.{link_to, head_links, links_of, targets, times, walk, followed, any_of, heads_out, links_out}
+use Rattle.definition_log.specs.meaning.Sound.{unfit}
+use Rattle.definition_log.specs.meaning.Sound.{texts_out, spans_reversed, path_wrong, record_fault, at_fault, first_fault, lowest_fault}
+use Rattle.definition_log.specs.meaning.Sound.{sound}
 use Rattle.definition_log.specs.meaning.Written.{named, holders_in}
-use Rattle.definition_log.proofs.WrittenTest.{all_below, all_of, zero_or_named, kept_test, rest_test, reached_test, shared_test, word_test, byte_test}
+use Rattle.definition_log.proofs.WrittenTest.{all_below, all_of, zero_or_named, kept_test, rest_test, reached_test, shared_test, word_test}
+use Rattle.definition_log.proofs.WrittenTest.{byte_test}
 use Rattle.definition_log.proofs.WrittenTest.{written_test, written_by_test}
 use Rattle.input.specs.meaning.Tree.{empty}
 use Rattle.input.specs.meaning.Input.{description}
@@ -37,26 +41,30 @@ use Rattle.two_runs.proofs.WholeRuns.{whole_runs}
 
 -- what both leave keeps row 8's rules, and passes the tests of the other rules for writing
 kept : (lowest_fault run_a.out run_a.bytes ≡ sound) × (lowest_fault run_b.out run_b.bytes ≡ sound)
-unfolding lowest_fault first_fault at_fault record_fault path_wrong spans_reversed texts_out unfit links_out heads_out any_of followed walk times
+unfolding lowest_fault first_fault at_fault record_fault path_wrong spans_reversed texts_out unfit links_out heads_out any_of followed walk
+    times
     targets links_of head_links link_to log_count one_of out_field good_path components is_empty same starts_with
 kept = (refl, refl)
 
 tested : (written_test files run_a.out run_a.bytes ≡ true) × (written_test files run_b.out run_b.bytes ≡ true)
-unfolding written_test all_of all_below rest_test reached_test kept_test zero_or_named shared_test word_test byte_test file_of last_from named
+unfolding written_test all_of all_below rest_test reached_test kept_test zero_or_named shared_test word_test byte_test file_of last_from
+    named
     holders_in followed walk times targets links_of head_links link_to log_count one_of out_field
 tested = (refl, refl)
 
 -- it says what the definitions make of the descriptions
 logs : (log_of (lowered unsigned_level (root_with empty)) ≡ read_log run_a.out run_a.bytes)
     × (log_of (lowered unsigned_level (root_with the_two)) ≡ read_log run_b.out run_b.bytes)
-unfolding computed_state log_of post_checks check_directives directives_from check_references check_defs duplicate_labels read_log read_defs read_exts
+unfolding computed_state log_of post_checks check_directives directives_from check_references check_defs duplicate_labels read_log read_defs
+    read_exts
     read_bindings read_diags def_at def_value_at read_labels diag_at chain_of chain_from log_count out_field
 logs = (refl, refl)
 
 -- and row 7's counts are these
 counts : (records_made (lowered unsigned_level (root_with empty)) ≡ 3) × (bytes_made (lowered unsigned_level (root_with empty)) ≡ 1)
     × (records_made (lowered unsigned_level (root_with the_two)) ≡ 5) × (bytes_made (lowered unsigned_level (root_with the_two)) ≡ 5)
-unfolding computed_state records_made bytes_made post_checks check_directives directives_from check_references check_defs duplicate_labels diags_bytes
+unfolding computed_state records_made bytes_made post_checks check_directives directives_from check_references check_defs duplicate_labels
+    diags_bytes
     texts_bytes bindings_bytes
 counts = (refl, refl, refl, refl)
 

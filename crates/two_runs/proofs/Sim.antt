@@ -19,13 +19,16 @@ use Rattle.input.specs.meaning.Tree.{preprocessor_kind, name_kind, reference_kin
 use Rattle.input.specs.meaning.Report.{report}
 use Rattle.input.specs.meaning.Name.{full_name, node_name_span, labels_of}
 use Rattle.input.specs.meaning.Phandle.{lower_phandle}
-use Rattle.resolving.specs.meaning.Resolve.{first_binding, Resolution, reaches, missing, by_lookup, live_at, below_label, resolve, unresolved}
+use Rattle.resolving.specs.meaning.Resolve.{first_binding, Resolution, reaches, missing, by_lookup, live_at, below_label, resolve}
+use Rattle.resolving.specs.meaning.Resolve.{unresolved}
 use Rattle.input.specs.meaning.Property.{lower_values}
 use Rattle.making.specs.meaning.State.{State, define, bind, emit, apart, dropped, extended}
 use Rattle.items.specs.meaning.Unbind.{without, unbind}
 use Rattle.items.specs.meaning.Lower.{Place, at, aside, discarded, nowhere, by_resolution, by_target, by_parts, place_of}
-use Rattle.items.specs.meaning.Lower.{node_def, opened, settled, lower_placed, lower_node, named_property, lower_property, bare, delete_node}
-use Rattle.items.specs.meaning.Lower.{delete_resolved, delete_target, delete_referenced, delete_named, lower_delete_node, delete_property_named}
+use Rattle.items.specs.meaning.Lower.{node_def, opened, settled, lower_placed, lower_node, named_property, lower_property, bare}
+use Rattle.items.specs.meaning.Lower.{delete_node}
+use Rattle.items.specs.meaning.Lower.{delete_resolved, delete_target, delete_referenced, delete_named, lower_delete_node}
+use Rattle.items.specs.meaning.Lower.{delete_property_named}
 use Rattle.items.specs.meaning.Lower.{lower_directive, lower_as, lower_item, lower_items}
 
 -- two logs: the same, or with a gap

@@ -8,7 +8,8 @@ use Rattle.paths_numbers.specs.meaning.Text.{is_empty}
 use Rattle.paths_numbers.specs.meaning.Path.{at_or_under}
 use Rattle.paths_numbers.specs.meaning.Reference.{Target}
 use Rattle.paths_numbers.proofs.Texts.{not_both, both}
-use Rattle.definition_log.specs.meaning.Contents.{Span, Cell, number, reference, Value, string, cell_list, bytestring, phandle, DefValue, node}
+use Rattle.definition_log.specs.meaning.Contents.{Span, Cell, number, reference, Value, string, cell_list, bytestring, phandle, DefValue}
+use Rattle.definition_log.specs.meaning.Contents.{node}
 use Rattle.definition_log.specs.meaning.Contents.{property, deleted_node, deleted_property, version, plugin, Def, Diag}
 use Rattle.queries.specs.meaning.Kind.{sets_overlay}
 use Rattle.queries.specs.meaning.Live.{live}

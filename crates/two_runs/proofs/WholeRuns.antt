@@ -8,14 +8,16 @@ use Rattle.paths_numbers.specs.meaning.Text.{same}
 use Rattle.paths_numbers.specs.meaning.Path.{at_or_under}
 use Rattle.definition_log.specs.meaning.Contents.{Def}
 use Rattle.definition_log.specs.meaning.Record.{first_def, first_ext, first_bind, first_diag, first_post}
-use Rattle.definition_log.specs.meaning.ReadBack.{Log, chain_of, def_at, ext_at, binding_at, diag_at, read_log, read_defs, read_exts, read_bindings, read_diags}
+use Rattle.definition_log.specs.meaning.ReadBack.{Log, chain_of, def_at, ext_at, binding_at, diag_at, read_log, read_defs, read_exts}
+use Rattle.definition_log.specs.meaning.ReadBack.{read_bindings, read_diags}
 use Rattle.definition_log.specs.meaning.Sound.{Place, definitions}
 use Rattle.definition_log.specs.meaning.Written.{Written}
 use Rattle.definition_log.specs.meaning.Alike.{AlikeAll, AlikeDef}
 use Rattle.definition_log.proofs.Reached.{defs, exts, binds, diags, post}
 use Rattle.definition_log.proofs.Places.{head_stands}
 use Rattle.definition_log.proofs.Chains.{head_starts, chain_list}
-use Rattle.definition_log.proofs.Pinned.{AllStand, no_record, one_record, chain_stands, zip, def_alike, binding_alike, diag_alike, ext_alike}
+use Rattle.definition_log.proofs.Pinned.{AllStand, no_record, one_record, chain_stands, zip, def_alike, binding_alike, diag_alike}
+use Rattle.definition_log.proofs.Pinned.{ext_alike}
 use Rattle.definition_log.proofs.Pinned.{head_alike}
 use Rattle.queries.specs.meaning.Live.{live, is_live, deletes}
 use Rattle.queries.specs.meaning.History.{history_from, history, defined_by}

@@ -4,13 +4,18 @@ use Rattle.std.specs.Prelude.{ℕ, ◌+◌, ◌*◌, false, ◌≡◌, refl, Lis
 use Rattle.paths_numbers.specs.meaning.Text.{same, is_empty, starts_with}
 use Rattle.paths_numbers.specs.meaning.Path.{good_path, components}
 use Rattle.paths_numbers.specs.meaning.Reference.{label, label_path, path}
-use Rattle.definition_log.specs.meaning.Contents.{Span, number, reference, string, cell_list, bytestring, phandle, node, property, deleted_node}
+use Rattle.definition_log.specs.meaning.Contents.{Span, number, reference, string, cell_list, bytestring, phandle, node, property}
+use Rattle.definition_log.specs.meaning.Contents.{deleted_node}
 use Rattle.definition_log.specs.meaning.Contents.{deleted_property, version, plugin}
 use Rattle.definition_log.specs.meaning.Record.{record_words, out_field, one_of, log_count}
-use Rattle.definition_log.specs.meaning.ReadBack.{read_log, chain_from, chain_of, target_at, read_labels, cell_at, read_cells, value_at, read_values}
-use Rattle.definition_log.specs.meaning.ReadBack.{def_value_at, def_at, read_defs, ext_at, read_exts, binding_at, read_bindings, diag_at, read_diags}
-use Rattle.definition_log.specs.meaning.Sound.{link_to, head_links, links_of, targets, times, walk, followed, any_of, heads_out, links_out, unfit}
-use Rattle.definition_log.specs.meaning.Sound.{texts_out, spans_reversed, path_wrong, record_fault, at_fault, first_fault, lowest_fault, Soundness}
+use Rattle.definition_log.specs.meaning.ReadBack.{read_log, chain_from, chain_of, target_at, read_labels, cell_at, read_cells, value_at}
+use Rattle.definition_log.specs.meaning.ReadBack.{read_values}
+use Rattle.definition_log.specs.meaning.ReadBack.{def_value_at, def_at, read_defs, ext_at, read_exts, binding_at, read_bindings, diag_at}
+use Rattle.definition_log.specs.meaning.ReadBack.{read_diags}
+use Rattle.definition_log.specs.meaning.Sound.{link_to, head_links, links_of, targets, times, walk, followed, any_of, heads_out, links_out}
+use Rattle.definition_log.specs.meaning.Sound.{unfit}
+use Rattle.definition_log.specs.meaning.Sound.{texts_out, spans_reversed, path_wrong, record_fault, at_fault, first_fault, lowest_fault}
+use Rattle.definition_log.specs.meaning.Sound.{Soundness}
 use Rattle.definition_log.specs.meaning.Sound.{sound, broken, soundness}
 
 abbrev pub span : ℕ → ℕ → Span
@@ -43,7 +48,8 @@ pub listing_reads : read_log listing listing_bytes ≡
       diags = [];
       post = [];
     }
-unfolding read_log read_defs read_exts read_bindings read_diags def_at def_value_at read_labels read_values value_at read_cells cell_at target_at ext_at
+unfolding read_log read_defs read_exts read_bindings read_diags def_at def_value_at read_labels read_values value_at read_cells cell_at
+    target_at ext_at
     binding_at diag_at chain_of chain_from log_count out_field
 listing_reads = refl
 
@@ -104,7 +110,8 @@ pub kinds_reads : read_log kinds kinds_bytes ≡
       diags = record { code = 3; text = 108 ∷ []; span = span 60 62; name_span = span 0 0 } ∷ [];
       post = record { code = 20; text = 108 ∷ []; span = span 60 62; name_span = span 50 52 } ∷ [];
     }
-unfolding read_log read_defs read_exts read_bindings read_diags def_at def_value_at read_labels read_values value_at read_cells cell_at target_at ext_at
+unfolding read_log read_defs read_exts read_bindings read_diags def_at def_value_at read_labels read_values value_at read_cells cell_at
+    target_at ext_at
     binding_at diag_at chain_of chain_from log_count out_field
 kinds_reads = refl
 
@@ -199,7 +206,8 @@ pub record Row8 : Type 0 where
   pub lowest : of_listing (but 3 3 0 (but 1 0 0 downward)) ≡ broken 1
 
 pub row8 : Row8
-unfolding soundness lowest_fault first_fault at_fault record_fault path_wrong spans_reversed texts_out unfit links_out heads_out any_of followed walk
+unfolding soundness lowest_fault first_fault at_fault record_fault path_wrong spans_reversed texts_out unfit links_out heads_out any_of
+    followed walk
     times targets links_of head_links link_to log_count one_of out_field good_path components is_empty same starts_with
 row8 =
     record {

@@ -1,10 +1,13 @@
 -- What each step of the test of a log does with its marks. These are no rules of 01: the contract of the whole test cites specs/Sound
 -- alone, proofs/Walked shows that the marks in the end are those of the links that are followed there, and proofs/Marks that they say what
 -- is asked.
-use Rattle.std.specs.Prelude.{ℕ, zero, suc, ◌+◌, ◌/◌, ◌%◌, Bool, true, false, cond, List, [], ◌∷◌, ◌++◌, map, eqb, ltb, length, get_or, set, take}
+use Rattle.std.specs.Prelude.{ℕ, zero, suc, ◌+◌, ◌/◌, ◌%◌, Bool, true, false, cond, List, [], ◌∷◌, ◌++◌, map, eqb, ltb, length, get_or, set}
+use Rattle.std.specs.Prelude.{take}
 use Rattle.definition_log.specs.meaning.Record.{kind_of, one_of}
-use Rattle.definition_log.specs.meaning.Sound.{Place, definitions, extensions, bindings, diagnostics, labels, values, cells, references, nowhere}
-use Rattle.definition_log.specs.meaning.Sound.{kinds_in, Link, links_of, head_links, any_of, heads_out, links_out, texts_out, spans_reversed, path_wrong}
+use Rattle.definition_log.specs.meaning.Sound.{Place, definitions, extensions, bindings, diagnostics, labels, values, cells, references}
+use Rattle.definition_log.specs.meaning.Sound.{nowhere}
+use Rattle.definition_log.specs.meaning.Sound.{kinds_in, Link, links_of, head_links, any_of, heads_out, links_out, texts_out}
+use Rattle.definition_log.specs.meaning.Sound.{spans_reversed, path_wrong}
 use Rattle.definition_log.specs.meaning.Sound.{Soundness, sound, broken}
 use Rattle.definition_log.specs.declared.links.Mark.{Mark}
 use Rattle.definition_log.specs.declared.links.Mark.TheVariants.{Unmet, Met, Wrong}

@@ -2,8 +2,10 @@
 -- place of its start, and the chain that a child or body link leads to, likewise, in place of the link". Two logs: words w over bytes b,
 -- and words v over bytes c.
 use Rattle.std.specs.Prelude.{ℕ, ◌^◌, ◌≤◌, ◌<◌, get_or, false, ◌≡◌, List, [], ◌∷◌}
-use Rattle.definition_log.specs.meaning.Record.{record_words, out_field, kind_of, text_length, second_length, child_of, n_of, m_of, span_start, span_end}
-use Rattle.definition_log.specs.meaning.Record.{name_start, name_end, first_def, first_ext, first_bind, first_diag, first_post, extension_kind}
+use Rattle.definition_log.specs.meaning.Record.{record_words, out_field, kind_of, text_length, second_length, child_of, n_of, m_of}
+use Rattle.definition_log.specs.meaning.Record.{span_start, span_end}
+use Rattle.definition_log.specs.meaning.Record.{name_start, name_end, first_def, first_ext, first_bind, first_diag, first_post}
+use Rattle.definition_log.specs.meaning.Record.{extension_kind}
 use Rattle.definition_log.specs.meaning.Record.{has_children, first_text, second_text}
 use Rattle.definition_log.specs.meaning.ReadBack.{chain_of}
 

@@ -4,11 +4,15 @@
 -- 01's, and one that is missing, as an unreadable one. No log that keeps the rules for writing has any of these.
 use Rattle.std.specs.Prelude.{ℕ, zero, suc, ◌+◌, ◌*◌, ◌^◌, not, cond, List, [], ◌∷◌, map, eqb}
 use Rattle.paths_numbers.specs.meaning.Reference.{Target, label, label_path, path, unreadable}
-use Rattle.definition_log.specs.meaning.Contents.{Span, Cell, number, reference, Value, string, cell_list, bytestring, phandle, DefValue, node}
+use Rattle.definition_log.specs.meaning.Contents.{Span, Cell, number, reference, Value, string, cell_list, bytestring, phandle, DefValue}
+use Rattle.definition_log.specs.meaning.Contents.{node}
 use Rattle.definition_log.specs.meaning.Contents.{property, deleted_node, deleted_property, version, plugin, Def, Ext, Binding, Diag}
-use Rattle.definition_log.specs.meaning.Record.{kind_of, next_of, child_of, n_of, m_of, span_start, span_end, name_start, name_end, first_def, first_ext}
-use Rattle.definition_log.specs.meaning.Record.{first_bind, first_diag, first_post, node_kind, property_kind, deleted_node_kind, deleted_property_kind}
-use Rattle.definition_log.specs.meaning.Record.{plugin_kind, cell_list_kind, bytestring_kind, reference_kind, first_text, second_text, log_count, leads}
+use Rattle.definition_log.specs.meaning.Record.{kind_of, next_of, child_of, n_of, m_of, span_start, span_end, name_start, name_end}
+use Rattle.definition_log.specs.meaning.Record.{first_def, first_ext}
+use Rattle.definition_log.specs.meaning.Record.{first_bind, first_diag, first_post, node_kind, property_kind, deleted_node_kind}
+use Rattle.definition_log.specs.meaning.Record.{deleted_property_kind}
+use Rattle.definition_log.specs.meaning.Record.{plugin_kind, cell_list_kind, bytestring_kind, reference_kind, first_text, second_text}
+use Rattle.definition_log.specs.meaning.Record.{log_count, leads}
 
 -- the record numbers of the chain that starts at r
 unfoldable pub chain_from : ℕ → List ℕ → ℕ → List ℕ

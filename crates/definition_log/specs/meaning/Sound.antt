@@ -5,11 +5,16 @@
 use Rattle.std.specs.Prelude.{ℕ, zero, suc, ◌+◌, ◌-◌, ◌*◌, ◌%◌, Bool, true, false, not, cond, List, [], ◌∷◌, ◌++◌, eqb, leb, ltb, length}
 use Rattle.paths_numbers.specs.meaning.Text.{is_empty}
 use Rattle.paths_numbers.specs.meaning.Path.{good_path}
-use Rattle.definition_log.specs.meaning.Record.{record_words, kind_of, next_of, text_start, text_length, second_start, second_length, child_of, m_of}
-use Rattle.definition_log.specs.meaning.Record.{span_start, span_end, name_start, name_end, first_def, first_ext, first_bind, first_diag, first_post}
-use Rattle.definition_log.specs.meaning.Record.{node_kind, property_kind, version_kind, plugin_kind, label_kind, string_kind, cell_list_kind}
-use Rattle.definition_log.specs.meaning.Record.{bytestring_kind, number_kind, reference_kind, extension_kind, binding_kind, diagnostic_kind, one_of}
-use Rattle.definition_log.specs.meaning.Record.{def_kinds, has_children, has_span, has_name_span, first_text, second_text, log_count, leads, leads_out}
+use Rattle.definition_log.specs.meaning.Record.{record_words, kind_of, next_of, text_start, text_length, second_start, second_length}
+use Rattle.definition_log.specs.meaning.Record.{child_of, m_of}
+use Rattle.definition_log.specs.meaning.Record.{span_start, span_end, name_start, name_end, first_def, first_ext, first_bind, first_diag}
+use Rattle.definition_log.specs.meaning.Record.{first_post}
+use Rattle.definition_log.specs.meaning.Record.{node_kind, property_kind, version_kind, plugin_kind, label_kind, string_kind}
+use Rattle.definition_log.specs.meaning.Record.{cell_list_kind}
+use Rattle.definition_log.specs.meaning.Record.{bytestring_kind, number_kind, reference_kind, extension_kind, binding_kind, diagnostic_kind}
+use Rattle.definition_log.specs.meaning.Record.{one_of}
+use Rattle.definition_log.specs.meaning.Record.{def_kinds, has_children, has_span, has_name_span, first_text, second_text, log_count, leads}
+use Rattle.definition_log.specs.meaning.Record.{leads_out}
 
 -- where a record stands: the chain that leads to it
 pub data Place : Type 0 where

@@ -2,9 +2,12 @@
 -- given but for record numbers and text starts.
 use Rattle.std.specs.Prelude.{ℕ, ◌+◌, ◌/◌, ◌≤◌, ◌<◌, Bool, true, false, cond, ◌≡◌, List, [], ◌∷◌, eqb, leb, ltb, get_or}
 use Rattle.files.specs.meaning.Files.{file_of}
-use Rattle.definition_log.specs.meaning.Record.{record_words, head_words, out_field, kind_of, next_of, child_of, text_start, text_length, second_start}
-use Rattle.definition_log.specs.meaning.Record.{second_length, n_of, records_used, bytes_used, node_kind, label_kind, string_kind, cell_list_kind}
-use Rattle.definition_log.specs.meaning.Record.{bytestring_kind, number_kind, reference_kind, extension_kind, binding_kind, diagnostic_kind, one_of}
+use Rattle.definition_log.specs.meaning.Record.{record_words, head_words, out_field, kind_of, next_of, child_of, text_start, text_length}
+use Rattle.definition_log.specs.meaning.Record.{second_start}
+use Rattle.definition_log.specs.meaning.Record.{second_length, n_of, records_used, bytes_used, node_kind, label_kind, string_kind}
+use Rattle.definition_log.specs.meaning.Record.{cell_list_kind}
+use Rattle.definition_log.specs.meaning.Record.{bytestring_kind, number_kind, reference_kind, extension_kind, binding_kind, diagnostic_kind}
+use Rattle.definition_log.specs.meaning.Record.{one_of}
 use Rattle.definition_log.specs.meaning.Record.{def_kinds, has_children, has_span, has_name_span, span_start, name_start, span_file}
 use Rattle.definition_log.specs.meaning.Record.{name_file}
 use Rattle.definition_log.specs.meaning.ReadBack.{Log, read_log}

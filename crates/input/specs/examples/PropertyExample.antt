@@ -24,6 +24,7 @@ pub neighbours_stay : (level : ℕ) → lower_values level three_cells ≡ recor
       ∷ [];
   reports = report 17 [] (span 3 4) ∷ [];
 }
-unfolding lower_values lower_value lower_cells lower_cell size_of is_empty unsigned_number unsigned digits behind_sign behind_prefix base_of has_prefix
+unfolding lower_values lower_value lower_cells lower_cell size_of is_empty unsigned_number unsigned digits behind_sign behind_prefix base_of
+    has_prefix
     is_prefix_letter trimmed is_suffix digit_of
 neighbours_stay level = refl

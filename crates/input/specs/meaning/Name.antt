@@ -3,7 +3,8 @@ use Rattle.std.specs.Prelude.{ℕ, cond, List, [], ◌∷◌, ◌++◌, eqb, leb
 use Rattle.std.proofs.Math.Option.{Option, some, none}
 use Rattle.paths_numbers.specs.meaning.Byte.{at_sign}
 use Rattle.definition_log.specs.meaning.Contents.{Span, Binding}
-use Rattle.input.specs.meaning.Tree.{Tree, Trees, empty, more, kind_of, text_of, span_of, children_of, first_of, name_kind, unit_address_kind}
+use Rattle.input.specs.meaning.Tree.{Tree, Trees, empty, more, kind_of, text_of, span_of, children_of, first_of, name_kind}
+use Rattle.input.specs.meaning.Tree.{unit_address_kind}
 use Rattle.input.specs.meaning.Tree.{label_kind, reference_kind, macro_kind, slash_kind}
 use Rattle.input.specs.meaning.Report.{Got, found, failed, Made, nothing, and_then, undefined_macro}
 

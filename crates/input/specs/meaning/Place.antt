@@ -5,7 +5,8 @@ use Rattle.paths_numbers.specs.meaning.Text.{is_empty}
 use Rattle.definition_log.specs.meaning.Contents.{Span}
 use Rattle.paths_numbers.specs.meaning.Lists.{any}
 use Rattle.input.specs.meaning.Tree.{node_kind, property_kind, directive_kind, preprocessor_kind}
-use Rattle.input.specs.meaning.Tree.{name_kind, unit_address_kind, label_kind, reference_kind, macro_kind, slash_kind, omit_kind, string_kind}
+use Rattle.input.specs.meaning.Tree.{name_kind, unit_address_kind, label_kind, reference_kind, macro_kind, slash_kind, omit_kind}
+use Rattle.input.specs.meaning.Tree.{string_kind}
 use Rattle.input.specs.meaning.Tree.{cell_list_kind, bytestring_kind, number_kind, character_kind, expression_kind, prefix_kind}
 use Rattle.input.specs.meaning.Tree.{parenthesis_kind, infix_kind}
 

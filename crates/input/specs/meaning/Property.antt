@@ -13,7 +13,8 @@ use Rattle.paths_numbers.specs.declared.dt_property.BitsSize.{BitsSize}
 use Rattle.levels.specs.meaning.Rules.{Rules, unsigned_level, signed_rules, unsigned_rules}
 use Rattle.definition_log.specs.meaning.Contents.{Span, Cell, number, reference, Value, string, cell_list, bytestring, phandle}
 use Rattle.input.specs.meaning.Tree.{Tree, Trees, empty, more, span_of, w_of, text_of, children_of, kind_of, directive_kind}
-use Rattle.input.specs.meaning.Tree.{preprocessor_kind, reference_kind, macro_kind, string_kind, cell_list_kind, bytestring_kind, number_kind}
+use Rattle.input.specs.meaning.Tree.{preprocessor_kind, reference_kind, macro_kind, string_kind, cell_list_kind, bytestring_kind}
+use Rattle.input.specs.meaning.Tree.{number_kind}
 use Rattle.input.specs.meaning.Tree.{character_kind, expression_kind}
 use Rattle.input.specs.meaning.Report.{Got, Made, one, nothing, and_then, report, undefined_macro}
 use Rattle.input.specs.meaning.Phandle.{lower_phandle}

@@ -6,10 +6,12 @@ use Rattle.paths_numbers.specs.meaning.Code.{preprocessor, include, subnode_outs
 use Rattle.paths_numbers.specs.meaning.Text.{same, is_empty}
 use Rattle.paths_numbers.specs.meaning.Path.{root, join}
 use Rattle.paths_numbers.specs.meaning.Reference.{Target}
-use Rattle.definition_log.specs.meaning.Contents.{Span, Def, DefValue, node, property, deleted_node, deleted_property, version, plugin, Binding}
+use Rattle.definition_log.specs.meaning.Contents.{Span, Def, DefValue, node, property, deleted_node, deleted_property, version, plugin}
+use Rattle.definition_log.specs.meaning.Contents.{Binding}
 use Rattle.definition_log.specs.meaning.Contents.{Diag}
 use Rattle.queries.specs.meaning.Kind.{sets_overlay}
-use Rattle.input.specs.meaning.Tree.{Tree, Trees, tree, empty, more, text_of, span_of, first_of, has, node_kind, property_kind, directive_kind}
+use Rattle.input.specs.meaning.Tree.{Tree, Trees, tree, empty, more, text_of, span_of, first_of, has, node_kind, property_kind}
+use Rattle.input.specs.meaning.Tree.{directive_kind}
 use Rattle.input.specs.meaning.Tree.{preprocessor_kind, name_kind, reference_kind, slash_kind, omit_kind}
 use Rattle.input.specs.meaning.Report.{report}
 use Rattle.input.specs.meaning.Name.{full_name, node_name_span, property_name_span, labels_of}

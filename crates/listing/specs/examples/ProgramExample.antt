@@ -29,7 +29,8 @@ unfolding flat_map
 input = bytes_of 8 ++ flat_map bytes_of listing_words ++ listing_text
 
 pub worked : printed input ≡ ascii "D V - 0-9 0-9\nD N / 10-26 10-11\nD N /b 14-23 17-18\nl a\nB a /b 14-16\n.\n"
-unfolding input printed listed words_of word_of computed description chain_at trees_at text_at second_at number_at lowered lower_item lower_items
+unfolding input printed listed words_of word_of computed description chain_at trees_at text_at second_at number_at lowered lower_item
+    lower_items
     lower_node lower_directive place_of opened label_texts define bind emit labels_of name_or_macro full_name node_name_span first_of has join same
     is_empty post_checks check_directives directives_from check_references check_defs duplicate_labels duplicates_of any sets_overlay live is_live
     gone at_or_under strip begins starts_with log_of records_made bytes_made fits_in bindings_bytes diags_bytes texts_bytes listing flat_map

@@ -5,7 +5,8 @@ use Rattle.std.specs.Prelude.{ℕ, zero, suc, ◌+◌, ◌/◌, ◌%◌, cond, l
 use Prim.Native.Char.{code}
 use Prim.Native.String.{String, [] as end, ◌∷◌ as ◌then◌}
 use mathlib.Core.List.{List, [], ◌∷◌, ◌++◌, flat_map}
-use Rattle.definition_log.specs.meaning.Contents.{Span, DefValue, node, property, deleted_node, deleted_property, version, plugin, Def, Binding, Diag}
+use Rattle.definition_log.specs.meaning.Contents.{Span, DefValue, node, property, deleted_node, deleted_property, version, plugin, Def}
+use Rattle.definition_log.specs.meaning.Contents.{Binding, Diag}
 use Rattle.definition_log.specs.meaning.ReadBack.{Log}
 use Rattle.queries.specs.meaning.Labels.{labels_in}
 

@@ -37,17 +37,20 @@ pub listed : (lowered signed_level items).defs ≡
     ∷ record { path = 47 ∷ []; value = node [] false; span = span 10 26; name_span = span 10 11 }
     ∷ record { path = 47 ∷ 98 ∷ []; value = node ((97 ∷ []) ∷ []) false; span = span 14 23; name_span = span 17 18 }
     ∷ []
-unfolding lowered lower_item lower_items lower_node lower_directive place_of opened label_texts define bind emit labels_of name_or_macro full_name
+unfolding lowered lower_item lower_items lower_node lower_directive place_of opened label_texts define bind emit labels_of name_or_macro
+    full_name
     node_name_span first_of has join same is_empty
 listed = refl
 
 pub bound : (lowered signed_level items).binds ≡ record { label = 97 ∷ []; path = 47 ∷ 98 ∷ []; span = span 14 16 } ∷ []
-unfolding lowered lower_item lower_items lower_node lower_directive place_of opened label_texts define bind emit labels_of name_or_macro full_name
+unfolding lowered lower_item lower_items lower_node lower_directive place_of opened label_texts define bind emit labels_of name_or_macro
+    full_name
     node_name_span first_of has join same is_empty
 bound = refl
 
 pub checked : post_checks (lowered signed_level items) ≡ []
-unfolding lowered lower_item lower_items lower_node lower_directive place_of opened label_texts define bind emit labels_of name_or_macro full_name
+unfolding lowered lower_item lower_items lower_node lower_directive place_of opened label_texts define bind emit labels_of name_or_macro
+    full_name
     node_name_span first_of has join same is_empty post_checks check_directives directives_from check_references check_defs duplicate_labels
     duplicates_of any sets_overlay live is_live gone at_or_under strip begins starts_with
 checked = refl

@@ -6,7 +6,8 @@ use Rattle.paths_numbers.specs.meaning.Lists.{any}
 use Rattle.input.specs.meaning.Input.{text_at, second_at, number_at, trees_at, chain_at, description}
 use Rattle.input.specs.meaning.Place.{fits, child_place, second_place, has_children, w_fits, fits_alone}
 use Rattle.input.specs.meaning.Rows.{Verdict, accepted, refused, verdict, lowest, wrong_size, linked_below, bad_link, bad_links, row_two}
-use Rattle.input.specs.meaning.Rows.{bad_text, row_three, visits, visits_from, reached, lowest_of, unfit, bad_head, row_four, bad_name, row_five}
+use Rattle.input.specs.meaning.Rows.{bad_text, row_three, visits, visits_from, reached, lowest_of, unfit, bad_head, row_four, bad_name}
+use Rattle.input.specs.meaning.Rows.{row_five}
 use Rattle.input.specs.meaning.Rows.{too_deep, row_six}
 use Rattle.lowering.specs.examples.Example.{items}
 
@@ -28,7 +29,8 @@ worded kind start size w = words8 kind 0 0 start size w 0 0
 
 -- the verdict with all that it computes through: the examples unfold this one
 unfoldable pub computed : List ℕ → List ℕ → Verdict
-unfolding verdict wrong_size lowest row_two bad_links bad_link linked_below row_three bad_text reached visits_from visits lowest_of row_four bad_head
+unfolding verdict wrong_size lowest row_two bad_links bad_link linked_below row_three bad_text reached visits_from visits lowest_of row_four
+    bad_head
     unfit has_children fits_alone fits w_fits child_place second_place row_five bad_name row_six too_deep text_at second_at number_at any is_empty
 computed words text = verdict words text
 

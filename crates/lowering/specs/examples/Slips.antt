@@ -15,7 +15,8 @@ use Rattle.input.specs.meaning.Phandle.{lower_phandle}
 use Rattle.resolving.specs.meaning.Resolve.{resolve, first_binding}
 use Rattle.making.specs.meaning.State.{define, bind, emit, apart, dropped, extended}
 use Rattle.items.specs.meaning.Unbind.{unbind, without}
-use Rattle.items.specs.meaning.Lower.{lowered, lower_item, lower_items, lower_node, lower_directive, lower_delete_node, delete_node, place_of}
+use Rattle.items.specs.meaning.Lower.{lowered, lower_item, lower_items, lower_node, lower_directive, lower_delete_node, delete_node}
+use Rattle.items.specs.meaning.Lower.{place_of}
 use Rattle.items.specs.meaning.Lower.{opened, label_texts}
 use Rattle.lowering.specs.examples.Example.{span, part}
 
@@ -33,7 +34,8 @@ two_labels =
     empty
 
 pub other_binding_stays : (lowered signed_level two_labels).binds ≡ record { label = 108 ∷ []; path = 47 ∷ 98 ∷ []; span = span 1 2 } ∷ []
-unfolding lowered lower_item lower_items lower_node lower_directive lower_delete_node delete_node place_of opened label_texts define bind emit unbind
+unfolding lowered lower_item lower_items lower_node lower_directive lower_delete_node delete_node place_of opened label_texts define bind
+    emit unbind
     without labels_of name_or_macro full_name node_name_span first_of has join same is_empty live is_live gone at_or_under strip begins starts_with any
 other_binding_stays = refl
 
@@ -48,7 +50,8 @@ nested =
     empty)
 
 pub body_is_no_overlay : (lowered signed_level nested).diags ≡ report 3 (121 ∷ []) (span 4 5) ∷ []
-unfolding lowered lower_item lower_items lower_node lower_directive place_of opened label_texts define bind emit apart dropped extended labels_of
+unfolding lowered lower_item lower_items lower_node lower_directive place_of opened label_texts define bind emit apart dropped extended
+    labels_of
     name_or_macro full_name node_name_span first_of has join same is_empty lower_phandle resolve first_binding any sets_overlay
 body_is_no_overlay = refl
 

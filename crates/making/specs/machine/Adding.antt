@@ -1,7 +1,8 @@
 -- A definition is made before its labels and values, and a cell list before its cells: what one part more does to the state, and what a
 -- binding taken out by its place does.
 use Rattle.std.specs.Prelude.{ℕ, zero, suc, ◌+◌, List, [], ◌∷◌, ◌++◌, Bool, true, false, length}
-use Rattle.definition_log.specs.meaning.Contents.{Cell, Value, string, cell_list, bytestring, phandle, DefValue, node, property, deleted_node}
+use Rattle.definition_log.specs.meaning.Contents.{Cell, Value, string, cell_list, bytestring, phandle, DefValue, node, property}
+use Rattle.definition_log.specs.meaning.Contents.{deleted_node}
 use Rattle.definition_log.specs.meaning.Contents.{deleted_property, version, plugin, Def}
 use Rattle.making.specs.meaning.State.{cell_bytes, value_bytes, State}
 

@@ -3,9 +3,11 @@
 use Rattle.std.specs.Prelude.{ℕ, ◌+◌, ◌*◌, ◌^◌, ◌<◌, ◌≡◌, Bool, false, not, cond, List, [], ◌∷◌, ◌++◌, map, eqb, length, replicate}
 use Rattle.paths_numbers.specs.meaning.Text.{is_empty}
 use Rattle.paths_numbers.specs.meaning.Reference.{Target, label, label_path, path, unreadable}
-use Rattle.definition_log.specs.meaning.Contents.{Span, Cell, number, reference, Value, string, cell_list, bytestring, phandle, DefValue, node}
+use Rattle.definition_log.specs.meaning.Contents.{Span, Cell, number, reference, Value, string, cell_list, bytestring, phandle, DefValue}
+use Rattle.definition_log.specs.meaning.Contents.{node}
 use Rattle.definition_log.specs.meaning.Contents.{property, deleted_node, deleted_property, version, plugin, Def, Ext, Binding, Diag}
-use Rattle.definition_log.specs.meaning.Record.{node_kind, property_kind, deleted_node_kind, deleted_property_kind, plugin_kind, cell_list_kind, bytestring_kind}
+use Rattle.definition_log.specs.meaning.Record.{node_kind, property_kind, deleted_node_kind, deleted_property_kind, plugin_kind}
+use Rattle.definition_log.specs.meaning.Record.{cell_list_kind, bytestring_kind}
 use Rattle.definition_log.specs.meaning.Record.{reference_kind}
 
 -- a record made: the chain that it stands in, its words, its texts, and whether it is still there

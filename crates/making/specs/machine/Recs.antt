@@ -9,11 +9,13 @@ use Rattle.making.specs.declared.recs.DefKind.TheVariants as D
 use Rattle.paths_numbers.specs.meaning.Reference as Reference
 use Rattle.paths_numbers.specs.declared.phandle.MirPhandleTarget.{MirPhandleTarget}
 use Rattle.paths_numbers.specs.declared.phandle.MirPhandleTarget.TheVariants as T
-use Rattle.definition_log.specs.meaning.Contents.{DefValue, node, property, deleted_node, deleted_property, version, plugin, Def, Binding, Diag}
+use Rattle.definition_log.specs.meaning.Contents.{DefValue, node, property, deleted_node, deleted_property, version, plugin, Def, Binding}
+use Rattle.definition_log.specs.meaning.Contents.{Diag}
 use Rattle.definition_log.specs.meaning.Contents.{bytestring}
 use Rattle.definition_log.specs.machine.Parts.{meant, target_made}
 use Rattle.definition_log.specs.meaning.Record.{reference_kind}
-use Rattle.definition_log.specs.meaning.Record.{node_kind, property_kind, deleted_node_kind, deleted_property_kind, version_kind, plugin_kind}
+use Rattle.definition_log.specs.meaning.Record.{node_kind, property_kind, deleted_node_kind, deleted_property_kind, version_kind}
+use Rattle.definition_log.specs.meaning.Record.{plugin_kind}
 use Rattle.making.specs.machine.Made.{Told}
 use Rattle.making.specs.machine.Adding.{in_property, add_value}
 use Rattle.making.specs.machine.Represents.{StepsIn}

@@ -10,7 +10,8 @@ use Rattle.paths_numbers.specs.meaning.Reference.{Target}
 use Rattle.making.specs.meaning.State.{State, apart, dropped, extended}
 use Rattle.making.specs.machine.Adding.{unbind_at}
 use Rattle.definition_log.specs.meaning.ReadBack.{chain_of, Log}
-use Rattle.definition_log.specs.meaning.Record.{record_words, log_count, one_of, def_kinds, extension_kind, binding_kind, diagnostic_kind, has_children}
+use Rattle.definition_log.specs.meaning.Record.{record_words, log_count, one_of, def_kinds, extension_kind, binding_kind, diagnostic_kind}
+use Rattle.definition_log.specs.meaning.Record.{has_children}
 use Rattle.definition_log.specs.meaning.Record.{most_bytes}
 use Rattle.definition_log.specs.meaning.Sound as Sound
 use Rattle.definition_log.specs.meaning.Sound.{kinds_in}

@@ -3,7 +3,8 @@
 -- believe: what is written then follows from it (proofs/Finished).
 use Rattle.std.specs.Prelude.{ℕ, ◌+◌, ◌≤◌, ◌≡◌, Bool, true, false, cond, List, [], ◌∷◌, map, eqb, length}
 use Rattle.paths_numbers.specs.meaning.Path.{good_path}
-use Rattle.definition_log.specs.meaning.Record.{version_kind, plugin_kind, extension_kind, binding_kind, diagnostic_kind, one_of, def_kinds, has_children}
+use Rattle.definition_log.specs.meaning.Record.{version_kind, plugin_kind, extension_kind, binding_kind, diagnostic_kind, one_of, def_kinds}
+use Rattle.definition_log.specs.meaning.Record.{has_children}
 use Rattle.definition_log.specs.meaning.Record.{has_span, has_name_span}
 use Rattle.definition_log.specs.meaning.ReadBack.{Log}
 use Rattle.definition_log.specs.meaning.Sound.{kinds_in, nonempty_path, below as place_below}

@@ -2,7 +2,8 @@
 -- one list for all logs, and row 7's counts of records and bytes made.
 use Rattle.std.specs.Prelude.{ℕ, ◌+◌, List, [], ◌∷◌, ◌++◌, length}
 use Rattle.paths_numbers.specs.meaning.Reference.{Target, label, label_path, path, unreadable}
-use Rattle.definition_log.specs.meaning.Contents.{Cell, number, reference, Value, string, cell_list, bytestring, phandle, DefValue, node, property}
+use Rattle.definition_log.specs.meaning.Contents.{Cell, number, reference, Value, string, cell_list, bytestring, phandle, DefValue, node}
+use Rattle.definition_log.specs.meaning.Contents.{property}
 use Rattle.definition_log.specs.meaning.Contents.{deleted_node, deleted_property, version, plugin, Def, Ext, Binding, Diag}
 
 pub record State : Type 0 where

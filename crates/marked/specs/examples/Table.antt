@@ -6,12 +6,14 @@ use Rattle.paths_numbers.specs.meaning.Path.{strip, found, nothing, join}
 use Rattle.paths_numbers.specs.meaning.Lists.{any}
 use Rattle.paths_numbers.proofs.Texts.{by_test, not_both}
 use Rattle.paths_numbers.specs.meaning.Reading as R
-use Rattle.paths_numbers.specs.meaning.Number.{unsigned_number, unsigned, signed_number, signed, digits, behind_sign, behind_prefix, base_of}
+use Rattle.paths_numbers.specs.meaning.Number.{unsigned_number, unsigned, signed_number, signed, digits, behind_sign, behind_prefix}
+use Rattle.paths_numbers.specs.meaning.Number.{base_of}
 use Rattle.paths_numbers.specs.meaning.Number.{has_prefix, is_prefix_letter, trimmed, is_suffix}
 use Rattle.paths_numbers.specs.meaning.Expression.{eval_infix, quotient, shift_left}
 use Rattle.paths_numbers.specs.meaning.Cell.{expr_cell, largest}
 use Rattle.paths_numbers.specs.meaning.Bytestring.{count_of, nibbles, pairs}
-use Rattle.paths_numbers.specs.meaning.Reference.{target, is_braced, inner_text, in_braces, has_slash, before_slash, behind_slash, label_path}
+use Rattle.paths_numbers.specs.meaning.Reference.{target, is_braced, inner_text, in_braces, has_slash, before_slash, behind_slash}
+use Rattle.paths_numbers.specs.meaning.Reference.{label_path}
 use Rattle.levels.specs.meaning.Rules.{signed_rules}
 use Rattle.definition_log.specs.meaning.Contents.{Def, Binding}
 use Rattle.queries.specs.meaning.Live.{contains_node}
@@ -71,7 +73,8 @@ pub and_decides_early :
     empty))
     empty)
     ≡ value (pos 0)
-unfolding eval evals signed_number signed digits behind_sign behind_prefix base_of has_prefix is_prefix_letter trimmed is_suffix digit_of eval_infix
+unfolding eval evals signed_number signed digits behind_sign behind_prefix base_of has_prefix is_prefix_letter trimmed is_suffix digit_of
+    eval_infix
     quotient
 and_decides_early = refl
 

@@ -1,5 +1,6 @@
 -- 01, "Numbers": what a number's text reads as, at an unsigned limit and signed in 64 bits.
-use Rattle.std.specs.Prelude.{ℕ, ◌+◌, ◌-◌, ◌*◌, ◌^◌, Bool, true, false, cond, List, [], ◌∷◌, drop, ℤ, pos, neg_ℤ, ◌==◌, nat_le, nat_lt, slice_index, Result}
+use Rattle.std.specs.Prelude.{ℕ, ◌+◌, ◌-◌, ◌*◌, ◌^◌, Bool, true, false, cond, List, [], ◌∷◌, drop, ℤ, pos, neg_ℤ, ◌==◌, nat_le, nat_lt}
+use Rattle.std.specs.Prelude.{slice_index, Result}
 use Rattle.paths_numbers.specs.meaning.Code.{number_empty, not_a_digit, number_too_large, number_too_small}
 use Rattle.paths_numbers.specs.meaning.Reading.{Reading, value, fails, told}
 use Rattle.paths_numbers.specs.meaning.Byte.{digit_of, plus, minus}

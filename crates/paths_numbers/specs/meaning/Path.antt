@@ -1,5 +1,6 @@
 -- 01, "Paths": stripping a base from a path, joining a parent and a name, and row 9's form of a path.
-use Rattle.std.specs.Prelude.{ℕ, ◌+◌, ◌-◌, ◌^◌, Bool, true, false, cond, not, List, [], ◌∷◌, ◌++◌, length, drop, ◌==◌, nat_le, Option, Some, None}
+use Rattle.std.specs.Prelude.{ℕ, ◌+◌, ◌-◌, ◌^◌, Bool, true, false, cond, not, List, [], ◌∷◌, ◌++◌, length, drop, ◌==◌, nat_le, Option, Some}
+use Rattle.std.specs.Prelude.{None}
 use Rattle.paths_numbers.specs.meaning.Byte.{slash, at_sign}
 use Rattle.paths_numbers.specs.meaning.Text.{begins, same, is_empty, starts_with, written}
 use Rattle.paths_numbers.specs.declared.dt_node.Joined.{Joined}

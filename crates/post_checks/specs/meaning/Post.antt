@@ -3,7 +3,8 @@ use Rattle.std.specs.Prelude.{ℕ, Bool, true, false, cond, List, [], ◌∷◌,
 use Rattle.paths_numbers.specs.meaning.Code.{duplicate_label, version_late, plugin_misplaced, before_version}
 use Rattle.paths_numbers.specs.meaning.Text.{same}
 use Rattle.paths_numbers.specs.meaning.Reference.{Target}
-use Rattle.definition_log.specs.meaning.Contents.{Span, Cell, number, reference, Value, string, cell_list, bytestring, phandle, DefValue, node}
+use Rattle.definition_log.specs.meaning.Contents.{Span, Cell, number, reference, Value, string, cell_list, bytestring, phandle, DefValue}
+use Rattle.definition_log.specs.meaning.Contents.{node}
 use Rattle.definition_log.specs.meaning.Contents.{property, deleted_node, deleted_property, version, plugin, Def, Binding, Diag}
 use Rattle.queries.specs.meaning.Kind.{sets_overlay}
 use Rattle.paths_numbers.specs.meaning.Lists.{any}

@@ -10,7 +10,8 @@ use Rattle.queries.specs.meaning.Lookup.{LookedUp, found, no_node, several, node
 
 -- a look-up, with all that it computes through
 unfoldable computed : List ℕ → List Def → LookedUp
-unfolding lookup node_paths distinct contains_node live is_live gone at_or_under strip begins starts_with any same is_empty has_components good_path
+unfolding lookup node_paths distinct contains_node live is_live gone at_or_under strip begins starts_with any same is_empty has_components
+    good_path
     components may_mean all_match split component_matches before_at
 computed p defs = lookup p defs
 

@@ -18,7 +18,8 @@ use Rattle.resolving.specs.meaning.Resolve.{resolve, first_binding}
 use Rattle.input.specs.meaning.Property.{lower_values}
 use Rattle.making.specs.meaning.State.{State, start, define, bind, emit}
 use Rattle.items.specs.meaning.Unbind.{without, unbind}
-use Rattle.items.specs.meaning.Lower.{lowered, lower_item, lower_items, lower_node, lower_property, lower_directive, lower_delete_node, delete_node}
+use Rattle.items.specs.meaning.Lower.{lowered, lower_item, lower_items, lower_node, lower_property, lower_directive, lower_delete_node}
+use Rattle.items.specs.meaning.Lower.{delete_node}
 use Rattle.items.specs.meaning.Lower.{place_of, opened, label_texts}
 use Rattle.two_runs.specs.meaning.TwoRuns.{plain_name, quiet_directive, quiet, quiet_in, Pair, Inserted, here, after, within}
 use Rattle.two_runs.specs.meaning.TwoRuns.{unlowered}
@@ -27,7 +28,8 @@ use Rattle.lowering.specs.examples.Example.{span, part}
 
 -- what lowering makes of a description, with all that it computes through: the examples unfold this one
 unfoldable pub computed_state : ℕ → Trees → State
-unfolding lowered lower_item lower_items lower_node lower_property lower_directive lower_delete_node delete_node place_of opened label_texts define
+unfolding lowered lower_item lower_items lower_node lower_property lower_directive lower_delete_node delete_node place_of opened label_texts
+    define
     bind emit unbind without labels_of name_or_macro full_name node_name_span property_name_span first_of has join same is_empty lower_phandle resolve
     first_binding lower_values live is_live gone contains_node at_or_under strip begins starts_with any sets_overlay with_unit joined target is_braced
     inner_text in_braces has_slash before_slash behind_slash lookup node_paths distinct has_components good_path components may_mean all_match split
