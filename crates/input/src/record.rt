@@ -11,14 +11,13 @@ use crate::layout;
 use crate::linked::{Chain, Record};
 use crate::place::links_by_w;
 use definition_log::parts::Span;
-use definition_log::record::text_in;
+use definition_log::record::{record_word, text_in};
 
 // Word i of a record.
 pub fn field(words: &[u32], r: u32, i: u32) -> u32
     ensures { result ≡ field words.now r i }
 {
-    let at = (r as usize) * layout::RECORD_WORDS + (i as usize);
-    words.get(at).copied().unwrap_or(0)
+    record_word::<{ layout::RECORD_WORDS }>(words, r, i)
 }
 
 // The kind of a record.
