@@ -178,10 +178,7 @@ fn is_logical(op: u32) -> bool
 fn evaluation_of<E: Code>(r: u32, v: Result<i64, E>) -> Result<i64, Report>
     ensures { (words text : List ℕ) → outcome_of words text result ≡ evaluated (span_at words r) (told E.code_of v) }
 {
-    match v {
-        Ok(z) => Ok(z),
-        Err(e) => Err(failure(r, e.code())),
-    }
+    v.map_err(|e| failure(r, e.code()))
 }
 
 // What is reported of a code at record r: nothing of none.

@@ -17,7 +17,7 @@ use crate::place::Place;
 use crate::record::{child_at, field, kind_at, next_at, number_at, second_at, text_at, w_at};
 use crate::{layout, place};
 use definition_log::answer::Refusal;
-use paths_numbers::phandle::first_slash;
+use slashes::slash::next_slash;
 
 // How a record stands is one number: this times its depth, and its place's number; 0 where no link has led to it.
 // kept: fixed memory, of which an array of places and depths takes three times as much
@@ -299,34 +299,25 @@ fn is_unfit(words: &[u32], stand: u32, r: u32) -> bool
 fn bad_name(words: &[u32], text: &[u8], r: u32) -> bool
     ensures { result ≡ bad_name words.now text.now (visit_at r 0) }
 {
-    let kind = kind_at(words, r);
-    if kind == NAME {
-        return !good_name(text_at(words, text, r));
+    match kind_at(words, r) {
+        NAME => !good_name(text_at(words, text, r)),
+        REFERENCE => w_at(words, r) == 0 && holds_slash(text_at(words, text, r)),
+        _ => false,
     }
-    if kind != REFERENCE {
-        return false;
-    }
-    if w_at(words, r) != 0 {
-        return false;
-    }
-    holds_slash(text_at(words, text, r))
 }
 
 // Whether a name is not empty and holds no slash.
 fn good_name(name: &[u8]) -> bool
     ensures { result ≡ good_name name.now }
 {
-    if name.len() == 0 {
-        return false;
-    }
-    !holds_slash(name)
+    !name.is_empty() && !holds_slash(name)
 }
 
 // Whether a text holds a slash.
 fn holds_slash(text: &[u8]) -> bool
     ensures { result ≡ holds_slash text.now }
 {
-    first_slash(text) < text.len()
+    next_slash(text, 0).is_some()
 }
 
 // What an array says of a record.
@@ -341,6 +332,7 @@ fn store(list: &mut [u32], r: u32, v: u32)
     ensures { list.new ≡ stored list.old r v }
 {
     let at = r as usize;
+    // kept: the proof did not close with get_mut, whose contract for slices does not say what the slice is once its item is written
     if at < list.len() {
         list[at] = v;
     }
