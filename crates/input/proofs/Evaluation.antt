@@ -10,8 +10,6 @@ use lib.Dec.{eqb}
 use lib.IntN.{ℤ}
 use Rattle.std.specs.Prelude.{Result, Ok, Err}
 use Rattle.paths_numbers.specs.meaning.Expression.{and_op, or_op, conditional_op, is_true, of_truth}
-use Rattle.paths_numbers.specs.meaning.Reading as R
-use Rattle.paths_numbers.specs.meaning.Reading.{no_code}
 use Rattle.paths_numbers.proofs.Texts.{by_test, not_both}
 use Rattle.levels.specs.machine.Held.{rules_at}
 use Rattle.definition_log.specs.meaning.Contents.{Span, Diag}
@@ -22,7 +20,7 @@ use Rattle.input.specs.meaning.Input.{record_count, kind_at, next_at, child_at, 
 use Rattle.input.specs.machine.At.{record_at}
 use Rattle.input.specs.machine.Linked.{Linked, At}
 use Rattle.input.specs.machine.Read.{after_at}
-use Rattle.input.specs.machine.Evaluation.{outcome_of, failure, is_logical, decides}
+use Rattle.input.specs.machine.Evaluation.{outcome_of, is_logical, decides}
 use Rattle.input.specs.machine.Reported.{reports_of}
 use Rattle.input.specs.declared.report.Report.{Report}
 use Rattle.input.specs.declared.report.Report.TheVariants as D
@@ -38,13 +36,6 @@ failure_passes words text e d f h = rw h refl
 pub value_passes : (words text : List ℕ) (e : Result ℤ Report) (z : ℤ) (o : Outcome ℤ) → e ≡ Ok z → outcome_of words text e ≡ o
     → value z ≡ o
 value_passes words text e z o h q = ap (outcome_of words text) (sym h) ∙ q
-
--- what is reported of a failure is what its code says
-pub failed : (words text : List ℕ) (r code : ℕ) → outcome_of words text (Err (failure r code)) ≡ evaluated (span_at words r) (R.fails code)
-failed words text r code =
-    by_test (eqb code no_code)
-    (λ t. rw t refl)
-    (λ t. rw t refl)
 
 -- an expression record, by its kind
 module _ (level : ℕ) (words text : List ℕ) (r : ℕ) where

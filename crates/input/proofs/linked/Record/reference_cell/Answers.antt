@@ -2,9 +2,7 @@
 use Rattle.std.proofs.lemmas.Result.{err_from_is_err_and}
 use Rattle.input.specs.meaning.Property.{reference_cell}
 use Rattle.input.specs.meaning.Input.{span_at}
-use Rattle.paths_numbers.specs.meaning.Cell.{bits_of}
-use borrow.Author.Tests.{eq-eqb, ne_eqb}
-use mathlib.Core.Path.{sym, ap, ◌∙◌}
+use mathlib.Core.Path.{ap}
 use Rattle.input.proofs.linked.Record.reference_cell.Goals as goal
 
 pub returns-in_err-kind : goal.returns-in_err-kind
