@@ -2,8 +2,8 @@
 // and a text ends where the bytes do.
 #![tactic(auto, unfolding(crate::specs::meaning::Record::out_field, crate::specs::meaning::Record::log_count))]
 
-ghost use Rattle.std.specs.Prelude.{◌≡◌};
-ghost use Rattle.definition_log.specs.meaning.Record.{out_field, kind_of, next_of, child_of, log_count, leads, text_in, first_text};
+ghost use Rattle.std.specs.Prelude.{◌≡◌, ◌≤◌, ◌+◌, ◌*◌, get_or};
+ghost use Rattle.definition_log.specs.meaning.Record.{record_words, out_field, kind_of, next_of, child_of, log_count, leads, text_in, first_text};
 ghost use Rattle.definition_log.specs.meaning.Record.{second_text};
 
 use crate::layout;
@@ -16,12 +16,20 @@ pub struct Log<'a> {
     pub bytes: &'a [u8],
 }
 
-// Word i of a record.
+// Word i of a record, of records of W words each.
+pub fn record_word<const W: usize>(words: &[u32], r: u32, i: u32) -> u32
+    requires { W ≤ record_words }
+    ensures { result ≡ get_or words.now (r * W + i) 0 }
+{
+    let at = (r as usize) * W + (i as usize);
+    words.get(at).copied().unwrap_or(0)
+}
+
+// Word i of an output record.
 pub fn out_field(words: &[u32], r: u32, i: u32) -> u32
     ensures { result ≡ out_field words.now r i }
 {
-    let at = (r as usize) * layout::RECORD_WORDS + (i as usize);
-    words.get(at).copied().unwrap_or(0)
+    record_word::<{ layout::RECORD_WORDS }>(words, r, i)
 }
 
 // The kind of a record.

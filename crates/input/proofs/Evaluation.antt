@@ -1,6 +1,6 @@
 -- How an expression's outcome comes from its operands': the operands of a record are its chain of children, and an operation asks for as
 -- many as it needs.
-use Prim.Native.Nat.{ℕ, zero, suc, ◌<◌}
+use Prim.Native.Nat.{ℕ, ◌≤◌, ◌<◌}
 use mathlib.Core.Path.{◌≡◌, refl, sym, ap, ◌∙◌}
 use mathlib.Core.Bool.{true, false, cond}
 use mathlib.Core.List.{List, [], ◌∷◌}
@@ -8,26 +8,25 @@ use native.Mathlib.Omega.{arith}
 use borrow.Author.Tests.{ne_eqb, not-true, not-false}
 use lib.Dec.{eqb}
 use lib.IntN.{ℤ}
-use Rattle.std.specs.Prelude.{Result, Ok, Err}
+use Rattle.std.specs.Prelude.{Some, None, Result, Ok, Err}
 use Rattle.paths_numbers.specs.meaning.Expression.{and_op, or_op, conditional_op, is_true, of_truth}
-use Rattle.paths_numbers.specs.meaning.Reading as R
-use Rattle.paths_numbers.specs.meaning.Reading.{no_code}
 use Rattle.paths_numbers.proofs.Texts.{by_test, not_both}
 use Rattle.levels.specs.machine.Held.{rules_at}
 use Rattle.definition_log.specs.meaning.Contents.{Span, Diag}
 use Rattle.input.specs.meaning.Tree.{macro_kind, number_kind, character_kind, prefix_kind, parenthesis_kind, infix_kind}
 use Rattle.input.specs.meaning.Expr.{Outcome, value, fails, missing, with_value, evaluated, first_operand, applied, chosen}
 use Rattle.input.specs.meaning.Expr.{infix_of, combined, eval, evals}
-use Rattle.input.specs.meaning.Input.{record_count, kind_at, next_at, child_at, number_at, span_at, text_at, chain_at}
+use Rattle.input.specs.meaning.Input.{record_count, kind_at, child_at, number_at, span_at, text_at, chain_at}
 use Rattle.input.specs.machine.At.{record_at}
-use Rattle.input.specs.machine.Linked.{Linked, At}
-use Rattle.input.specs.machine.Read.{after_at}
-use Rattle.input.specs.machine.Evaluation.{outcome_of, failure, is_logical, decides}
+use Rattle.input.specs.machine.ChainLeft.{trees_of, AreRecords, chain_left, trees_left}
+use Rattle.input.specs.machine.Fits.{depth_of, depths_of}
+use Rattle.input.specs.machine.Evaluation.{first_two, first_three, outcome_of, is_logical, decides}
+use Rattle.input.specs.declared.linked.Chain.{Chain}
 use Rattle.input.specs.machine.Reported.{reports_of}
 use Rattle.input.specs.declared.report.Report.{Report}
 use Rattle.input.specs.declared.report.Report.TheVariants as D
-use Rattle.input.proofs.Input.{chain_none, chain_more}
-use Rattle.input.proofs.Read.{ChainIn, after_some, before_some, chain_after}
+use Rattle.input.proofs.ChainLeft.{chain_is, are_records}
+use Rattle.input.proofs.Read.{some_is, none_some}
 
 -- a failure of an operand is the whole's
 pub failure_passes : (words text : List ℕ) (e : Result ℤ Report) (d : Report) (f : ℤ → Outcome ℤ) → e ≡ Err d
@@ -38,13 +37,6 @@ failure_passes words text e d f h = rw h refl
 pub value_passes : (words text : List ℕ) (e : Result ℤ Report) (z : ℤ) (o : Outcome ℤ) → e ≡ Ok z → outcome_of words text e ≡ o
     → value z ≡ o
 value_passes words text e z o h q = ap (outcome_of words text) (sym h) ∙ q
-
--- what is reported of a failure is what its code says
-pub failed : (words text : List ℕ) (r code : ℕ) → outcome_of words text (Err (failure r code)) ≡ evaluated (span_at words r) (R.fails code)
-failed words text r code =
-    by_test (eqb code no_code)
-    (λ t. rw t refl)
-    (λ t. rw t refl)
 
 -- an expression record, by its kind
 module _ (level : ℕ) (words text : List ℕ) (r : ℕ) where
@@ -77,14 +69,6 @@ module _ (level : ℕ) (words text : List ℕ) (r : ℕ) where
         ne_eqb (kind_at words r) parenthesis_kind e,
         ne_eqb (kind_at words r) infix_kind f,
       ))
-
--- the operands of a chain
-no_operands : (level : ℕ) (words text : List ℕ) → evals (rules_at level) (chain_at words text 0) ≡ []
-unfolding evals
-no_operands level words text = rw (chain_none words text) refl
-
-pub no_first : (level : ℕ) (words text : List ℕ) → missing ≡ first_operand (evals (rules_at level) (chain_at words text 0))
-no_first level words text = rw (no_operands level words text) refl
 
 -- one of two operands its two first, where both are there
 two_operands : (level op : ℕ) → (op ≡ 0 → ⊥) → (op ≡ conditional_op → ⊥) → (span : Span) (x y : Outcome ℤ) (l : List (Outcome ℤ))
@@ -124,105 +108,147 @@ pub second_fails : (level op : ℕ) (span : Span) (a : ℤ) (ds : List Diag) →
 second_fails level op span a ds e =
     by_test (is_logical op) (λ l. second_decides level op span a (fails ds) e l) (λ l. plain_infix level op span a (fails ds) l)
 
-module _ (level : ℕ) (words text : List ℕ) (l : Linked words) where
-  operands : (r : ℕ) → (r ≡ 0 → ⊥) → r < record_count words
-      → evals (rules_at level) (chain_at words text r)
-      ≡ eval (rules_at level) (record_at words text r) ∷ evals (rules_at level) (chain_at words text (next_at words r))
-  unfolding evals
-  operands r n a = rw (chain_more words l text r n a) refl
+-- the first two and the first three of a chain's records, and those behind them
+two_is : (l : List ℕ) (x y : ℕ) → first_two l ≡ Some (x, y) → (m : List ℕ) × (l ≡ x ∷ y ∷ m)
+two_is [] x y e = absurd (none_some e)
+two_is (a ∷ []) x y e = absurd (none_some e)
+two_is (a ∷ b ∷ l) x y e =
+    let q = some_is e in
+    (l, rw (ap (λ (p : ℕ × ℕ). p.0) q, ap (λ (p : ℕ × ℕ). p.1) q) refl)
 
-  -- y is the operand behind x
-  behind : (x y : ℕ) → y ≡ after_at words x → (x ≡ 0 → ⊥) → At words x
-      → evals (rules_at level) (chain_at words text x)
-      ≡ eval (rules_at level) (record_at words text x) ∷ evals (rules_at level) (chain_at words text y)
-  behind x y e n a =
-      operands x n (a n) ∙ ap (λ (k : ℕ). eval (rules_at level) (record_at words text x) ∷ evals (rules_at level) (chain_at words text k))
-      (sym (e ∙ after_some words x n))
+three_is : (l : List ℕ) (x y z : ℕ) → first_three l ≡ Some (x, y, z) → (m : List ℕ) × (l ≡ x ∷ y ∷ z ∷ m)
+three_is [] x y z e = absurd (none_some e)
+three_is (a ∷ []) x y z e = absurd (none_some e)
+three_is (a ∷ b ∷ []) x y z e = absurd (none_some e)
+three_is (a ∷ b ∷ d ∷ l) x y z e =
+    let q = some_is e in
+    (l, rw (ap (λ (p : ℕ × ℕ × ℕ). p.0) q, ap (λ (p : ℕ × ℕ × ℕ). p.1) q, ap (λ (p : ℕ × ℕ × ℕ). p.2) q) refl)
 
-  -- fewer operands than two, and two
-  pub infix_short : (op : ℕ) (span : Span) (x y : ℕ) → y ≡ after_at words x → At words x → y ≡ 0
-      → missing ≡ infix_of (rules_at level) op span (evals (rules_at level) (chain_at words text x))
-  infix_short op span zero y e a z = rw (no_operands level words text) refl
-  infix_short op span (suc x) y e a z = rw (behind (suc x) y e (λ q. omega arith) a, z, no_operands level words text) refl
+-- a record of a chain: it is there, and goes no deeper than a nesting
+pub record Operand (c : Chain) (nesting r : ℕ) : Type 0 where
+  pub there : r < record_count c.input.words.now
+  pub shallow : depth_of (record_at c.input.words.now c.input.text.now r) ≤ nesting
 
-  pub infix_two : (op : ℕ) → (op ≡ 0 → ⊥) → (op ≡ conditional_op → ⊥) → (span : Span) (x y : ℕ) → y ≡ after_at words x → At words x
-      → At words y
-      → (y ≡ 0 → ⊥)
-      → with_value (eval (rules_at level) (record_at words text x))
-      (λ a. applied (rules_at level) op span a (eval (rules_at level) (record_at words text y))) ≡ infix_of (rules_at level) op span
-      (evals (rules_at level) (chain_at words text x))
-  infix_two op n m span x y e a b k =
-      rw (behind x y e (before_some words text x y e k) a, operands y k (b k))
-      (sym (two_operands level op n m span (eval (rules_at level) (record_at words text x)) (eval (rules_at level) (record_at words text y))
-      (evals (rules_at level) (chain_at words text (next_at words y)))))
+-- what records evaluate to
+abbrev values_of : ℕ → Chain → List ℕ → List (Outcome ℤ)
+values_of level c l = evals (rules_at level) (trees_of c.input.words.now c.input.text.now l)
 
-  -- fewer than three, and three
-  pub conditional_short : (span : Span) (x y z : ℕ) → y ≡ after_at words x → z ≡ after_at words y → At words x → At words y → z ≡ 0
-      → missing ≡ infix_of (rules_at level) conditional_op span (evals (rules_at level) (chain_at words text x))
-  conditional_short span zero y z e f a b q = rw (no_operands level words text) refl
-  conditional_short span (suc x) zero z e f a b q = rw (behind (suc x) 0 e (λ q. omega arith) a, no_operands level words text) refl
-  conditional_short span (suc x) (suc y) z e f a b q =
-      rw (behind (suc x) (suc y) e (λ q. omega arith) a, behind (suc y) z f (λ q. omega arith) b, q, no_operands level words text) refl
+abbrev value_of : ℕ → Chain → ℕ → Outcome ℤ
+value_of level c r = eval (rules_at level) (record_at c.input.words.now c.input.text.now r)
 
-  pub conditional_three : (span : Span) (x y z : ℕ) → y ≡ after_at words x → z ≡ after_at words y → At words x → At words y → At words z
-      → (z ≡ 0 → ⊥)
-      → chosen (rules_at level) (eval (rules_at level) (record_at words text x)) (eval (rules_at level) (record_at words text y))
-      (eval (rules_at level) (record_at words text z))
-      ≡ infix_of (rules_at level) conditional_op span (evals (rules_at level) (chain_at words text x))
-  conditional_three span x y z e f a b c n =
-      let m = before_some words text y z f n in
-      rw (behind x y e (before_some words text x y e m) a, behind y z f m b, operands z n (c n)) refl
+-- a chain of operands, by the records that are left of it
+module _ (c : Chain) where
+  trees_is : (l : List ℕ) → chain_left c ≡ l → trees_left c ≡ trees_of c.input.words.now c.input.text.now l
+  trees_is l e = sym (chain_is c.input.words.now c.input.linked c.input.text.now c.next c.at)
+      ∙ ap (trees_of c.input.words.now c.input.text.now) e
 
-  -- the first operand
-  pub first_is_lem : (r : ℕ) → (r ≡ 0 → ⊥) → r < record_count words → eval (rules_at level) (record_at words text r)
-      ≡ first_operand (evals (rules_at level) (chain_at words text r))
-  first_is_lem r n a = rw (operands r n a) refl
+  there_is : (l : List ℕ) → chain_left c ≡ l → AreRecords c.input.words.now l
+  there_is l e = rw e at (are_records c.input.words.now c.input.linked c.next c.at)
 
-  -- x is the first operand, evaluated to v
-  module _ (span : Span) (nesting x : ℕ) (h : ChainIn words text x nesting) (v : Result ℤ Report)
-      (q : outcome_of words text v ≡ eval (rules_at level) (record_at words text x)) where
-    -- its value
-    operand_value : (a : ℤ) → v ≡ Ok a → eval (rules_at level) (record_at words text x) ≡ value a
-    operand_value a e = sym q ∙ ap (outcome_of words text) e
+  -- each is a record, and no deeper than the whole
+  module _ (nesting : ℕ) (h : depths_of (trees_left c) ≤ nesting) where
+    pub first_operand_in : (x : ℕ) (l : List ℕ) → chain_left c ≡ x ∷ l → Operand c nesting x
+    unfolding depths_of
+    first_operand_in x l e =
+        let s = rw (trees_is (x ∷ l) e) at h in
+        record { there = (there_is (x ∷ l) e).0.1; shallow = omega (arith, s) }
 
-    -- y is the operand behind it, and not the last for ?:
-    module _ (y : ℕ) (e : y ≡ after_at words x) where
-      second_at_lem : At words y
-      second_at_lem = (chain_after words text x y e l nesting h).at
+    pub two_in : (x y : ℕ) → first_two (chain_left c) ≡ Some (x, y) → Operand c nesting x × Operand c nesting y
+    unfolding depths_of
+    two_in x y e =
+        let m = two_is (chain_left c) x y e in
+        let a = there_is (x ∷ y ∷ m.0) m.1 in
+        let s = rw (trees_is (x ∷ y ∷ m.0) m.1) at h in
+        (record { there = a.0.1; shallow = omega (arith, s) }, record { there = a.1.0.1; shallow = omega (arith, s) })
 
-      module _ (op : ℕ) (n : op ≡ 0 → ⊥) (m : op ≡ conditional_op → ⊥) (k : y ≡ 0 → ⊥) where
-        two : with_value (eval (rules_at level) (record_at words text x))
-            (λ a. applied (rules_at level) op span a (eval (rules_at level) (record_at words text y))) ≡ infix_of (rules_at level) op span
-            (evals (rules_at level) (chain_at words text x))
-        two = infix_two op n m span x y e h.at second_at_lem k
+    pub three_in : (x y z : ℕ) → first_three (chain_left c) ≡ Some (x, y, z)
+        → Operand c nesting x × Operand c nesting y × Operand c nesting z
+    unfolding depths_of
+    three_in x y z e =
+        let m = three_is (chain_left c) x y z e in
+        let a = there_is (x ∷ y ∷ z ∷ m.0) m.1 in
+        let s = rw (trees_is (x ∷ y ∷ z ∷ m.0) m.1) at h in (
+          record { there = a.0.1; shallow = omega (arith, s) },
+          record { there = a.1.0.1; shallow = omega (arith, s) },
+          record { there = a.1.1.0.1; shallow = omega (arith, s) },
+        )
 
-        pub binary_fails : (d : Report) → v ≡ Err d
-            → outcome_of words text (Err d) ≡ infix_of (rules_at level) op span (evals (rules_at level) (chain_at words text x))
-        binary_fails d o = failure_passes words text v d
-            (λ a. applied (rules_at level) op span a (eval (rules_at level) (record_at words text y))) o ∙ rw q two
+  module _ (level : ℕ) where
+    values_is : (l : List ℕ) → chain_left c ≡ l → evals (rules_at level) (trees_left c) ≡ values_of level c l
+    values_is l e = ap (evals (rules_at level)) (trees_is l e)
 
-        pub binary_value : (a : ℤ) → v ≡ Ok a → applied (rules_at level) op span a (eval (rules_at level) (record_at words text y))
-            ≡ infix_of (rules_at level) op span
-            (evals (rules_at level) (chain_at words text x))
+    -- the first operand, where there is one
+    pub no_first : chain_left c ≡ [] → missing ≡ first_operand (evals (rules_at level) (trees_left c))
+    unfolding evals
+    no_first e = rw (values_is [] e) refl
+
+    pub first_is : (x : ℕ) (l : List ℕ) → chain_left c ≡ x ∷ l → value_of level c x ≡ first_operand (evals (rules_at level) (trees_left c))
+    unfolding evals
+    first_is x l e = rw (values_is (x ∷ l) e) refl
+
+    -- fewer operands than two, and than three
+    pub infix_short : (op : ℕ) (span : Span) → first_two (chain_left c) ≡ None
+        → missing ≡ infix_of (rules_at level) op span (evals (rules_at level) (trees_left c))
+    unfolding evals
+    infix_short op span n = go (chain_left c) refl n
+      where
+        go : (l : List ℕ) → chain_left c ≡ l → first_two l ≡ None
+            → missing ≡ infix_of (rules_at level) op span (evals (rules_at level) (trees_left c))
+        go [] e n = rw (values_is [] e) refl
+        go (x ∷ []) e n = rw (values_is (x ∷ []) e) refl
+        go (x ∷ y ∷ l) e n = absurd (none_some (sym n))
+
+    pub conditional_short : (span : Span) → first_three (chain_left c) ≡ None
+        → missing ≡ infix_of (rules_at level) conditional_op span (evals (rules_at level) (trees_left c))
+    unfolding evals
+    conditional_short span n = go (chain_left c) refl n
+      where
+        go : (l : List ℕ) → chain_left c ≡ l → first_three l ≡ None
+            → missing ≡ infix_of (rules_at level) conditional_op span (evals (rules_at level) (trees_left c))
+        go [] e n = rw (values_is [] e) refl
+        go (x ∷ []) e n = rw (values_is (x ∷ []) e) refl
+        go (x ∷ y ∷ []) e n = rw (values_is (x ∷ y ∷ []) e) refl
+        go (x ∷ y ∷ z ∷ l) e n = absurd (none_some (sym n))
+
+    -- the first operand is x, which is evaluated to v
+    module _ (span : Span) (x : ℕ) (v : Result ℤ Report) (q : outcome_of c.input.words.now c.input.text.now v ≡ value_of level c x) where
+      operand_value : (a : ℤ) → v ≡ Ok a → value_of level c x ≡ value a
+      operand_value a e = sym q ∙ ap (outcome_of c.input.words.now c.input.text.now) e
+
+      -- two operands
+      module _ (y : ℕ) (e : first_two (chain_left c) ≡ Some (x, y)) (op : ℕ) (n : op ≡ 0 → ⊥) (m : op ≡ conditional_op → ⊥) where
+        two : with_value (value_of level c x) (λ a. applied (rules_at level) op span a (value_of level c y))
+            ≡ infix_of (rules_at level) op span (evals (rules_at level) (trees_left c))
+        unfolding evals
+        two =
+            let k = two_is (chain_left c) x y e in
+            rw (values_is (x ∷ y ∷ k.0) k.1)
+            (sym (two_operands level op n m span (value_of level c x) (value_of level c y) (values_of level c k.0)))
+
+        pub binary_fails : (d : Report) → v ≡ Err d → outcome_of c.input.words.now c.input.text.now (Err d)
+            ≡ infix_of (rules_at level) op span (evals (rules_at level) (trees_left c))
+        binary_fails d o =
+            failure_passes c.input.words.now c.input.text.now v d (λ a. applied (rules_at level) op span a (value_of level c y)) o
+            ∙ rw q two
+
+        pub binary_value : (a : ℤ) → v ≡ Ok a → applied (rules_at level) op span a (value_of level c y)
+            ≡ infix_of (rules_at level) op span (evals (rules_at level) (trees_left c))
         binary_value a w = rw (operand_value a w) at two
 
-      module _ (z : ℕ) (f : z ≡ after_at words y) (k : z ≡ 0 → ⊥) where
-        three : chosen (rules_at level) (eval (rules_at level) (record_at words text x)) (eval (rules_at level) (record_at words text y))
-            (eval (rules_at level) (record_at words text z))
-            ≡ infix_of (rules_at level) conditional_op span (evals (rules_at level) (chain_at words text x))
-        three =
-            conditional_three span x y z e f h.at second_at_lem
-            (chain_after words text y z f l nesting (chain_after words text x y e l nesting h)).at k
+      -- three operands
+      module _ (y z : ℕ) (e : first_three (chain_left c) ≡ Some (x, y, z)) where
+        three : chosen (rules_at level) (value_of level c x) (value_of level c y) (value_of level c z)
+            ≡ infix_of (rules_at level) conditional_op span (evals (rules_at level) (trees_left c))
+        unfolding evals
+        three = let k = three_is (chain_left c) x y z e in rw (values_is (x ∷ y ∷ z ∷ k.0) k.1) refl
 
-        pub conditional_fails : (d : Report) → v ≡ Err d
-            → outcome_of words text (Err d) ≡ infix_of (rules_at level) conditional_op span (evals (rules_at level) (chain_at words text x))
+        pub conditional_fails : (d : Report) → v ≡ Err d → outcome_of c.input.words.now c.input.text.now (Err d)
+            ≡ infix_of (rules_at level) conditional_op span (evals (rules_at level) (trees_left c))
         conditional_fails d o =
-            failure_passes words text v d (λ a. cond ((rules_at level).holds a) (eval (rules_at level) (record_at words text y))
-            (eval (rules_at level) (record_at words text z))) o ∙ rw q three
+            failure_passes c.input.words.now c.input.text.now v d
+            (λ a. cond ((rules_at level).holds a) (value_of level c y) (value_of level c z)) o ∙ rw q three
 
-        pub conditional_value : (a : ℤ) → v ≡ Ok a
-            → cond (is_true a) (eval (rules_at level) (record_at words text y)) (eval (rules_at level) (record_at words text z))
-            ≡ infix_of (rules_at level) conditional_op span
-            (evals (rules_at level) (chain_at words text x))
+        pub conditional_value : (a : ℤ) → v ≡ Ok a → cond (is_true a) (value_of level c y) (value_of level c z)
+            ≡ infix_of (rules_at level) conditional_op span (evals (rules_at level) (trees_left c))
         unfolding rules_at
         conditional_value a w = rw (operand_value a w) at three

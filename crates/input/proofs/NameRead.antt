@@ -1,19 +1,20 @@
 -- Names and name spans by the numbers of the parts that decide them.
-use Prim.Native.Nat.{ℕ, ◌≤◌, ◌<◌}
+use Prim.Native.Nat.{ℕ, max}
 use mathlib.Core.Path.{◌≡◌, refl, sym, ap, ◌∙◌}
 use mathlib.Core.Bool.{true, false}
 use mathlib.Core.List.{List, [], ◌∷◌}
 use mathlib.Core.Option.{some}
-use borrow.Author.Tests.{le-leb, lt-leb}
+use borrow.Author.Tests.{leb-true, leb-false}
+use lib.Dec.{leb}
 use native.Mathlib.Omega.{arith}
 use Rattle.std.specs.Prelude.{Option as Maybe, Some, None, Result, Ok, Err, is_ok}
 use Rattle.paths_numbers.specs.meaning.Text.{is_empty}
 use Rattle.paths_numbers.specs.meaning.Path.{join, with_unit, joined}
-use Rattle.paths_numbers.proofs.Texts.{not_both}
+use Rattle.paths_numbers.proofs.Texts.{by_test, not_both}
 use Rattle.definition_log.specs.meaning.Contents.{Span}
 use Rattle.input.specs.meaning.Tree.{first_of, name_kind, unit_address_kind, reference_kind, macro_kind, slash_kind}
 use Rattle.input.specs.meaning.Report.{Got, found, failed, undefined_macro}
-use Rattle.input.specs.meaning.Name.{name_or_macro, full_name, span_to, slash_span, own_span, node_name_span, property_name_span}
+use Rattle.input.specs.meaning.Name.{name_or_macro, full_name, later, span_to, slash_span, own_span, node_name_span, property_name_span}
 use Rattle.input.specs.meaning.Input.{text_at, span_end_at, span_at, chain_at, parts_at}
 use Rattle.input.specs.machine.At.{record_at}
 use Rattle.input.specs.meaning.GoodName.{good_names_in}
@@ -49,15 +50,13 @@ unfolding record_at
 span_some words text r span n e = rw e refl
 
 -- to the later end of a name and of a unit address
-module _ (words text : List ℕ) (u : Maybe ℕ) (span : Span) (n : ℕ) (e : u ≡ Some n) where
-  pub to_later : span.to ≤ span_end_at words n
-      → record { from = span.from; to = span_end_at words n } ≡ span_to span (optional words text u)
-  unfolding record_at
-  to_later h = rw e (simp (le-leb span.to (span_end_at words n) h))
+max_later : (a b : ℕ) → max a b ≡ later a b
+max_later a b = by_test (leb a b) (λ q. rw q (omega (arith, leb-true a b q))) (λ q. rw q (omega (arith, leb-false a b q)))
 
-  pub to_own : span_end_at words n < span.to → span ≡ span_to span (optional words text u)
-  unfolding record_at
-  to_own h = rw e (simp (lt-leb span.to (span_end_at words n) h))
+pub to_end : (words text : List ℕ) (u : Maybe ℕ) (span : Span) (n : ℕ) → u ≡ Some n
+    → record { from = span.from; to = max span.to (span_end_at words n) } ≡ span_to span (optional words text u)
+unfolding record_at
+to_end words text u span n e = rw (e, max_later span.to (span_end_at words n)) refl
 
 -- a node's name span by its parts
 module _ (c : Chain) (text : List ℕ) (span : Span) where

@@ -1,34 +1,32 @@
--- Chains as the reading functions walk them: the first record of a kind, the record behind another, and how deep what is left goes.
-use Prim.Native.Nat.{ℕ, zero, suc, ◌-◌, ◌≤◌, ◌<◌, max}
+-- Chains as the reading functions walk them: the first record of a kind, and how deep what a record leads to goes.
+use Prim.Native.Nat.{ℕ, ◌-◌, ◌≤◌, ◌<◌}
 use mathlib.Core.Path.{◌≡◌, refl, sym, ap, ◌∙◌}
 use mathlib.Core.Bool.{true, false}
 use mathlib.Core.List.{List, [], ◌∷◌}
 use mathlib.Core.Option.{some, none}
 use native.Mathlib.Omega.{arith}
-use borrow.Author.Tests.{ne_eqb, eqb-true}
+use borrow.Author.Tests.{eqb-true}
 use lib.Dec.{eqb}
 use Rattle.paths_numbers.proofs.Texts.{by_test}
 use Rattle.input.specs.meaning.Tree.{Tree, Trees, empty, more, kind_of, first_of, has}
-use Rattle.input.specs.meaning.Input.{record_count, kind_at, next_at, child_at, chain_at, parts_at}
+use Rattle.input.specs.meaning.Input.{record_count, kind_at, child_at, parts_at}
 use Rattle.input.specs.declared.linked.Input.{Input}
 use Rattle.input.specs.machine.At.{record_at}
 use Rattle.input.specs.machine.Fits.{depth_of, depths_of}
-use Rattle.input.specs.machine.Linked.{Linked, At}
 use Rattle.std.specs.Prelude.{Option as Maybe, Some, None, is_some}
 use Rattle.std.specs.List.{find}
 use Rattle.std.specs.Option.{option_map}
-use Rattle.input.specs.machine.ChainLeft.{trees_of, AreRecords, chain_left, trees_over, trees_left}
+use Rattle.input.specs.machine.ChainLeft.{trees_of, AreRecords, chain_left, trees_over}
 use Rattle.input.specs.declared.linked.Chain.{Chain}
 use Rattle.input.specs.declared.linked.Record.{Record}
 use Rattle.input.specs.machine.OfRecord.{tree_of, parts_of, contents_of}
-use Rattle.input.specs.machine.Read.{after_at, optional, FirstOf}
-use Rattle.input.proofs.Input.{chain_more}
+use Rattle.input.specs.machine.Read.{optional, FirstOf}
 use Rattle.input.proofs.ChainLeft.{chain_is, are_records, parts_over}
 
 pub some_is : {A : Type 0} {x y : A} → Some x ≡ Some y → x ≡ y
 some_is e = cc
 
-none_some : {A B : Type 0} {x : A} → None ≡ Some x → B
+pub none_some : {A B : Type 0} {x : A} → None ≡ Some x → B
 none_some e = let z : ◌≡◌ {A = ℕ} 0 1 = cc in absurd (omega arith)
 
 -- the first record of a kind among the records of a chain, as the library's search finds it
@@ -108,33 +106,6 @@ pub has_found : (c : Chain) (kind : ℕ) (r : Maybe ℕ) → FirstOf c kind r �
 has_found c kind None f text = sym (has_first kind _ (f.tree text))
 has_found c kind (Some n) f text = sym (has_some kind _ _ (f.tree text))
 
-module _ (words : List ℕ) (l : Linked words) (r : ℕ) (n : r ≡ 0 → ⊥) (a : r < record_count words) where
-  -- the depth of a chain is its first record's or the rest's
-  depths_more : (text : List ℕ) → depths_of (chain_at words text r) ≡ max (depth_of (record_at words text r))
-      (depths_of (chain_at words text (next_at words r)))
-  unfolding depths_of
-  depths_more text = rw (chain_more words l text r n a) refl
-
--- the chain from a record on, which may be empty: no deeper than a nesting
-pub record ChainIn (words text : List ℕ) (first nesting : ℕ) : Type 0 where
-  pub at : At words first
-  pub shallow : depths_of (chain_at words text first) ≤ nesting
-
-pub chain_in : (c : Chain) (nesting : ℕ) → depths_of (trees_left c) ≤ nesting → ChainIn c.input.words.now c.input.text.now c.next nesting
-chain_in c nesting h = record { at = c.at; shallow = h }
-
-module _ (words text : List ℕ) (l : Linked words) (r nesting : ℕ) where
-  -- the first record of a chain, and what follows it
-  pub chain_first : ChainIn words text r nesting → (r ≡ 0 → ⊥) → depth_of (record_at words text r) ≤ nesting
-  chain_first h n = omega (arith, depths_more words l r n (h.at n) text, h.shallow)
-
-  pub chain_next : ChainIn words text r nesting → (r ≡ 0 → ⊥) → ChainIn words text (next_at words r) nesting
-  chain_next h n =
-      record {
-        at = (l.all r (h.at n)).next.within;
-        shallow = omega (arith, depths_more words l r n (h.at n) text, h.shallow);
-      }
-
 -- a nesting is left for each record, and one less for the chains below it
 module _ (r : Record) (nesting : ℕ) (h : depth_of (tree_of r) ≤ nesting) where
   pub some_nesting : 1 ≤ nesting
@@ -148,25 +119,3 @@ module _ (r : Record) (nesting : ℕ) (h : depth_of (tree_of r) ≤ nesting) whe
   pub contents_shallow : depths_of (contents_of r) ≤ nesting - 1
   unfolding depth_of record_at
   contents_shallow = omega (arith, h)
-
--- the record behind another, where there is one
-pub after_none : (words : List ℕ) → after_at words 0 ≡ 0
-unfolding after_at
-after_none words = refl
-
-pub after_some : (words : List ℕ) (r : ℕ) → (r ≡ 0 → ⊥) → after_at words r ≡ next_at words r
-unfolding after_at
-after_some words r n = simp (ne_eqb r 0 n)
-
--- y behind x, where there is one
-module _ (words text : List ℕ) (x y : ℕ) (e : y ≡ after_at words x) where
-  -- what has a record behind it is one itself
-  pub before_some : (y ≡ 0 → ⊥) → x ≡ 0 → ⊥
-  before_some n q = n (e ∙ ap (after_at words) q ∙ after_none words)
-
-  pub chain_after : Linked words → (nesting : ℕ) → ChainIn words text x nesting → ChainIn words text y nesting
-  chain_after l nesting h = rw e (go x h)
-    where
-      go : (x : ℕ) → ChainIn words text x nesting → ChainIn words text (after_at words x) nesting
-      go zero h = rw (after_none words) h
-      go (suc x) h = rw (after_some words (suc x) (λ e. omega arith)) (chain_next words text l (suc x) nesting h (λ e. omega arith))

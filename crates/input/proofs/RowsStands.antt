@@ -38,7 +38,7 @@ stands_first words s s' a h p e =
 
     tell : (k : ℕ) → k < length s → get_or s' k 0 ≡ stand_of (known words 1 k)
     tell k b =
-        rw (e, stored_at s a 17 k b, ← p)
+        rw (e, stored_at s a 17 k 0 b, ← p)
         (by_test (eqb k a) (λ q. rw q refl) (λ q. rw q (h.tell k b)))
 
 -- what is stored below a record that stands so
@@ -89,9 +89,9 @@ module _ (words : List ℕ) (r : ℕ) (s : List ℕ) (h : Stands words (suc r) s
   led_tell (some v) k b =
       rw (
         stand_some v,
-        stored_at (two v) (next_at words (suc r)) (stand_of (some v)) k (rw (stored_length, stored_length) b),
-        stored_at (one v) (child_at words (suc r)) (under v (child_place (kind_at words (suc r)))) k (rw stored_length b),
-        stored_at s (second_at words (suc r)) (under v (second_place (kind_at words (suc r)))) k b,
+        stored_at (two v) (next_at words (suc r)) (stand_of (some v)) k 0 (rw (stored_length, stored_length) b),
+        stored_at (one v) (child_at words (suc r)) (under v (child_place (kind_at words (suc r)))) k 0 (rw stored_length b),
+        stored_at s (second_at words (suc r)) (under v (second_place (kind_at words (suc r)))) k 0 b,
         below_stand v (second_place (kind_at words (suc r))),
         below_stand v (child_place (kind_at words (suc r))),
       )

@@ -1,6 +1,6 @@
 -- The tests of one record, by rows 4 and 5: the places by number, and what its words say.
 use Prim.Native.Nat.{ℕ, ◌%◌, ◌≤◌, ◌<◌}
-use mathlib.Core.Path.{◌≡◌, refl, sym, ap, ◌∙◌}
+use mathlib.Core.Path.{◌≡◌, refl, sym, ◌∙◌}
 use mathlib.Core.Bool.{Bool, true, false, not}
 use mathlib.Core.List.{List, [], ◌∷◌}
 use native.Mathlib.Omega.{arith}
@@ -12,8 +12,7 @@ use Rattle.paths_numbers.proofs.Texts.{by_test}
 use Rattle.input.specs.meaning.Input.{kind_at, child_at, span_start_at, span_end_at, number_at}
 use Rattle.input.specs.meaning.Place.{InputPlace, items, node_parts, property_parts, directive_parts, values, cells, expressions, names}
 use Rattle.input.specs.meaning.Place.{macros, no_place, child_place, has_children, fits_alone}
-use Rattle.input.specs.meaning.Rows.{unfit, holds_slash}
-use Rattle.input.specs.meaning.GoodName.{good_name}
+use Rattle.input.specs.meaning.Rows.{unfit}
 use Rattle.input.specs.machine.RowsPass.{number_of, place_of, visit_at}
 
 -- the places by number
@@ -108,12 +107,3 @@ module _ (words : List ℕ) (r stand kind w start end : ℕ) (k : kind ≡ kind_
     pub unfit_child : (l : ℕ) → has ≡ false → l ≡ child_at words r → not (eqb l 0) ≡ unfit words (visit_at r stand)
     unfolding unfit
     unfit_child l q p = rw (← k, ← kw, ← ks, ← ke, ← p, sym e ∙ n, sym h ∙ q) refl
-
--- row 5: a name that is empty, and one that is not
-pub no_name : (s : List ℕ) → length s ≡ 0 → false ≡ good_name s
-no_name [] h = refl
-no_name (b ∷ s) h = absurd (omega arith)
-
-pub some_name : (s : List ℕ) (t : Bool) → (length s ≡ 0 → ⊥) → t ≡ holds_slash s → not t ≡ good_name s
-some_name [] t n e = absurd (n refl)
-some_name (b ∷ s) t n e = ap not e

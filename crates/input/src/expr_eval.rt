@@ -7,14 +7,14 @@ ghost use Rattle.levels.specs.machine.Held.{rules_at};
 ghost use Rattle.definition_log.specs.meaning.Contents.{Span};
 ghost use Rattle.input.specs.meaning.Expr.{evaluated, first_operand, applied, prefix_of, infix_of, eval, evals};
 ghost use Rattle.input.specs.meaning.Input.{span_at};
-ghost use Rattle.input.specs.machine.ChainLeft.{trees_left};
+ghost use Rattle.input.specs.machine.ChainLeft.{chain_left, trees_left};
 ghost use Rattle.input.specs.machine.Fits.{depth_of, depths_of};
 ghost use Rattle.input.specs.machine.OfRecord.{tree_of, parts_of, w_in, span_in};
-ghost use Rattle.input.specs.machine.Evaluation.{outcome_of, outcome_in, failure, is_logical, decides};
+ghost use Rattle.input.specs.machine.Evaluation.{first_two, first_three, outcome_of, outcome_in, failure, is_logical, decides};
 
 use crate::kinds::{CHARACTER, INFIX, MACRO, NUMBER, PARENTHESIS, PREFIX};
 use crate::linked::{Chain, Record};
-use crate::record::{after, number_at};
+use crate::record::number_at;
 use crate::report::Report;
 use levels::level::{binary, literal, unary};
 use paths_numbers::codes::Code;
@@ -77,17 +77,30 @@ impl Record<'_> {
 }
 
 impl Chain<'_> {
+    // Its first two records.
+    fn first_two(mut self) -> Option<(u32, u32)>
+        ensures { result ≡ first_two (chain_left self.entry) }
+    {
+        Some((self.next()?, self.next()?))
+    }
+
+    // Its first three.
+    fn first_three(mut self) -> Option<(u32, u32, u32)>
+        ensures { result ≡ first_three (chain_left self.entry) }
+    {
+        Some((self.next()?, self.next()?, self.next()?))
+    }
+
     // The value of the first of a chain of operands.
     #[cycle(eval)]
-    pub fn eval_first(self, nesting: u32, level: u32) -> Result<i64, Report>
+    pub fn eval_first(mut self, nesting: u32, level: u32) -> Result<i64, Report>
         requires shallow { depths_of (trees_left self) ≤ nesting }
         ensures { outcome_in self.entry.input result ≡ first_operand (evals (rules_at level) (trees_left self.entry)) }
     {
         let input = self.input;
-        let number = self.next;
-        if number == 0 {
+        let Some(number) = self.next() else {
             return Err(Report::Nothing);
-        }
+        };
         let first = Record { input, number };
         first.eval(nesting, level)
     }
@@ -100,12 +113,9 @@ impl Chain<'_> {
             (evals (rules_at level) (trees_left self.entry)) }
     {
         let input = self.input;
-        let x = self.next;
-        let y = after(input.words, x);
-        let z = after(input.words, y);
-        if z == 0 {
+        let Some((x, y, z)) = self.first_three() else {
             return Err(Report::Nothing);
-        }
+        };
         let test = Record { input, number: x };
         let a = test.eval(nesting, level)?;
         if is_true(a) {
@@ -125,11 +135,9 @@ impl Chain<'_> {
             (evals (rules_at level) (trees_left self.entry)) }
     {
         let input = self.input;
-        let x = self.next;
-        let y = after(input.words, x);
-        if y == 0 {
+        let Some((x, y)) = self.first_two() else {
             return Err(Report::Nothing);
-        }
+        };
         let first = Record { input, number: x };
         let a = first.eval(nesting, level)?;
         let second = Record { input, number: y };
@@ -178,10 +186,7 @@ fn is_logical(op: u32) -> bool
 fn evaluation_of<E: Code>(r: u32, v: Result<i64, E>) -> Result<i64, Report>
     ensures { (words text : List ℕ) → outcome_of words text result ≡ evaluated (span_at words r) (told E.code_of v) }
 {
-    match v {
-        Ok(z) => Ok(z),
-        Err(e) => Err(failure(r, e.code())),
-    }
+    v.map_err(|e| failure(r, e.code()))
 }
 
 // What is reported of a code at record r: nothing of none.

@@ -134,11 +134,8 @@ fn span_to(words: &[u32], span: Span, u: Option<u32>) -> Span
         return span;
     };
     let end = field(words, address, layout::SPAN_END);
-    if span.to <= end {
-        return Span {
-            from: span.from,
-            to: end,
-        };
+    Span {
+        from: span.from,
+        to: span.to.max(end),
     }
-    span
 }

@@ -30,7 +30,7 @@ impl<'a> Record<'a> {
         if number_at(self.input.words, self.number) == RAW {
             return paths_numbers::phandle::lower_phandle(name).ok_or(Report::Nothing);
         }
-        if name.len() == 0 {
+        if name.is_empty() {
             return Err(Report::Nothing);
         }
         Ok(MirPhandleTarget::Label)

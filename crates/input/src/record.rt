@@ -4,21 +4,20 @@ ghost use Rattle.input.specs.meaning.Tree.{has};
 ghost use Rattle.input.specs.meaning.Input.{field, kind_at, next_at, child_at, w_at, second_at, number_at, span_at, text_at};
 ghost use Rattle.input.specs.machine.ChainLeft.{trees_over};
 ghost use Rattle.definition_log.specs.machine.Parts.{meant};
-ghost use Rattle.input.specs.machine.Read.{after_at, FirstOf};
+ghost use Rattle.input.specs.machine.Read.{FirstOf};
 ghost use Rattle.input.specs.machine.OfRecord.{kind_in, span_in, text_in};
 
 use crate::layout;
 use crate::linked::{Chain, Record};
 use crate::place::links_by_w;
 use definition_log::parts::Span;
-use definition_log::record::text_in;
+use definition_log::record::{record_word, text_in};
 
 // Word i of a record.
 pub fn field(words: &[u32], r: u32, i: u32) -> u32
     ensures { result ≡ field words.now r i }
 {
-    let at = (r as usize) * layout::RECORD_WORDS + (i as usize);
-    words.get(at).copied().unwrap_or(0)
+    record_word::<{ layout::RECORD_WORDS }>(words, r, i)
 }
 
 // The kind of a record.
@@ -96,16 +95,6 @@ pub fn no_text(text: &[u8]) -> &[u8]
 {
     let n = text.len();
     &text[n..]
-}
-
-// The record that follows in its chain, 0 behind the last and behind none.
-pub fn after(words: &[u32], r: u32) -> u32
-    ensures { result ≡ after_at words.now r }
-{
-    if r == 0 {
-        return 0;
-    }
-    next_at(words, r)
 }
 
 impl<'a> Record<'a> {

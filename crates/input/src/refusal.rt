@@ -17,7 +17,7 @@ use crate::place::Place;
 use crate::record::{child_at, field, kind_at, next_at, number_at, second_at, text_at, w_at};
 use crate::{layout, place};
 use definition_log::answer::Refusal;
-use paths_numbers::phandle::first_slash;
+use slashes::slash::next_slash;
 
 // How a record stands is one number: this times its depth, and its place's number; 0 where no link has led to it.
 // kept: fixed memory, of which an array of places and depths takes three times as much
@@ -42,7 +42,7 @@ pub fn check_input(words: &[u32], text: &[u8]) -> Result<(), Refusal>
     }
     let count = (words.len() / layout::RECORD_WORDS) as u32;
     let records = Records { words, count };
-    let mut marks = [0u32; MOST_RECORDS];
+    let mut marks = [false; MOST_RECORDS];
     if let Some(r) = first_bad_links(records, &mut marks) {
         return Err(Refusal::Link(r));
     }
@@ -67,7 +67,7 @@ fn wrong_size(words: &[u32], text: &[u8]) -> bool
 }
 
 // Row 2: the lowest record with a link at fault.
-fn first_bad_links(records: Records<'_>, marks: &mut [u32]) -> Option<u32>
+fn first_bad_links(records: Records<'_>, marks: &mut [bool]) -> Option<u32>
     requires { Marks records.words.now 0 marks.old }
     ensures { found_in result ≡ row_two records.entry.words.now }
 {
@@ -81,7 +81,7 @@ fn first_bad_links(records: Records<'_>, marks: &mut [u32]) -> Option<u32>
 }
 
 // Whether a record has a link at fault.
-fn bad_links(records: Records<'_>, marks: &[u32], r: u32) -> bool
+fn bad_links(records: Records<'_>, marks: &[bool], r: u32) -> bool
     requires { Marks records.words.now r marks.now }
     ensures { result ≡ bad_links records.entry.words.now r }
 {
@@ -98,7 +98,7 @@ fn bad_links(records: Records<'_>, marks: &[u32], r: u32) -> bool
 }
 
 // Whether a link of a record is at fault, where these are the record's links before it.
-fn bad_link(records: Records<'_>, marks: &[u32], r: u32, earlier: &[u32], l: u32) -> bool
+fn bad_link(records: Records<'_>, marks: &[bool], r: u32, earlier: &[u32], l: u32) -> bool
     requires { Marks records.words.now r marks.now }
     ensures { result ≡ bad_link records.entry.words.now r earlier.now l }
 {
@@ -114,16 +114,16 @@ fn bad_link(records: Records<'_>, marks: &[u32], r: u32, earlier: &[u32], l: u32
     if earlier.contains(&l) {
         return true;
     }
-    number_in(marks, l) != 0
+    entry_in(marks, l, false)
 }
 
 // A record's links marked.
-fn mark_links(words: &[u32], marks: &mut [u32], r: u32)
+fn mark_links(words: &[u32], marks: &mut [bool], r: u32)
     ensures { marks.new ≡ mark_links words.now r marks.old }
 {
-    store(marks, next_at(words, r), 1);
-    store(marks, child_at(words, r), 1);
-    store(marks, second_at(words, r), 1);
+    store(marks, next_at(words, r), true);
+    store(marks, child_at(words, r), true);
+    store(marks, second_at(words, r), true);
 }
 
 // Rows 3 to 6, once links go up.
@@ -163,7 +163,7 @@ fn find_stands(records: Records<'_>, stands: &mut [u32])
     let words = records.words;
     store(stands, child_at(words, 0), PLACES + u32::from(Place::Items));
     for r in 1..records.count {
-        lead_on(words, r, number_in(stands, r), stands);
+        lead_on(words, r, entry_in(stands, r, 0), stands);
     }
 }
 
@@ -225,7 +225,7 @@ fn unfit_at(words: &[u32], stands: &[u32], r: u32) -> bool
     if r == 0 {
         return bad_head(words);
     }
-    is_reached(stands, r) && is_unfit(words, number_in(stands, r), r)
+    is_reached(stands, r) && is_unfit(words, entry_in(stands, r, 0), r)
 }
 
 // Row 5, of a record that is reached.
@@ -239,14 +239,14 @@ fn misnamed_at(words: &[u32], text: &[u8], stands: &[u32], r: u32) -> bool
 fn too_deep_at(stands: &[u32], r: u32) -> bool
     ensures { (words text : List ℕ) → result ≡ fault_by 6 words text stands.now r }
 {
-    is_reached(stands, r) && MOST_LINKS < number_in(stands, r) / PLACES
+    is_reached(stands, r) && MOST_LINKS < entry_in(stands, r, 0) / PLACES
 }
 
 // Whether a record other than record 0 is reached.
 fn is_reached(stands: &[u32], r: u32) -> bool
     ensures { result ≡ is_reached stands.now r }
 {
-    r != 0 && number_in(stands, r) != 0
+    r != 0 && entry_in(stands, r, 0) != 0
 }
 
 // Row 3: whether a record's text ends behind the text.
@@ -299,48 +299,40 @@ fn is_unfit(words: &[u32], stand: u32, r: u32) -> bool
 fn bad_name(words: &[u32], text: &[u8], r: u32) -> bool
     ensures { result ≡ bad_name words.now text.now (visit_at r 0) }
 {
-    let kind = kind_at(words, r);
-    if kind == NAME {
-        return !good_name(text_at(words, text, r));
+    match kind_at(words, r) {
+        NAME => !good_name(text_at(words, text, r)),
+        REFERENCE => w_at(words, r) == 0 && holds_slash(text_at(words, text, r)),
+        _ => false,
     }
-    if kind != REFERENCE {
-        return false;
-    }
-    if w_at(words, r) != 0 {
-        return false;
-    }
-    holds_slash(text_at(words, text, r))
 }
 
 // Whether a name is not empty and holds no slash.
 fn good_name(name: &[u8]) -> bool
     ensures { result ≡ good_name name.now }
 {
-    if name.len() == 0 {
-        return false;
-    }
-    !holds_slash(name)
+    !name.is_empty() && !holds_slash(name)
 }
 
 // Whether a text holds a slash.
 fn holds_slash(text: &[u8]) -> bool
     ensures { result ≡ holds_slash text.now }
 {
-    first_slash(text) < text.len()
+    next_slash(text, 0).is_some()
 }
 
-// What an array says of a record.
-fn number_in(list: &[u32], r: u32) -> u32
-    ensures { result ≡ get_or list.now r 0 }
+// What an array says of a record, and this of one outside it.
+fn entry_in<T: Copy>(list: &[T], r: u32, outside: T) -> T
+    ensures { result ≡ get_or list.now r outside }
 {
-    list.get(r as usize).copied().unwrap_or(0)
+    list.get(r as usize).copied().unwrap_or(outside)
 }
 
 // And said anew.
-fn store(list: &mut [u32], r: u32, v: u32)
+fn store<T: Copy>(list: &mut [T], r: u32, v: T)
     ensures { list.new ≡ stored list.old r v }
 {
     let at = r as usize;
+    // kept: the proof did not close with get_mut, whose contract for slices does not say what the slice is once its item is written
     if at < list.len() {
         list[at] = v;
     }

@@ -10,7 +10,7 @@ ghost use Rattle.input.specs.meaning.Input.{span_at, text_at, parts_at};
 ghost use Rattle.input.specs.meaning.Phandle.{lower_phandle};
 ghost use Rattle.input.specs.machine.Fits.{depth_of};
 ghost use Rattle.input.specs.machine.OfRecord.{tree_of, parts_of, span_in, cell_told, value_told};
-ghost use Rattle.input.specs.machine.ValueRead.{cell_made, value_made};
+ghost use Rattle.input.specs.machine.ValueRead.{reported, cell_made, value_made};
 
 use crate::kinds::{
     BYTESTRING, CELL_LIST, CHARACTER, DIRECTIVE, EXPRESSION, MACRO, NUMBER, PREPROCESSOR,
@@ -25,9 +25,6 @@ use paths_numbers::dt_property::{
 };
 use paths_numbers::expr_eval::parse_int_tok;
 use paths_numbers::phandle::MirPhandleTarget;
-
-// The width of the cells that a reference may stand in.
-const REFERENCE_BITS: u32 = 32;
 
 // A cell, which is a number or a reference of a kind.
 #[derive(Clone, Copy, Debug, PartialEq, Eq)]
@@ -71,14 +68,19 @@ impl Record<'_> {
     }
 }
 
+// What was read at record r, or the report of its failure's code.
+fn reported<T, E: Code>(r: u32, v: Result<T, E>) -> Result<T, Report>
+    ensures { result ≡ reported r (told E.code_of v) }
+{
+    v.map_err(|e| Report::Code(e.code(), r))
+}
+
 // A number that was read at record r, or why there is none.
 fn number_cell<E: Code>(r: u32, p: Result<u64, E>) -> Result<CellValue, Report>
     ensures { (words text : List ℕ) → cell_made words text r result ≡ number_cell (span_at words r) (told E.code_of p) }
 {
-    match p {
-        Ok(n) => Ok(CellValue::Number(n)),
-        Err(e) => Err(Report::Code(e.code(), r)),
-    }
+    let n = reported(r, p)?;
+    Ok(CellValue::Number(n))
 }
 
 impl Record<'_> {
@@ -100,7 +102,7 @@ impl Record<'_> {
             (lower_phandle (tree_of self.entry)) }
     {
         let kind = self.lower_phandle()?;
-        if size.bits() != REFERENCE_BITS {
+        if size != BitsSize::Bits32 {
             return Err(Report::Code(codes::REFERENCE_WIDTH, self.number));
         }
         Ok(CellValue::Phandle(kind))
@@ -129,10 +131,8 @@ fn sized_list(r: u32, size: Result<BitsSize, SizeError>) -> Result<Value, Report
     ensures { (level : ℕ) (words text : List ℕ) → value_made words text r level result ≡ sized_list level (span_at words r)
         (parts_at words text r) (size_told size) }
 {
-    match size {
-        Ok(s) => Ok(Value::CellList(s)),
-        Err(e) => Err(Report::Code(e.code(), r)),
-    }
+    let s = reported(r, size)?;
+    Ok(Value::CellList(s))
 }
 
 // A bytestring whose bytes were counted, at record r.
@@ -140,10 +140,8 @@ fn counted_bytes(r: u32, n: Result<usize, MissingDigit>) -> Result<Value, Report
     ensures { (level : ℕ) (words text : List ℕ) → count_told n ≡ count_of (text_at words text r)
         → value_made words text r level result ≡ counted_bytes (span_at words r) (text_at words text r) (count_told n) }
 {
-    match n {
-        Ok(_) => Ok(Value::Plain(PlainValue::Bytestring)),
-        Err(e) => Err(Report::Code(e.code(), r)),
-    }
+    reported(r, n)?;
+    Ok(Value::Plain(PlainValue::Bytestring))
 }
 
 impl Record<'_> {

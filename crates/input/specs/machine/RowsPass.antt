@@ -1,6 +1,6 @@
 -- What each step of the check of an input does with its numbers. These are no rules of 01: the contract of the whole check cites specs/Rows
 -- alone, and proofs/RowsFound shows that the search in rising order finds what rows 3 to 6 say.
-use Rattle.std.specs.Prelude.{ℕ, zero, suc, ◌+◌, ◌*◌, ◌/◌, ◌%◌, ◌≤◌, ◌<◌, ◌≡◌, Bool, false, not, cond, List, eqb, length, get_or, set}
+use Rattle.std.specs.Prelude.{ℕ, zero, suc, ◌+◌, ◌*◌, ◌/◌, ◌%◌, ◌≤◌, ◌<◌, ◌≡◌, Bool, true, false, not, cond, List, eqb, length, get_or, set}
 use Rattle.std.specs.Prelude.{Option as Maybe, Some, None}
 use Rattle.std.proofs.Math.Option.{Option, some, none}
 use Rattle.input.specs.meaning.Input.{record_count, kind_at, next_at, child_at, second_at}
@@ -57,18 +57,18 @@ place_of p =
     (cond (eqb p 9) macros
     (value_place_of p))))))
 
--- a list with a number put at an index
-unfoldable pub stored : List ℕ → ℕ → ℕ → List ℕ
+-- a list with a value put at an index
+unfoldable pub stored : {A : Type 0} → List A → ℕ → A → List A
 stored l i v = set l i v
 
 -- Row 2: the marks say which records a record below r has led to
-pub record Marks (words : List ℕ) (r : ℕ) (marks : List ℕ) : Type 0 where
+pub record Marks (words : List ℕ) (r : ℕ) (marks : List Bool) : Type 0 where
   pub room : record_count words ≤ length marks
-  pub tell : (l : ℕ) → l < length marks → not (eqb (get_or marks l 0) 0) ≡ linked_below words r l
+  pub tell : (l : ℕ) → l < length marks → get_or marks l false ≡ linked_below words r l
 
 -- the marks with those of record r's links
-unfoldable pub mark_links : List ℕ → ℕ → List ℕ → List ℕ
-mark_links words r marks = stored (stored (stored marks (next_at words r) 1) (child_at words r) 1) (second_at words r) 1
+unfoldable pub mark_links : List ℕ → ℕ → List Bool → List Bool
+mark_links words r marks = stored (stored (stored marks (next_at words r) true) (child_at words r) true) (second_at words r) true
 
 -- Rows 4 to 6: how a record stands in one number, 16 times its depth and its place's number; 0 where no link has led to it
 

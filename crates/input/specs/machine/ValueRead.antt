@@ -10,12 +10,18 @@ use Rattle.input.specs.meaning.Input.{span_at, text_at, parts_at}
 use Rattle.input.specs.machine.PhandleRead.{label_at, path_at}
 use Rattle.input.specs.machine.Reported.{reports_of}
 use Rattle.input.specs.declared.report.Report.{Report}
+use Rattle.input.specs.declared.report.Report.TheVariants.{Code}
 use Rattle.input.specs.declared.value_read.CellValue.{CellValue}
 use Rattle.input.specs.declared.value_read.CellValue.TheVariants as C
 use Rattle.input.specs.declared.value_read.PlainValue.{PlainValue}
 use Rattle.input.specs.declared.value_read.PlainValue.TheVariants as P
 use Rattle.input.specs.declared.value_read.Value as declared
 use Rattle.input.specs.declared.value_read.Value.TheVariants as V
+
+-- what was read at record r, or the report of its failure's code
+abbrev pub reported : {A : Type 0} → ℕ → R.Reading A → Result A Report
+reported r (R.value a) = Ok a
+reported r (R.fails code) = Err (Code code r)
 
 module _ (words text : List ℕ) (r : ℕ) where
   -- a cell at record r

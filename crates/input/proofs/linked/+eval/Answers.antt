@@ -8,10 +8,10 @@ use Rattle.levels.specs.machine.Held.{rules_at}
 use Rattle.input.specs.meaning.Expr.{value, eval, applied}
 use Rattle.input.specs.meaning.Input.{span_at}
 use Rattle.input.specs.machine.At.{record_at}
-use Rattle.input.proofs.Read.{chain_in, before_some, chain_first, chain_after, some_nesting, parts_shallow}
+use Rattle.input.proofs.Read.{some_nesting, parts_shallow}
 use Rattle.input.proofs.Evaluation.{infix_short, conditional_short, decided}
 use Rattle.input.proofs.Evaluation.{value_passes, second_decides, second_fails, plain_infix}
-use Rattle.input.proofs.Evaluation.{no_first, first_is_lem, eval_kind, eval_macro, eval_other, binary_fails, binary_value}
+use Rattle.input.proofs.Evaluation.{no_first, first_is, first_operand_in, two_in, three_in, eval_kind, eval_macro, eval_other, binary_fails, binary_value}
 use Rattle.input.proofs.Evaluation.{conditional_fails, conditional_value}
 use Rattle.input.proofs.Levels.{character_at}
 use Rattle.input.proofs.linked.+eval.Goals as goal
@@ -84,146 +84,6 @@ Record::eval-returns-in_default t c =
     eval_other c.args.level i.words.now i.text.now c.args.self.number (λ e. omega arith) (λ e. omega arith) (λ e. omega arith)
     (λ e. omega arith) (λ e. omega arith) (λ e. omega arith)
 
-pub Chain::eval_first-returns-then-number-eq0 : goal.Chain::eval_first-returns-then-number-eq0
-Chain::eval_first-returns-then-number-eq0 t c =
-    let i = c.args.self.input in
-    rw c.if-number-eq0.true (no_first c.args.level i.words.now i.text.now)
-
-pub Chain::eval_first-eval-requires : goal.Chain::eval_first-eval-requires
-Chain::eval_first-eval-requires t c =
-    let i = c.args.self.input in
-    let h = chain_in c.args.self c.args.nesting c.requires.shallow in (
-      omega arith,
-      chain_first i.words.now i.text.now i.linked c.args.self.next c.args.nesting h
-          c.if-number-eq0.false,
-    )
-
-pub Chain::eval_first-returns : goal.Chain::eval_first-returns
-Chain::eval_first-returns t c =
-    let i = c.args.self.input in
-    c.eval.ensures
-    ∙ first_is_lem c.args.level i.words.now i.text.now i.linked c.args.self.next c.if-number-eq0.false
-    (c.args.self.at c.if-number-eq0.false)
-
-pub Chain::eval_binary-returns-then-y-eq0 : goal.Chain::eval_binary-returns-then-y-eq0
-Chain::eval_binary-returns-then-y-eq0 t c =
-    let i = c.args.self.input in
-    infix_short c.args.level i.words.now i.text.now i.linked c.args.op
-    (span_at i.words.now c.args.r) c.args.self.next _ c.after-y.ensures c.args.self.at c.if-y-eq0.true
-
-pub Chain::eval_binary-eval-requires : goal.Chain::eval_binary-eval-requires
-Chain::eval_binary-eval-requires t c =
-    let i = c.args.self.input in
-    let h = chain_in c.args.self c.args.nesting c.requires.shallow in (
-      omega arith,
-      chain_first i.words.now i.text.now i.linked c.args.self.next c.args.nesting h
-          (before_some i.words.now i.text.now c.args.self.next _ c.after-y.ensures c.if-y-eq0.false),
-    )
-
-pub Chain::eval_binary-returns-in_err-a : goal.Chain::eval_binary-returns-in_err-a
-Chain::eval_binary-returns-in_err-a t c =
-    let i = c.args.self.input in
-    let h = chain_in c.args.self c.args.nesting c.requires.shallow in
-    let p = err_from_is_err_and c.from_residual.result c.from_residual.ensures.1 in
-    rw (p.1, p.2)
-    (binary_fails c.args.level i.words.now i.text.now i.linked (span_at i.words.now c.args.r)
-    c.args.nesting c.args.self.next h c.eval.result c.eval.ensures _ c.after-y.ensures c.args.op
-    c.requires.fact.0 c.requires.fact.1 c.if-y-eq0.false _ c.in_err-a.was)
-
-pub Chain::eval_binary-eval_second-requires : goal.Chain::eval_binary-eval_second-requires
-Chain::eval_binary-eval_second-requires t c =
-    let i = c.args.self.input in
-    let h = chain_in c.args.self c.args.nesting c.requires.shallow in (
-      omega arith,
-      chain_first i.words.now i.text.now i.linked c.after-y.result c.args.nesting
-          (chain_after i.words.now i.text.now c.args.self.next c.after-y.result c.after-y.ensures i.linked
-          c.args.nesting h)
-          c.if-y-eq0.false,
-    )
-
-pub Chain::eval_binary-returns : goal.Chain::eval_binary-returns
-Chain::eval_binary-returns t c =
-    let i = c.args.self.input in
-    let h = chain_in c.args.self c.args.nesting c.requires.shallow in
-    c.eval_second.ensures
-    ∙ rw (read {z = c.in_ok-a.a} (record { sfits = omega arith }))
-    (binary_value c.args.level i.words.now i.text.now i.linked (span_at i.words.now c.args.r)
-    c.args.nesting c.args.self.next h c.eval.result c.eval.ensures _ c.after-y.ensures c.args.op
-    c.requires.fact.0 c.requires.fact.1 c.if-y-eq0.false _ c.in_ok-a.was)
-
-pub Chain::eval_conditional_at-returns-then-z-eq0 : goal.Chain::eval_conditional_at-returns-then-z-eq0
-Chain::eval_conditional_at-returns-then-z-eq0 t c =
-    let i = c.args.self.input in
-    let h = chain_in c.args.self c.args.nesting c.requires.shallow in
-    λ span. conditional_short c.args.level i.words.now i.text.now i.linked span c.args.self.next _ _
-    c.after-y.ensures c.after-z.ensures c.args.self.at
-    (chain_after i.words.now i.text.now c.args.self.next _ c.after-y.ensures i.linked c.args.nesting
-    h).at
-    c.if-z-eq0.true
-
-pub Chain::eval_conditional_at-eval-requires : goal.Chain::eval_conditional_at-eval-requires
-Chain::eval_conditional_at-eval-requires t c =
-    let i = c.args.self.input in
-    let h = chain_in c.args.self c.args.nesting c.requires.shallow in (
-      omega arith,
-      chain_first i.words.now i.text.now i.linked c.args.self.next c.args.nesting h
-          (before_some i.words.now i.text.now c.args.self.next c.after-y.result c.after-y.ensures
-          (before_some i.words.now i.text.now c.after-y.result _ c.after-z.ensures c.if-z-eq0.false)),
-    )
-
-pub Chain::eval_conditional_at-returns-in_err-a : goal.Chain::eval_conditional_at-returns-in_err-a
-Chain::eval_conditional_at-returns-in_err-a t c =
-    let i = c.args.self.input in
-    let h = chain_in c.args.self c.args.nesting c.requires.shallow in
-    let p = err_from_is_err_and c.from_residual.result c.from_residual.ensures.1 in
-    λ span. rw (p.1, p.2)
-    (conditional_fails c.args.level i.words.now i.text.now i.linked span c.args.nesting c.args.self.next
-    h c.eval.result c.eval.ensures
-    _ c.after-y.ensures _ c.after-z.ensures c.if-z-eq0.false _ c.in_err-a.was)
-
-pub Chain::eval_conditional_at-eval-requires-then-is_true : goal.Chain::eval_conditional_at-eval-requires-then-is_true
-Chain::eval_conditional_at-eval-requires-then-is_true t c =
-    let i = c.args.self.input in
-    let h = chain_in c.args.self c.args.nesting c.requires.shallow in (
-      omega arith,
-      chain_first i.words.now i.text.now i.linked c.after-y.result c.args.nesting
-          (chain_after i.words.now i.text.now c.args.self.next c.after-y.result c.after-y.ensures i.linked c.args.nesting
-          h)
-          (before_some i.words.now i.text.now c.after-y.result _ c.after-z.ensures c.if-z-eq0.false),
-    )
-
-pub Chain::eval_conditional_at-returns-then-is_true : goal.Chain::eval_conditional_at-returns-then-is_true
-Chain::eval_conditional_at-returns-then-is_true t c =
-    let i = c.args.self.input in
-    let h = chain_in c.args.self c.args.nesting c.requires.shallow in
-    λ span. c.eval-then-is_true.ensures
-    ∙ rw (rw (read {z = c.in_ok-a.a} (record { sfits = omega arith })) at (sym c.is_true.ensures ∙ c.if-is_true.true)) at
-    (conditional_value c.args.level i.words.now i.text.now i.linked span c.args.nesting c.args.self.next
-    h c.eval.result c.eval.ensures _ c.after-y.ensures _ c.after-z.ensures c.if-z-eq0.false _
-    c.in_ok-a.was)
-
-pub Chain::eval_conditional_at-eval-requires-2 : goal.Chain::eval_conditional_at-eval-requires-2
-Chain::eval_conditional_at-eval-requires-2 t c =
-    let i = c.args.self.input in
-    let h = chain_in c.args.self c.args.nesting c.requires.shallow in (
-      omega arith,
-      chain_first i.words.now i.text.now i.linked c.after-z.result c.args.nesting
-          (chain_after i.words.now i.text.now c.after-y.result c.after-z.result c.after-z.ensures i.linked c.args.nesting
-          (chain_after i.words.now i.text.now c.args.self.next c.after-y.result c.after-y.ensures i.linked c.args.nesting
-          h))
-          c.if-z-eq0.false,
-    )
-
-pub Chain::eval_conditional_at-returns : goal.Chain::eval_conditional_at-returns
-Chain::eval_conditional_at-returns t c =
-    let i = c.args.self.input in
-    let h = chain_in c.args.self c.args.nesting c.requires.shallow in
-    λ span. c.eval-2.ensures
-    ∙ rw (rw (read {z = c.in_ok-a.a} (record { sfits = omega arith })) at (sym c.is_true.ensures ∙ c.if-is_true.false)) at
-    (conditional_value c.args.level i.words.now i.text.now i.linked span c.args.nesting c.args.self.next
-    h c.eval.result c.eval.ensures _ c.after-y.ensures _ c.after-z.ensures c.if-z-eq0.false _
-    c.in_ok-a.was)
-
 pub Record::eval_second-returns-then-first_decides : goal.Record::eval_second-returns-then-first_decides
 Record::eval_second-returns-then-first_decides t c =
     let i = c.args.self.input in
@@ -261,41 +121,113 @@ Record::eval_second-returns t c =
     ∙ ap (applied (rules_at c.args.level) c.args.op (span_at i.words.now c.args.r) c.args.a)
     (value_passes i.words.now i.text.now _ _ _ c.in_ok-b.was c.eval.ensures))
 
+pub Chain::eval_first-returns-in_default : goal.Chain::eval_first-returns-in_default
+Chain::eval_first-returns-in_default t c = no_first c.args.self c.args.level c.in_default.ensures.steps.0
+
+pub Chain::eval_first-eval-requires : goal.Chain::eval_first-eval-requires
+Chain::eval_first-eval-requires t c = (
+  omega arith,
+  (first_operand_in c.args.self c.args.nesting c.requires.shallow _ _ c.in-Some.ensures.steps).shallow,
+)
+
+pub Chain::eval_first-returns : goal.Chain::eval_first-returns
+Chain::eval_first-returns t c = c.eval.ensures ∙ first_is c.args.self c.args.level _ _ c.in-Some.ensures.steps
+
+pub Chain::eval_first-invariant_of-first : goal.Chain::eval_first-invariant_of-first
+Chain::eval_first-invariant_of-first t c =
+    record { known = (first_operand_in c.args.self c.args.nesting c.requires.shallow _ _ c.in-Some.ensures.steps).there }
+
+pub Chain::eval_binary-returns-in_default : goal.Chain::eval_binary-returns-in_default
+Chain::eval_binary-returns-in_default t c =
+    infix_short c.args.self c.args.level c.args.op (span_at c.args.self.input.words.now c.args.r) (sym c.first_two.ensures ∙ c.in_default.is)
+
+pub Chain::eval_binary-eval-requires : goal.Chain::eval_binary-eval-requires
+Chain::eval_binary-eval-requires t c =
+    let k = two_in c.args.self c.args.nesting c.requires.shallow _ _ (sym c.first_two.ensures ∙ c.in-Some.is) in
+    (omega arith, k.0.shallow)
+
+pub Chain::eval_binary-returns-in_err-a : goal.Chain::eval_binary-returns-in_err-a
+Chain::eval_binary-returns-in_err-a t c =
+    let i = c.args.self.input in
+    let p = err_from_is_err_and c.from_residual.result c.from_residual.ensures.1 in
+    rw (p.1, p.2)
+    (binary_fails c.args.self c.args.level (span_at i.words.now c.args.r) _ c.eval.result c.eval.ensures _
+    (sym c.first_two.ensures ∙ c.in-Some.is) c.args.op c.requires.fact.0 c.requires.fact.1 _ c.in_err-a.was)
+
+pub Chain::eval_binary-eval_second-requires : goal.Chain::eval_binary-eval_second-requires
+Chain::eval_binary-eval_second-requires t c =
+    let k = two_in c.args.self c.args.nesting c.requires.shallow _ _ (sym c.first_two.ensures ∙ c.in-Some.is) in
+    (omega arith, k.1.shallow)
+
+pub Chain::eval_binary-returns : goal.Chain::eval_binary-returns
+Chain::eval_binary-returns t c =
+    let i = c.args.self.input in
+    c.eval_second.ensures
+    ∙ rw (read {z = c.in_ok-a.a} (record { sfits = omega arith }))
+    (binary_value c.args.self c.args.level (span_at i.words.now c.args.r) _ c.eval.result c.eval.ensures _
+    (sym c.first_two.ensures ∙ c.in-Some.is) c.args.op c.requires.fact.0 c.requires.fact.1 _ c.in_ok-a.was)
+
+pub Chain::eval_conditional_at-returns-in_default : goal.Chain::eval_conditional_at-returns-in_default
+Chain::eval_conditional_at-returns-in_default t c =
+    λ span. conditional_short c.args.self c.args.level span (sym c.first_three.ensures ∙ c.in_default.is)
+
+pub Chain::eval_conditional_at-eval-requires : goal.Chain::eval_conditional_at-eval-requires
+Chain::eval_conditional_at-eval-requires t c =
+    let k = three_in c.args.self c.args.nesting c.requires.shallow _ _ _ (sym c.first_three.ensures ∙ c.in-Some.is) in
+    (omega arith, k.0.shallow)
+
+pub Chain::eval_conditional_at-returns-in_err-a : goal.Chain::eval_conditional_at-returns-in_err-a
+Chain::eval_conditional_at-returns-in_err-a t c =
+    let p = err_from_is_err_and c.from_residual.result c.from_residual.ensures.1 in
+    λ span. rw (p.1, p.2)
+    (conditional_fails c.args.self c.args.level span _ c.eval.result c.eval.ensures _ _ (sym c.first_three.ensures ∙ c.in-Some.is)
+    _ c.in_err-a.was)
+
+pub Chain::eval_conditional_at-eval-requires-then-is_true : goal.Chain::eval_conditional_at-eval-requires-then-is_true
+Chain::eval_conditional_at-eval-requires-then-is_true t c =
+    let k = three_in c.args.self c.args.nesting c.requires.shallow _ _ _ (sym c.first_three.ensures ∙ c.in-Some.is) in
+    (omega arith, k.1.shallow)
+
+pub Chain::eval_conditional_at-returns-then-is_true : goal.Chain::eval_conditional_at-returns-then-is_true
+Chain::eval_conditional_at-returns-then-is_true t c =
+    λ span. c.eval-then-is_true.ensures
+    ∙ rw (rw (read {z = c.in_ok-a.a} (record { sfits = omega arith })) at (sym c.is_true.ensures ∙ c.if-is_true.true)) at
+    (conditional_value c.args.self c.args.level span _ c.eval.result c.eval.ensures _ _ (sym c.first_three.ensures ∙ c.in-Some.is)
+    _ c.in_ok-a.was)
+
+pub Chain::eval_conditional_at-eval-requires-2 : goal.Chain::eval_conditional_at-eval-requires-2
+Chain::eval_conditional_at-eval-requires-2 t c =
+    let k = three_in c.args.self c.args.nesting c.requires.shallow _ _ _ (sym c.first_three.ensures ∙ c.in-Some.is) in
+    (omega arith, k.2.shallow)
+
+pub Chain::eval_conditional_at-returns : goal.Chain::eval_conditional_at-returns
+Chain::eval_conditional_at-returns t c =
+    λ span. c.eval-2.ensures
+    ∙ rw (rw (read {z = c.in_ok-a.a} (record { sfits = omega arith })) at (sym c.is_true.ensures ∙ c.if-is_true.false)) at
+    (conditional_value c.args.self c.args.level span _ c.eval.result c.eval.ensures _ _ (sym c.first_three.ensures ∙ c.in-Some.is)
+    _ c.in_ok-a.was)
+
 pub Chain::eval_binary-invariant_of-first : goal.Chain::eval_binary-invariant_of-first
 Chain::eval_binary-invariant_of-first t c =
-    let i = c.args.self.input in
-    record { known = c.args.self.at (before_some i.words.now i.text.now c.args.self.next _ c.after-y.ensures c.if-y-eq0.false) }
+    let k = two_in c.args.self c.args.nesting c.requires.shallow _ _ (sym c.first_two.ensures ∙ c.in-Some.is) in
+    record { known = k.0.there }
 
 pub Chain::eval_binary-invariant_of-second : goal.Chain::eval_binary-invariant_of-second
 Chain::eval_binary-invariant_of-second t c =
-    let i = c.args.self.input in
-    let h = chain_in c.args.self c.args.nesting c.requires.shallow in
-    record {
-      known = (chain_after i.words.now i.text.now c.args.self.next _ c.after-y.ensures i.linked c.args.nesting h).at c.if-y-eq0.false;
-    }
+    let k = two_in c.args.self c.args.nesting c.requires.shallow _ _ (sym c.first_two.ensures ∙ c.in-Some.is) in
+    record { known = k.1.there }
 
 pub Chain::eval_conditional_at-invariant_of-test : goal.Chain::eval_conditional_at-invariant_of-test
 Chain::eval_conditional_at-invariant_of-test t c =
-    let i = c.args.self.input in
-    record {
-      known = c.args.self.at (before_some i.words.now i.text.now c.args.self.next c.after-y.result c.after-y.ensures
-          (before_some i.words.now i.text.now c.after-y.result _ c.after-z.ensures c.if-z-eq0.false));
-    }
+    let k = three_in c.args.self c.args.nesting c.requires.shallow _ _ _ (sym c.first_three.ensures ∙ c.in-Some.is) in
+    record { known = k.0.there }
 
 pub Chain::eval_conditional_at-invariant_of-then : goal.Chain::eval_conditional_at-invariant_of-then
 Chain::eval_conditional_at-invariant_of-then t c =
-    let i = c.args.self.input in
-    let h = chain_in c.args.self c.args.nesting c.requires.shallow in
-    record {
-      known = (chain_after i.words.now i.text.now c.args.self.next _ c.after-y.ensures i.linked c.args.nesting h).at
-          (before_some i.words.now i.text.now c.after-y.result _ c.after-z.ensures c.if-z-eq0.false);
-    }
+    let k = three_in c.args.self c.args.nesting c.requires.shallow _ _ _ (sym c.first_three.ensures ∙ c.in-Some.is) in
+    record { known = k.1.there }
 
 pub Chain::eval_conditional_at-invariant_of-other : goal.Chain::eval_conditional_at-invariant_of-other
 Chain::eval_conditional_at-invariant_of-other t c =
-    let i = c.args.self.input in
-    let h = chain_in c.args.self c.args.nesting c.requires.shallow in
-    record {
-      known = (chain_after i.words.now i.text.now c.after-y.result _ c.after-z.ensures i.linked c.args.nesting
-          (chain_after i.words.now i.text.now c.args.self.next _ c.after-y.ensures i.linked c.args.nesting h)).at c.if-z-eq0.false;
-    }
+    let k = three_in c.args.self c.args.nesting c.requires.shallow _ _ _ (sym c.first_three.ensures ∙ c.in-Some.is) in
+    record { known = k.2.there }

@@ -2,9 +2,8 @@
 use Prim.Native.Nat.{ℕ}
 use mathlib.Core.Path.{refl, sym, ap, ◌∙◌}
 use native.Mathlib.Omega.{arith}
-use mathlib.Core.Bool.{not}
 use borrow.Author.Tests.{eq-eqb, ne_eqb, le-leb, lt-leb}
-use lib.Dec.{eqb, leb}
+use lib.Dec.{leb}
 use Rattle.input.specs.meaning.Rows.{bad_link}
 use Rattle.input.proofs.RowsLoops.{any_contains}
 use Rattle.input.proofs.refusal.bad_link.Goals as goal
@@ -45,7 +44,7 @@ pub returns : goal.returns
 unfolding bad_link
 returns c =
     let m = c.requires in
-    ap (λ (v : ℕ). not (eqb v 0)) c.number_in.ensures ∙ m.tell
+    c.entry_in.ensures ∙ m.tell
     c.args.l (omega (arith, m.room))
     ∙ rw (
       ne_eqb _ _ c.if-l-eq0.false,

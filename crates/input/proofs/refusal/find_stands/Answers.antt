@@ -12,13 +12,13 @@ lead_on-requires c =
     let l = c.loop-r in
     let h = l.invariant in
     let b = c.args.records.counted in
-    omega (arith, c.number_in.ensures ∙ h.tell l.r (omega (arith, b, h.room)), stand_most c.args.records.words.now l.r l.r, b)
+    omega (arith, c.entry_in.ensures ∙ h.tell l.r (omega (arith, b, h.room)), stand_most c.args.records.words.now l.r l.r, b)
 
 pub loop-r-preserved : goal.loop-r-preserved
 loop-r-preserved c =
     let l = c.loop-r in
     let h = l.invariant in
-    stands_more c.args.records.words.now l.r l.stands _ _ (omega arith) h c.number_in.ensures
+    stands_more c.args.records.words.now l.r l.stands _ _ (omega arith) h c.entry_in.ensures
     (omega (arith, c.args.records.counted, h.room)) c.lead_on.ensures
 
 pub returns : goal.returns

@@ -6,8 +6,8 @@ use Rattle.input.proofs.refusal.store.Goals as goal
 
 pub returns-then-at-list : goal.returns-then-at-list
 unfolding stored
-returns-then-at-list c = refl
+returns-then-at-list g c = refl
 
 pub returns-else-at-list : goal.returns-else-at-list
 unfolding stored
-returns-else-at-list c = sym (set_out c.args.list.now c.args.r c.args.v c.if-at-list.false)
+returns-else-at-list g c = sym (set_out c.args.list.now c.args.r c.args.v c.if-at-list.false)

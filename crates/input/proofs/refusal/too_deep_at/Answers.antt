@@ -12,7 +12,7 @@ pub returns-then-is_reached : goal.returns-then-is_reached
 unfolding breaks too_deep
 returns-then-is_reached c =
     let a = c.args in
-    λ words text. ap (λ (k : ℕ). ltb 64 (k / 16)) c.number_in.ensures
+    λ words text. ap (λ (k : ℕ). ltb 64 (k / 16)) c.entry_in.ensures
     ∙ fault_reached 6 words text a.stands.now a.r (λ e. omega arith) (sym c.is_reached.ensures ∙ c.if-is_reached.true)
 
 pub returns-else-is_reached : goal.returns-else-is_reached

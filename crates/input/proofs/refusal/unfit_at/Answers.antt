@@ -17,7 +17,7 @@ unfolding breaks
 returns-then-is_reached c =
     let a = c.args in
     λ text. c.is_unfit.ensures
-    ∙ ap (λ (k : ℕ). unfit a.words.now (visit_at a.r k)) c.number_in.ensures
+    ∙ ap (λ (k : ℕ). unfit a.words.now (visit_at a.r k)) c.entry_in.ensures
     ∙ fault_reached 4 a.words.now text a.stands.now a.r (λ e. omega arith) (sym c.is_reached.ensures ∙ c.if-is_reached.true)
 
 pub returns-else-is_reached : goal.returns-else-is_reached

@@ -2,20 +2,10 @@
 use Rattle.std.proofs.lemmas.Result.{err_from_is_err_and}
 use Rattle.input.specs.meaning.Property.{reference_cell}
 use Rattle.input.specs.meaning.Input.{span_at}
-use Rattle.paths_numbers.specs.meaning.Cell.{bits_of}
-use borrow.Author.Tests.{eq-eqb, ne_eqb}
-use mathlib.Core.Path.{sym, ap, ◌∙◌}
+use mathlib.Core.Path.{ap}
 use Rattle.input.proofs.linked.Record.reference_cell.Goals as goal
 
 pub returns-in_err-kind : goal.returns-in_err-kind
 returns-in_err-kind c =
     let p = err_from_is_err_and c.from_residual.result c.from_residual.ensures.1 in
     rw (p.1, p.2) (ap (reference_cell c.args.size (span_at c.args.self.input.words.now c.args.self.number)) c.in_err-kind.ensures)
-
-pub returns-then-bits-ne-REFERENCE_BITS : goal.returns-then-bits-ne-REFERENCE_BITS
-returns-then-bits-ne-REFERENCE_BITS c = let a = c.args in
-    rw (sym c.in_ok-kind.ensures) (simp (ne_eqb (bits_of a.size) 32 (λ e. c.if-bits-ne-REFERENCE_BITS.true (c.bits.ensures ∙ e))))
-
-pub returns : goal.returns
-returns c = let a = c.args in
-    rw (sym c.in_ok-kind.ensures) (simp (eq-eqb (bits_of a.size) 32 (sym c.bits.ensures ∙ c.if-bits-ne-REFERENCE_BITS.false)))
