@@ -270,6 +270,7 @@ impl Filling {
         if !self.keep {
             return ctx;
         }
+        // kept: `n as u32` asks that n fits in 32 bits, so that `%` stands here, and `/` beside it.
         let low = (n % 4294967296) as u32;
         let high = (n / 4294967296) as u32;
         ctx.add_number(out, bytes, low, high)

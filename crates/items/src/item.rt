@@ -80,15 +80,11 @@ fn emit_delete_node(
     let full = parts.full_name();
     let told = emit_name(input.words, input.text, full, out, bytes, ctx);
     if is_named(full) {
-        return delete_named(
-            told,
-            out,
-            bytes,
-            parent,
-            name_text(input.words, input.text, full.name),
-            unit_text(input.words, input.text, full.unit),
-            span,
-        );
+        let below = Below {
+            name: name_text(input.words, input.text, full.name),
+            unit: unit_text(input.words, input.text, full.unit),
+        };
+        return delete_named(told, out, bytes, parent, below, span);
     }
     let Some(number) = parts.first_of(REFERENCE) else {
         return told;
@@ -103,18 +99,16 @@ fn delete_named(
     out: &mut [u32],
     bytes: &mut [u8],
     parent: PathAt,
-    name: &[u8],
-    unit: &[u8],
+    below: Below<'_>,
     span: Span,
 ) -> LowerCtx
     ensures { LowersAt parent ctx result out.old bytes.old out.new bytes.new
-        (λ p s. delete_node (joined p name.now unit.now) (meant span) s) }
+        (λ p s. delete_node (joined p below.entry.name.now below.entry.unit.now) (meant span) s) }
 {
     if ctx.short {
         return ctx;
     }
-    let base = Base::Named(parent, Below { name, unit });
-    let without = unbind_all(ctx, out, bytes, base);
+    let without = unbind_all(ctx, out, bytes, Base::Named(parent, below));
     without.define(
         out,
         bytes,
@@ -122,8 +116,8 @@ fn delete_named(
         span,
         span,
         parent,
-        name,
-        unit,
+        below.name,
+        below.unit,
     )
 }
 
