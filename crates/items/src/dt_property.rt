@@ -33,6 +33,7 @@ use paths_numbers::phandle::MirPhandleTarget;
 #[derive(Clone, Copy)]
 struct Filling {
     level: u32,
+    // kept: an Option of the name would only be asked whether it is there, since no value goes by the name.
     keep: bool,
 }
 

@@ -17,12 +17,13 @@ ghost use Rattle.items.specs.machine.Deleting.{DeletesAt, DeletesThere, DeletesB
 
 use crate::directive::{DELETE_NODE, DELETE_PROPERTY, INCLUDE, PLUGIN, VERSION};
 use crate::report::{NO_SPAN, emit_name, emit_report};
-use crate::unbind::{Base, Below, bound_base, goes_with, unbind_all, unbind_others, unlink_first};
+use crate::unbind::{
+    Base, Below, bound_base, goes_with, named_below, unbind_all, unbind_others, unlink_first,
+};
 use definition_log::parts::Span;
 use definition_log::record::Log;
 use input::kinds::{NAME, REFERENCE};
 use input::linked::{Chain, Record};
-use input::name::{is_named, name_text, unit_text};
 use input::record::{no_text, number_at, text_at};
 use making::ctx::LowerCtx;
 use making::place::{PathAt, first_place, second_place};
@@ -79,11 +80,7 @@ fn emit_delete_node(
     let input = parts.input;
     let full = parts.full_name();
     let told = emit_name(input.words, input.text, full, out, bytes, ctx);
-    if is_named(full) {
-        let below = Below {
-            name: name_text(input.words, input.text, full.name),
-            unit: unit_text(input.words, input.text, full.unit),
-        };
+    if let Some(below) = named_below(input.words, input.text, full) {
         return delete_named(told, out, bytes, parent, below, span);
     }
     let Some(number) = parts.first_of(REFERENCE) else {
