@@ -1,54 +1,40 @@
 -- A node by where it goes: its body lowered there, or in a log of its own, or not at all.
 use Prim.Native.Nat.{ℕ}
 use mathlib.Core.Path.{◌≡◌, refl, sym, ap, ◌∙◌}
-use mathlib.Core.Bool.{Bool, true, false}
+use mathlib.Core.Bool.{Bool, true, false, not}
 use mathlib.Core.List.{List, []}
 use Rattle.paths_numbers.specs.meaning.Path.{root}
-use Rattle.paths_numbers.specs.meaning.Reference.{Target}
-use Rattle.paths_numbers.proofs.Texts.{not_both}
+use Rattle.paths_numbers.proofs.Texts.{not_both, by_test}
 use Rattle.making.specs.declared.ctx.LowerCtx.{LowerCtx}
 use Rattle.making.specs.declared.place.PathAt.{PathAt}
 use Rattle.making.specs.declared.place.PathAt.TheVariants as P
 use Rattle.paths_numbers.specs.declared.phandle.MirPhandleTarget.{MirPhandleTarget}
 use Rattle.definition_log.specs.meaning.Contents.{Span, Def}
 use Rattle.definition_log.specs.machine.Parts.{target_made}
-use Rattle.making.specs.meaning.State.{State, emit, apart}
+use Rattle.making.specs.meaning.State.{State, emit, apart, dropped}
 use Rattle.making.specs.machine.Represents.{Context, with_place, in_body, Represents, Enters, LeavesDropped, LeavesKept}
 use Rattle.making.proofs.InHand.{forget_place, root_place}
 use Rattle.queries.specs.meaning.Kind.{sets_overlay}
 use Rattle.paths_numbers.specs.meaning.Lists.{any}
 use Rattle.input.specs.meaning.Tree.{Trees}
-use Rattle.items.specs.meaning.Lower.{place_of, lower_node}
+use Rattle.items.specs.meaning.Lower.{Place, at, aside, discarded, nowhere, place_of, lower_placed, lower_node}
 use Rattle.input.specs.meaning.Input.{span_at}
 use Rattle.input.specs.machine.PhandleRead.{label_at, path_at}
 use Rattle.resolving.specs.machine.Lowers.{LowersAt}
-use Rattle.items.specs.machine.NodePlaced.{PlacedTo, PlacesIn}
-use Rattle.items.specs.machine.NodeLowered.{LowersApart, Settles}
+use Rattle.items.specs.machine.NodePlaced.{drops, PlacedTo, PlacesIn}
 use Rattle.items.specs.declared.dt_node.NodePlace.{NodePlace}
 use Rattle.items.specs.declared.dt_node.NodePlace.TheVariants as N
 use Rattle.items.specs.declared.dt_node.PlacedNode.{PlacedNode}
 
 -- a body in a log of its own
-pub enters_apart : {c d e : LowerCtx} {keeps : Bool} {words bytes w b : List ℕ} {f : List ℕ → State → State} (top : PathAt)
-    → top ≡ P.Root → Enters c d keeps → LowersAt top d e words bytes w b f
-    → LowersApart c e keeps words bytes w b f
-enters_apart {c} {keeps = keeps} {words} {bytes} top t en lo =
-    record {
-      lowers = λ k s n r.
-          forget_place {p = record { at = top; path = root }}
-          (lo.lowers (in_body k c s keeps) root (apart s) (root_place (record { at = top; path = root }) t refl
-          (en.enters k words bytes s n r)));
-    }
-
--- left
-module _ {c d outer : LowerCtx} {words bytes w b : List ℕ} (keeps : Bool) (target : Target) (span name_span : Span) where
-  pub settles_kept : keeps ≡ true → LeavesKept c d outer words bytes w b target span name_span
-      → Settles c d outer keeps words bytes w b target span name_span
-  settles_kept e h = rw e (record { settles = λ k s t r. h.leaves k s t r })
-
-  pub settles_dropped : keeps ≡ false → LeavesDropped c d outer words bytes w b
-      → Settles c d outer keeps words bytes w b target span name_span
-  settles_dropped e h = rw e (record { settles = λ k s t r. h.leaves k s t r })
+pub enters_apart : {c d e : LowerCtx} {keeps : Bool} {words bytes w b : List ℕ} {f : List ℕ → State → State} → Enters c d keeps
+    → LowersAt P.Root d e words bytes w b f
+    → (k : Context) (s : State) → (keeps ≡ true → s.defs ≡ [] → ⊥) → Represents k c words bytes s
+    → Represents (in_body k c s keeps) e w b (f root (apart s))
+enters_apart {c} {keeps = keeps} {words} {bytes} en lo k s n r =
+    forget_place {p = record { at = P.Root; path = root }}
+    (lo.lowers (in_body k c s keeps) root (apart s) (root_place (record { at = P.Root; path = root }) refl refl
+    (en.enters k words bytes s n r)))
 
 -- a log with a plugin directive says something
 says_something : (ds : List Def) → sets_overlay ds ≡ true → ds ≡ [] → ⊥
@@ -75,32 +61,41 @@ module _ {parent : PathAt} {c : LowerCtx} {words bytes w₁ b₁ input text : Li
             (lo.lowers (with_place (record { at = parent; path = p }) k) h.0 _ h.2));
       }
 
+  -- a body that is dropped
+  dropped_there : (l : Place) (u : State) → drops u.defs l ≡ true → lower_placed l parts span body u ≡ dropped u (body root (apart u))
+  dropped_there (aside t ref_span) u e =
+      by_test (sets_overlay u.defs) (λ y. absurd (not_both e (ap not y))) (λ y. rw y refl)
+  dropped_there discarded u e = refl
+  dropped_there (at p) u e = absurd (not_both e refl)
+  dropped_there nowhere u e = absurd (not_both e refl)
+
   -- in a log that is dropped
-  pub node_discarded : {d f : LowerCtx} {w₂ b₂ w b : List ℕ} → v.node ≡ N.Discarded → LowersApart v.ctx d false w₁ b₁ w₂ b₂ body
-      → LeavesDropped d f v.ctx w₂ b₂ w b
+  pub node_discarded : {i d f : LowerCtx} {w₂ b₂ w b : List ℕ} → v.node ≡ N.Discarded → Enters v.ctx i false
+      → LowersAt P.Root i d w₁ b₁ w₂ b₂ body → LeavesDropped d f v.ctx w₂ b₂ w b
       → LowersAt parent c f words bytes w b (λ p s. lower_node p parts span body s)
-  unfolding lower_node
-  node_discarded e lo le =
+  unfolding lower_node emit
+  node_discarded e en lo le =
       record {
         lowers = λ k p s r.
             let h = placed_as_lem e k p s r in
-            rw h.0 (le.leaves (with_place (record { at = parent; path = p }) k) _ _
-            (lo.lowers (with_place (record { at = parent; path = p }) k) _ (λ t. absurd (not_both t refl)) h.1));
+            rw (dropped_there (place_of p parts span s).place (emit (place_of p parts span s).reports s) h.0)
+            (le.leaves (with_place (record { at = parent; path = p }) k) _ _
+            (enters_apart en lo (with_place (record { at = parent; path = p }) k) _ (λ t. absurd (not_both t refl)) h.1));
       }
 
-  -- in a log of its own, for what its reference names
-  pub node_aside : {d f : LowerCtx} {w₂ b₂ w b : List ℕ} (r : ℕ) (kind : MirPhandleTarget) (keeps : Bool) → v.node ≡ N.Aside r kind keeps
-      → LowersApart v.ctx d keeps w₁ b₁ w₂ b₂ body
-      → Settles d f v.ctx keeps w₂ b₂ w b (target_made kind (label_at input text r) (path_at input text r)) span (span_at input r)
+  -- in a log of its own that is kept, for what its reference names
+  pub node_aside : {i d f : LowerCtx} {w₂ b₂ w b : List ℕ} (r : ℕ) (kind : MirPhandleTarget) → v.node ≡ N.Aside r kind
+      → Enters v.ctx i true → LowersAt P.Root i d w₁ b₁ w₂ b₂ body
+      → LeavesKept d f v.ctx w₂ b₂ w b (target_made kind (label_at input text r) (path_at input text r)) span (span_at input r)
       → LowersAt parent c f words bytes w b (λ p s. lower_node p parts span body s)
   unfolding lower_node emit
-  node_aside r kind keeps e lo se =
+  node_aside r kind e en lo le =
       record {
         lowers = λ k p s m.
             let h = placed_as_lem e k p s m in
-            rw (h.0, sym h.1)
-            (se.settles (with_place (record { at = parent; path = p }) k) _ _
-            (lo.lowers (with_place (record { at = parent; path = p }) k) _ (λ t. says_something s.defs (sym h.1 ∙ t)) h.2));
+            rw (h.0, h.1)
+            (le.leaves (with_place (record { at = parent; path = p }) k) _ _
+            (enters_apart en lo (with_place (record { at = parent; path = p }) k) _ (λ t. says_something s.defs h.1) h.2));
       }
 
   -- nowhere

@@ -1,13 +1,14 @@
 -- Where a node goes by its reference: to the path that it leads to, or aside.
 use Prim.Native.Nat.{ℕ}
 use mathlib.Core.Path.{◌≡◌, refl, sym, ap, subst, ◌∙◌}
-use mathlib.Core.Bool.{Bool, false}
+use mathlib.Core.Bool.{Bool, false, not, cond}
 use mathlib.Core.List.{List, []}
 use mathlib.Core.Option.{some, none}
 use native.Mathlib.Omega.{arith}
 use Rattle.std.specs.Prelude.{Result, Ok, Err}
 use Rattle.paths_numbers.specs.meaning.Path.{joined}
 use Rattle.paths_numbers.specs.meaning.Reference.{Target}
+use Rattle.paths_numbers.proofs.Texts.{by_test}
 use Rattle.making.specs.declared.ctx.LowerCtx.{LowerCtx}
 use Rattle.making.specs.declared.place.PathAt.{PathAt}
 use Rattle.definition_log.specs.declared.parts.Span.{Span as SpanRead}
@@ -157,7 +158,7 @@ module _ (c : LowerCtx) (words bytes : List ℕ) (target : Target) (l path : Lis
             );
       }
 
--- or put aside
+-- or put aside, kept or dropped
 pub place_missing : (c : LowerCtx) (words bytes : List ℕ) (v : Result Led Missing) (m : Missing) {parent : PathAt} {d : LowerCtx} {w b : List ℕ} {parts : Trees}
     {span : Span} {keeps : Bool} (input text : List ℕ) (reference : ℕ)
     (kind : MirPhandleTarget) → Leads words bytes c.binds.first c.defs.first (label_at input text reference) (path_at input text reference)
@@ -170,9 +171,9 @@ pub place_missing : (c : LowerCtx) (words bytes : List ℕ) (v : Result Led Miss
     → PlacesIn parent c words bytes w b input text parts span
     (λ p s. by_resolution (record_at input text reference) (target_made kind (label_at input text reference) (path_at input text reference))
     s.defs (resolve (target_made kind (label_at input text reference) (path_at input text reference)) s.binds s.defs))
-    (record { node = N.Aside reference kind keeps; ctx = d })
+    (record { node = cond keeps (N.Aside reference kind) N.Discarded; ctx = d })
 unfolding record_at
-place_missing c words bytes v m {parent} input text reference kind bound g on keep re =
+place_missing c words bytes v m {parent} {keeps = keeps} input text reference kind bound g on keep re =
     let l = label_at input text reference in
     let path = path_at input text reference in
     let x = leads_nowhere words bytes l path m in
@@ -180,12 +181,9 @@ place_missing c words bytes v m {parent} input text reference kind bound g on ke
     record {
       places = λ k p s z r.
           let e = in_hand c words bytes (target_made kind l path) l path v bound g (with_place (record { at = parent; path = p }) k) s r z ∙ e₁ in
-          rw e (
-            refl,
-            keep ∙ ap sets_overlay (represents_defs r z),
-            re.reports (with_place (record { at = parent; path = p }) k) s x.0
-                x.1 r z bound e₁,
-          );
+          let kept = sym (keep ∙ ap sets_overlay (represents_defs r z)) in
+          let told = re.reports (with_place (record { at = parent; path = p }) k) s x.0 x.1 r z bound e₁ in
+          by_test keeps (λ y. rw (e, y) (refl, kept ∙ y, told)) (λ y. rw (e, y) (ap not (kept ∙ y), told));
     }
 
 -- a reference by what it was read as

@@ -1,7 +1,7 @@
 -- A property from its parts: the definition made first, then its values, then what its name reports.
 use Prim.Native.Nat.{ℕ}
 use mathlib.Core.Path.{◌≡◌, refl, sym, ap, subst, ◌∙◌}
-use mathlib.Core.Bool.{Bool, true, false, cond}
+use mathlib.Core.Bool.{true, false}
 use mathlib.Core.List.{List, [], ◌∷◌, ◌++◌}
 use mathlib.Core.Option.{Option, some, none}
 use native.Mathlib.Omega.{arith}
@@ -25,19 +25,21 @@ use Rattle.making.specs.machine.Adding.{in_property}
 use Rattle.making.specs.machine.Represents.{Context, with_place, Represents, Steps}
 use Rattle.making.proofs.InHand.{place_reads, place_length}
 use Rattle.input.specs.meaning.Tree.{Trees}
-use Rattle.input.specs.meaning.Report.{Made, report}
+use Rattle.input.specs.meaning.Report.{Made, Got, report}
 use Rattle.input.specs.meaning.Name.{full_name, property_name_span}
 use Rattle.input.specs.meaning.Property.{lower_values}
 use Rattle.items.specs.meaning.Lower.{named_property, lower_property}
 use Rattle.input.specs.meaning.Input.{child_at}
 use Rattle.input.specs.meaning.GoodName.{good_names_in}
-use Rattle.input.specs.machine.NameRead.{name_text, unit_text, is_there, full_read, FullNameRead}
+use Rattle.input.specs.machine.NameRead.{is_there, full_read, FullNameRead}
 use Rattle.resolving.specs.machine.Lowers.{Lowers, LowersAt}
 use Rattle.items.specs.machine.Filled.{add_values, filled, Fills}
-use Rattle.items.specs.machine.PropertyMade.{is_top, property_at}
+use Rattle.items.specs.machine.PropertyMade.{is_top, property_at, property_begun, NamesBelow}
 use Rattle.input.specs.machine.OfRecord.{parts_of, contents_of, span_in}
 use Rattle.input.specs.declared.linked.Record.{Record}
 use Rattle.input.specs.declared.name.FullName.{FullName}
+use Rattle.items.specs.declared.unbind.Below.{Below}
+use Rattle.std.specs.Prelude.{Option as Maybe, Some, None, is_some}
 use Rattle.input.proofs.NameRead.{full_joined}
 use Rattle.resolving.proofs.Lowers.{Grows, define_grows, emit_grows, stays_over}
 use Rattle.items.proofs.Reported.{emit_then}
@@ -70,53 +72,36 @@ top_empty {at = at} {p = p} r z = empty_length p (place_len at) (place_length r 
     go (P.Bytes start size) = refl
 
 -- the definition as the log makes it
-pub property_at_lem : (r : Record) (f : FullName) {span name_span : SpanRead} {n u : List ℕ} → meant span ≡ span_in r
-    → meant name_span ≡ property_name_span (parts_of r) (meant span) → n ≡ name_text r.input.words.now r.input.text.now f.name
-    → u ≡ unit_text r.input.words.now r.input.text.now f.unit
-    → (p : List ℕ) → bare_def D.Property span name_span (joined p n u) ≡ property_at r f p
+pub property_at_lem : (r : Record) (n : Below) {span name_span : SpanRead} → meant span ≡ span_in r
+    → meant name_span ≡ property_name_span (parts_of r) (meant span)
+    → (p : List ℕ) → bare_def D.Property span name_span (joined p n.name.now n.unit.now) ≡ property_at r n p
 unfolding property_at
-property_at_lem r f {span} {name_span} {n} {u} a b x y p =
-    ap (λ (q : Span). record { path = joined p n u; value = property []; span = meant span; name_span = q }) b
+property_at_lem r n {span} a b p =
+    ap (λ (q : Span). record { path = joined p n.name.now n.unit.now; value = property []; span = meant span; name_span = q }) b
     ∙ ap (λ (q : Span). record {
-      path = joined p n u;
+      path = joined p n.name.now n.unit.now;
       value = property [];
       span = q;
       name_span = property_name_span
           (parts_of r) q;
     }) a
-    ∙ ap (λ (q : List ℕ). record {
-      path = joined p q u;
-      value = property [];
-      span = span_in r;
-      name_span = property_name_span
-          (parts_of r) (span_in r);
-    }) x
-    ∙ ap (λ (q : List ℕ). record {
-      path = joined p (name_text r.input.words.now r.input.text.now f.name) q;
-      value = property [];
-      span = span_in r;
-      name_span = property_name_span (parts_of r) (span_in r);
-    }) y
 
--- and made, where it is kept
-pub property_kept_at : (r : Record) (f : FullName) (keep : Bool) {parent : PathAt} {c d : LowerCtx} {ws bs w b : List ℕ}
-    {span name_span : SpanRead} {n u : List ℕ}
-    → keep ≡ true → meant span ≡ span_in r → meant name_span ≡ property_name_span (parts_of r) (meant span)
-    → n ≡ name_text r.input.words.now r.input.text.now f.name
-    → u ≡ unit_text r.input.words.now r.input.text.now f.unit → Steps c d ws bs w b (define
-    (bare_def D.Property span name_span (joined (path_in c.bytes bs parent) n u)))
-    → LowersAt parent c d ws bs w b (λ p s. cond keep (define (property_at r f p) s) s)
-property_kept_at r f keep {parent} {c} {d} {ws} {bs} {w} {b} e i j x y h =
+-- and made, where there is a name
+pub property_kept_at : (r : Record) (n : Below) (o : Maybe Below) {parent : PathAt} {c d : LowerCtx} {ws bs w b : List ℕ}
+    {span name_span : SpanRead}
+    → o ≡ Some n → meant span ≡ span_in r → meant name_span ≡ property_name_span (parts_of r) (meant span)
+    → Steps c d ws bs w b (define (bare_def D.Property span name_span (joined (path_in c.bytes bs parent) n.name.now n.unit.now)))
+    → LowersAt parent c d ws bs w b (λ p s. property_begun r o p s)
+property_kept_at r n o {parent} {c} {d} {ws} {bs} {w} {b} e i j h =
     let g =
-    steps_at (λ p. define (property_at r f p)) (λ p. define_grows (property_at r f p))
-    (subst (λ (q : Def). Steps c d ws bs w b (define q)) (property_at_lem r f i j x y (path_in c.bytes bs parent)) h)
+    steps_at (λ p. define (property_at r n p)) (λ p. define_grows (property_at r n p))
+    (subst (λ (q : Def). Steps c d ws bs w b (define q)) (property_at_lem r n i j (path_in c.bytes bs parent)) h)
     in
     record { lowers = λ k p s q. rw e (g.lowers k p s q) }
 
-pub property_dropped_at : (r : Record) (f : FullName) (keep : Bool) {parent : PathAt} {c : LowerCtx} {ws bs : List ℕ}
-    → keep ≡ false
-    → LowersAt parent c c ws bs ws bs (λ p s. cond keep (define (property_at r f p) s) s)
-property_dropped_at r f keep e = record { lowers = λ k p s q. rw e q }
+pub property_dropped_at : (r : Record) (o : Maybe Below) {parent : PathAt} {c : LowerCtx} {ws bs : List ℕ} → o ≡ None
+    → LowersAt parent c c ws bs ws bs (λ p s. property_begun r o p s)
+property_dropped_at r o e = record { lowers = λ k p s q. rw e q }
 
 -- counts never fall
 named_grows : (level : ℕ) (p : List ℕ) (parts values : Trees) (span : Span) (o : Option (List ℕ))
@@ -189,43 +174,50 @@ module _ (level : ℕ) (r : Record) (f : FullName) (h : FullNameRead r.input.wor
   same_name : full_read r.input.words.now r.input.text.now f ≡ full_name parts
   same_name = h.read r.input.text.now
 
-  kept_as : (keep : Bool) (o : Option (List ℕ)) → (full_name parts).result ≡ o → keep ≡ is_there o → (p : List ℕ) (s : State)
+  -- whether a name is there, by what its parts say
+  there_is : (o : Option (List ℕ)) → (full_name parts).result ≡ o
+      → is_there (full_read r.input.words.now r.input.text.now f).result ≡ is_there o
+  there_is o e = ap (λ (g : Got (List ℕ)). is_there g.result) same_name ∙ ap is_there e
+
+  kept_as : (named : Maybe Below) → NamesBelow r.input.words.now r.input.text.now f named
+      → (o : Option (List ℕ)) → (full_name parts).result ≡ o → (p : List ℕ) (s : State)
       → emit (full_name parts).reports
-      (filled add_values keep (lower_values level values) (cond keep (define (property_at r f p) s) s))
+      (filled add_values (is_some named) (lower_values level values) (property_begun r named p s))
       ≡ named_property level p parts values (span_in r) o (emit ((lower_values level values).reports ++ (full_name parts).reports) s)
   unfolding property_at
-  kept_as true (some n) e k p s =
-      property_filled (joined p (name_text r.input.words.now r.input.text.now f.name) (unit_text r.input.words.now r.input.text.now f.unit)) (span_in r)
+  kept_as (Some b) k (some n) e p s =
+      property_filled (joined p b.name.now b.unit.now) (span_in r)
       (property_name_span parts (span_in r)) (lower_values level values) (full_name parts).reports s
       ∙ ap (λ (q : List ℕ). define
       (property_def q (span_in r) (property_name_span parts (span_in r)) (lower_values level values).made)
       (emit ((lower_values level values).reports ++ (full_name parts).reports) s))
-      (sym (full_joined r.input.words.now r.input.text.now (child_at r.input.words.now r.number) f h good p n e))
-  kept_as true none e k p s = absurd (not_both {t = true} refl k)
-  kept_as false (some n) e k p s = absurd (not_both {t = false} k refl)
-  kept_as false none e k p s = dropped_as (lower_values level values) (full_name parts).reports s
+      (rw (k.1, k.2) (sym (full_joined r.input.words.now r.input.text.now (child_at r.input.words.now r.number) f h good p n e)))
+  kept_as (Some b) k none e p s = absurd (not_both k.0 (there_is none e))
+  kept_as None k (some n) e p s = absurd (not_both (there_is (some n) e) k)
+  kept_as None k none e p s = dropped_as (lower_values level values) (full_name parts).reports s
 
   -- inside a node
-  pub property_is : (keep : Bool) → keep ≡ is_there (full_read r.input.words.now r.input.text.now f).result → (p : List ℕ) → is_empty p ≡ false → (s : State)
-      → emit (full_read r.input.words.now r.input.text.now f).reports (filled add_values keep (lower_values level values)
-      (cond keep (define (property_at r f p) s) s))
+  pub property_is : (named : Maybe Below) → NamesBelow r.input.words.now r.input.text.now f named
+      → (p : List ℕ) → is_empty p ≡ false → (s : State)
+      → emit (full_read r.input.words.now r.input.text.now f).reports (filled add_values (is_some named) (lower_values level values)
+      (property_begun r named p s))
       ≡ lower_property level p parts values (span_in r) s
   unfolding lower_property
-  property_is keep k p e s = rw (e, same_name) (kept_as keep (full_name parts).result refl (rw same_name at k) p s)
+  property_is named k p e s = rw (e, same_name) (kept_as named k (full_name parts).result refl p s)
 
-  pub property_kept : (keep : Bool) (p : List ℕ) (s : State) → keep ≡ true
-      → in_property (cond keep (define (property_at r f p) s) s) ≡ true
+  pub property_kept : (named : Maybe Below) (p : List ℕ) (s : State) → is_some named ≡ true
+      → in_property (property_begun r named p s) ≡ true
   unfolding property_at
-  property_kept true p s e = property_newest _ (span_in r) (property_name_span parts (span_in r)) s
-  property_kept false p s e = absurd (not_both {t = false} e refl)
+  property_kept (Some b) p s e = property_newest _ (span_in r) (property_name_span parts (span_in r)) s
+  property_kept None p s e = absurd (not_both e refl)
 
 -- the whole, from its steps
 module _ {c d e g : LowerCtx} {ws bs w b v u x y : List ℕ} {parent : PathAt} (level : ℕ) (r : Record) (f : FullName)
     (h : FullNameRead r.input.words.now (child_at r.input.words.now r.number) f)
-    (good : good_names_in (parts_of r) ≡ true) (keep : Bool) (k : keep ≡ is_there (full_read r.input.words.now r.input.text.now f).result)
+    (good : good_names_in (parts_of r) ≡ true) (named : Maybe Below) (known : NamesBelow r.input.words.now r.input.text.now f named)
   where
-    pub property_lowers : LowersAt parent c d ws bs w b (λ p s. cond keep (define (property_at r f p) s) s)
-        → Fills in_property add_values keep d e w b v u (lower_values level (contents_of r))
+    pub property_lowers : LowersAt parent c d ws bs w b (λ p s. property_begun r named p s)
+        → Fills in_property add_values (is_some named) d e w b v u (lower_values level (contents_of r))
         → Lowers e g v u x y (emit (full_read r.input.words.now r.input.text.now f).reports)
         → c.short ≡ false → is_top parent ≡ false
         → LowersAt parent c g ws bs x y (λ p s. lower_property level p (parts_of r)
@@ -234,6 +226,6 @@ module _ {c d e g : LowerCtx} {ws bs w b v u x y : List ℕ} {parent : PathAt} (
         record {
           lowers = λ k₀ p s q.
               subst (λ (o : State). Represents (with_place (record { at = parent; path = p }) k₀) g x y o)
-              (property_is level r f h good keep k p (top_empty q z ∙ t) s)
-              (n.lowers _ _ (m.fills _ _ (a.lowers k₀ p s q) (property_kept level r f h good keep p s)));
+              (property_is level r f h good named known p (top_empty q z ∙ t) s)
+              (n.lowers _ _ (m.fills _ _ (a.lowers k₀ p s q) (property_kept level r f h good named p s)));
         }

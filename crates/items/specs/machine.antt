@@ -3,7 +3,6 @@ pub mod AtRecord
 pub mod Labelled
 pub mod Opened
 pub mod NodePlaced
-pub mod NodeLowered
 pub mod Filled
 pub mod PropertyMade
 pub mod Unbinding

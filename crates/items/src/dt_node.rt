@@ -15,7 +15,7 @@ ghost use Rattle.input.specs.machine.At.{record_at};
 ghost use Rattle.resolving.specs.machine.Lowers.{Lowers};
 ghost use Rattle.input.specs.machine.NameRead.{FullNameRead};
 ghost use Rattle.items.specs.machine.NodePlaced.{PlacesAt, PlacesInAt, placed_at, placed_nowhere};
-ghost use Rattle.items.specs.machine.NodeLowered.{Settles};
+ghost use Rattle.making.specs.machine.Represents.{LeavesKept};
 ghost use Rattle.input.specs.machine.OfRecord.{parts_of, span_in};
 ghost use Rattle.items.specs.machine.AtRecord.{node_name_in, named_at};
 
@@ -36,13 +36,13 @@ use paths_numbers::phandle::MirPhandleTarget;
 use queries::mir::sets_overlay_in;
 use resolving::resolve::{report_unresolved, resolve_phandle};
 
-// Where a node goes before its body is lowered: to the place of its path; to a log of its own for the
-// reference of a record, of this kind, and whether that log is kept; to a log that is dropped; or
-// nowhere, and then nothing below is lowered.
+// Where a node goes before its body is lowered: to the place of its path; to a log of its own that is
+// kept for the reference of a record, of this kind; to a log of its own that is dropped; or nowhere, and
+// then nothing below is lowered.
 #[derive(Clone, Copy, Debug, PartialEq, Eq)]
 pub enum NodePlace {
     At(PathAt),
-    Aside(u32, MirPhandleTarget, bool),
+    Aside(u32, MirPhandleTarget),
     Discarded,
     Nowhere,
 }
@@ -71,7 +71,7 @@ pub fn place_node(
     }
 }
 
-// Opens the node of a record where its reference leads, or puts it aside.
+// Opens the node of a record where its reference leads, puts it aside, or drops its body.
 fn place_by_reference(
     node: Record<'_>,
     number: u32,
@@ -126,7 +126,11 @@ fn place_resolved(
             let path = phandle_path_at(words, text, reference);
             let span = span_at(words, reference);
             let told = report_unresolved(ctx, out, bytes, leads, label, path, span);
-            let node = NodePlace::Aside(reference, kind, keeps);
+            let node = if keeps {
+                NodePlace::Aside(reference, kind)
+            } else {
+                NodePlace::Discarded
+            };
             PlacedNode { node, ctx: told }
         }
     }
@@ -196,8 +200,7 @@ fn place_root(
     if !is_top(parent) {
         return placed_nowhere(refuse_node(node, ROOT_INSIDE, out, bytes, ctx));
     }
-    let root = [b'/'];
-    placed_at(define_there(node, &root, out, bytes, ctx))
+    placed_at(define_there(node, b"/", out, bytes, ctx))
 }
 
 // A node that is opened.
@@ -230,38 +233,33 @@ fn refuse_node(
 ) -> LowerCtx
     ensures { Lowers ctx result out.old bytes.old out.new bytes.new (emit (report code [] (node_name_in node.entry) ∷ [])) }
 {
-    let none: [u8; 0] = [];
     let span = node.parts().node_name_span(node.span());
-    ctx.emit(out, bytes, code, &none, span, NO_SPAN)
+    ctx.emit(out, bytes, code, b"", span, NO_SPAN)
 }
 
 // kept: any words and text, so that it asks nothing of them.
-// After a body in a log of its own: kept as an extension for its reference, or dropped.
+// After a body in a log of its own that is kept: an extension for its reference.
 pub fn settle_aside(
     words: &[u32],
     text: &[u8],
     r: u32,
     reference: u32,
     kind: MirPhandleTarget,
-    keeps: bool,
     out: &mut [u32],
     bytes: &mut [u8],
     body: LowerCtx,
     outer: LowerCtx,
 ) -> LowerCtx
-    ensures { Settles body result outer keeps out.old bytes.old out.new bytes.new
+    ensures { LeavesKept body result outer out.old bytes.old out.new bytes.new
         (named_at kind words.now text.now reference) (span_at words.now r)
         (span_at words.now reference) }
 {
-    if keeps {
-        let span = span_at(words, r);
-        let name_span = span_at(words, reference);
-        let target = Target {
-            kind,
-            label: phandle_label_at(words, text, reference),
-            path: phandle_path_at(words, text, reference),
-        };
-        return body.leave_kept(out, bytes, outer, span, name_span, target);
-    }
-    body.leave_dropped(out, bytes, outer)
+    let span = span_at(words, r);
+    let name_span = span_at(words, reference);
+    let target = Target {
+        kind,
+        label: phandle_label_at(words, text, reference),
+        path: phandle_path_at(words, text, reference),
+    };
+    body.leave_kept(out, bytes, outer, span, name_span, target)
 }

@@ -1,11 +1,10 @@
 // Properties and their values (lower_dt_property, lower_prop_value, lower_cell_list and lower_cell of
 // dt_property.rs). A property is made before its values.
-ghost use Rattle.std.specs.Prelude.{◌≡◌, ◌≤◌, true, cond, []};
+ghost use Rattle.std.specs.Prelude.{◌≡◌, ◌≤◌, true, []};
 ghost use Rattle.paths_numbers.specs.meaning.Cell.{bits_of};
 ghost use Rattle.paths_numbers.specs.meaning.Reading as R;
 ghost use Rattle.definition_log.specs.meaning.Contents.{number, reference, cell_list};
 ghost use Rattle.making.specs.machine.Recs.{meant_target};
-ghost use Rattle.making.specs.meaning.State.{define};
 ghost use Rattle.input.specs.meaning.Report.{one};
 ghost use Rattle.input.specs.meaning.Property.{lower_cell, lower_cells, sized_list, lower_value, lower_values};
 ghost use Rattle.items.specs.meaning.Lower.{lower_property};
@@ -15,12 +14,12 @@ ghost use Rattle.input.specs.meaning.GoodName.{good_names_in};
 ghost use Rattle.input.specs.machine.Fits.{depth_of, depths_of};
 ghost use Rattle.resolving.specs.machine.Lowers.{LowersAt};
 ghost use Rattle.items.specs.machine.Filled.{FillsProperty, FillsCells};
-ghost use Rattle.items.specs.machine.PropertyMade.{is_top, property_at};
+ghost use Rattle.items.specs.machine.PropertyMade.{is_top, property_begun};
 ghost use Rattle.items.specs.machine.AtRecord.{named_in};
 
 use crate::report::{emit_code, emit_name, emit_report};
+use crate::unbind::{Below, named_below};
 use input::linked::{Chain, Record};
-use input::name::{FullName, is_named, name_text, unit_text};
 use input::value_read::{CellValue, PlainValue, Value};
 use making::ctx::LowerCtx;
 use making::place::PathAt;
@@ -34,6 +33,7 @@ use paths_numbers::phandle::MirPhandleTarget;
 #[derive(Clone, Copy)]
 struct Filling {
     level: u32,
+    // kept: an Option of the name would only be asked whether it is there, since no value goes by the name.
     keep: bool,
 }
 
@@ -67,9 +67,12 @@ pub fn lower_dt_property(
         );
     }
     let name = property.parts().full_name();
-    let keep = is_named(name);
-    let made = define_property(property, parent, name, keep, out, bytes, ctx);
-    let filling = Filling { level, keep };
+    let named = named_below(input.words, input.text, name);
+    let made = define_property(property, parent, named, out, bytes, ctx);
+    let filling = Filling {
+        level,
+        keep: named.is_some(),
+    };
     let filled = filling.lower_prop_values(property.contents(), nesting - 1, out, bytes, made);
     emit_name(input.words, input.text, name, out, bytes, filled)
 }
@@ -81,23 +84,21 @@ pub(crate) fn is_top(path: PathAt) -> bool
     matches!(path, PathAt::Bytes { size: 0, .. })
 }
 
-// The definition of a property that is kept, before its values.
+// The definition of a property that has a name, before its values.
 fn define_property(
     property: Record<'_>,
     parent: PathAt,
-    f: FullName,
-    keep: bool,
+    named: Option<Below<'_>>,
     out: &mut [u32],
     bytes: &mut [u8],
     ctx: LowerCtx,
 ) -> LowerCtx
     ensures { LowersAt parent ctx result out.old bytes.old out.new bytes.new
-        (λ p s. cond keep (define (property_at property.entry f p) s) s) }
+        (λ p s. property_begun property.entry named.entry p s) }
 {
-    if !keep {
+    let Some(below) = named else {
         return ctx;
-    }
-    let input = property.input;
+    };
     let span = property.span();
     let name_span = property.parts().property_name_span(span);
     ctx.define(
@@ -107,8 +108,8 @@ fn define_property(
         span,
         name_span,
         parent,
-        name_text(input.words, input.text, f.name),
-        unit_text(input.words, input.text, f.unit),
+        below.name,
+        below.unit,
     )
 }
 
@@ -270,6 +271,7 @@ impl Filling {
         if !self.keep {
             return ctx;
         }
+        // kept: `n as u32` asks that n fits in 32 bits, so that `%` stands here, and `/` beside it.
         let low = (n % 4294967296) as u32;
         let high = (n / 4294967296) as u32;
         ctx.add_number(out, bytes, low, high)

@@ -17,12 +17,13 @@ ghost use Rattle.items.specs.machine.Deleting.{DeletesAt, DeletesThere, DeletesB
 
 use crate::directive::{DELETE_NODE, DELETE_PROPERTY, INCLUDE, PLUGIN, VERSION};
 use crate::report::{NO_SPAN, emit_name, emit_report};
-use crate::unbind::{Base, Below, bound_base, goes_with, unbind_all, unbind_others, unlink_first};
+use crate::unbind::{
+    Base, Below, bound_base, goes_with, named_below, unbind_all, unbind_others, unlink_first,
+};
 use definition_log::parts::Span;
 use definition_log::record::Log;
 use input::kinds::{NAME, REFERENCE};
 use input::linked::{Chain, Record};
-use input::name::{is_named, name_text, unit_text};
 use input::record::{no_text, number_at, text_at};
 use making::ctx::LowerCtx;
 use making::place::{PathAt, first_place, second_place};
@@ -79,16 +80,8 @@ fn emit_delete_node(
     let input = parts.input;
     let full = parts.full_name();
     let told = emit_name(input.words, input.text, full, out, bytes, ctx);
-    if is_named(full) {
-        return delete_named(
-            told,
-            out,
-            bytes,
-            parent,
-            name_text(input.words, input.text, full.name),
-            unit_text(input.words, input.text, full.unit),
-            span,
-        );
+    if let Some(below) = named_below(input.words, input.text, full) {
+        return delete_named(told, out, bytes, parent, below, span);
     }
     let Some(number) = parts.first_of(REFERENCE) else {
         return told;
@@ -103,18 +96,16 @@ fn delete_named(
     out: &mut [u32],
     bytes: &mut [u8],
     parent: PathAt,
-    name: &[u8],
-    unit: &[u8],
+    below: Below<'_>,
     span: Span,
 ) -> LowerCtx
     ensures { LowersAt parent ctx result out.old bytes.old out.new bytes.new
-        (λ p s. delete_node (joined p name.now unit.now) (meant span) s) }
+        (λ p s. delete_node (joined p below.entry.name.now below.entry.unit.now) (meant span) s) }
 {
     if ctx.short {
         return ctx;
     }
-    let base = Base::Named(parent, Below { name, unit });
-    let without = unbind_all(ctx, out, bytes, base);
+    let without = unbind_all(ctx, out, bytes, Base::Named(parent, below));
     without.define(
         out,
         bytes,
@@ -122,8 +113,8 @@ fn delete_named(
         span,
         span,
         parent,
-        name,
-        unit,
+        below.name,
+        below.unit,
     )
 }
 

@@ -2,10 +2,11 @@
 ghost use Rattle.std.specs.Prelude.{◌≡◌, List, [], ℕ};
 ghost use Rattle.paths_numbers.specs.meaning.Path.{joined};
 ghost use Rattle.making.specs.declared.place.PathAt.{PathAt};
-ghost use Rattle.definition_log.specs.meaning.Contents.{node};
+ghost use Rattle.definition_log.specs.meaning.Contents.{node as node_value};
+ghost use Rattle.definition_log.specs.machine.Parts.{meant};
 ghost use Rattle.making.specs.machine.Recs.{bare_value};
 ghost use Rattle.input.specs.meaning.Tree.{has, omit_kind};
-ghost use Rattle.input.specs.meaning.Name.{name_or_macro, labelled, labels_of};
+ghost use Rattle.input.specs.meaning.Name.{name_or_macro, node_name_span, labelled, labels_of};
 ghost use Rattle.input.specs.machine.OfRecord.{tree_of, parts_of, span_in};
 ghost use Rattle.input.specs.machine.ChainLeft.{trees_over, trees_left};
 ghost use Rattle.input.specs.machine.NameRead.{name_text, unit_text};
@@ -15,6 +16,7 @@ ghost use Rattle.items.specs.machine.NodePlaced.{DefinesLeading};
 ghost use Rattle.input.specs.machine.PhandleRead.{label_at, path_at};
 
 use crate::report::emit_report;
+use definition_log::parts::Span;
 use input::kinds::{LABEL, OMIT};
 use input::linked::{Chain, Record};
 use input::name::{FullName, name_text, unit_text};
@@ -32,6 +34,13 @@ pub struct Opened {
     pub ctx: LowerCtx,
 }
 
+// What a node's definition says but for its path and its labels: its kind, its span and its name's.
+struct NodeHead {
+    kind: DefKind,
+    span: Span,
+    name_span: Span,
+}
+
 // Opens the node of a record at the path of its name under its parent's.
 pub fn define_below(
     node: Record<'_>,
@@ -45,15 +54,16 @@ pub fn define_below(
         (λ (p : List ℕ). joined p (name_text node.entry.input.words.now node.entry.input.text.now full.name)
         (unit_text node.entry.input.words.now node.entry.input.text.now full.unit)) result }
 {
-    let parts = node.parts();
-    let kind = node_kind(parts);
-    let span = node.span();
-    let name_span = parts.node_name_span(span);
+    let NodeHead {
+        kind,
+        span,
+        name_span,
+    } = node_head(node);
     let input = node.input;
     let name_of = name_text(input.words, input.text, full.name);
     let unit_of = unit_text(input.words, input.text, full.unit);
     let made = ctx.define(out, bytes, kind, span, name_span, parent, name_of, unit_of);
-    open_node(parts, out, bytes, made)
+    open_node(node.parts(), out, bytes, made)
 }
 
 // Opens the node of a record at a path.
@@ -67,12 +77,13 @@ pub fn define_there(
     ensures { (parent : PathAt) → OpensAt parent ctx out.old bytes.old out.new bytes.new (parts_of node.entry) (span_in node.entry)
         (λ (p : List ℕ). path.now) result }
 {
-    let parts = node.parts();
-    let kind = node_kind(parts);
-    let span = node.span();
-    let name_span = parts.node_name_span(span);
+    let NodeHead {
+        kind,
+        span,
+        name_span,
+    } = node_head(node);
     let made = ctx.define_text(out, bytes, kind, span, name_span, path);
-    open_node(parts, out, bytes, made)
+    open_node(node.parts(), out, bytes, made)
 }
 
 // The definition of the node of a record where its reference leads.
@@ -91,10 +102,11 @@ pub fn define_leading(
     let Ok(to) = leads else {
         return ctx;
     };
-    let parts = node.parts();
-    let kind = node_kind(parts);
-    let span = node.span();
-    let name_span = parts.node_name_span(span);
+    let NodeHead {
+        kind,
+        span,
+        name_span,
+    } = node_head(node);
     let path = phandle_path_at(node.input.words, node.input.text, reference);
     match to {
         Leads::Bound(b) => {
@@ -114,9 +126,24 @@ pub fn define_leading(
     }
 }
 
+// What the definition of a record's node says but for its path and its labels.
+fn node_head(node: Record<'_>) -> NodeHead
+    ensures kind { bare_value result.kind ≡ node_value [] (has omit_kind (parts_of node.entry)) }
+    ensures span { meant result.span ≡ span_in node.entry }
+    ensures name_span { meant result.name_span ≡ node_name_span (parts_of node.entry) (span_in node.entry) }
+{
+    let parts = node.parts();
+    let span = node.span();
+    NodeHead {
+        kind: node_kind(parts),
+        span,
+        name_span: parts.node_name_span(span),
+    }
+}
+
 // The kind of a node's definition.
 fn node_kind(parts: Chain<'_>) -> DefKind
-    ensures { (text : List ℕ) → bare_value result ≡ node [] (has omit_kind (trees_over text parts.entry)) }
+    ensures { (text : List ℕ) → bare_value result ≡ node_value [] (has omit_kind (trees_over text parts.entry)) }
 {
     if parts.has_kind(OMIT) {
         return DefKind::OmittedNode;

@@ -68,9 +68,8 @@ pub fn emit_code(
     ensures { Lowers ctx result out.old bytes.old out.new bytes.new
         (emit (report code [] (span_at words.now r) ∷ [])) }
 {
-    let none: [u8; 0] = [];
     let span = span_at(words, r);
-    ctx.emit(out, bytes, code, &none, span, NO_SPAN)
+    ctx.emit(out, bytes, code, b"", span, NO_SPAN)
 }
 
 // Reports the macros in the places of a name and of its unit address.

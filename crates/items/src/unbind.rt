@@ -2,10 +2,12 @@
 ghost use Rattle.std.specs.Prelude.{◌≡◌, false};
 ghost use Rattle.definition_log.specs.meaning.ReadBack.{binding_at};
 ghost use Rattle.items.specs.machine.Unbinding.{base_of, goes_with, text_of, stop_of, Passes, Unbinds, UnbindsAll, bound_base};
+ghost use Rattle.items.specs.machine.PropertyMade.{NamesBelow};
 ghost use Rattle.items.specs.machine.Unbinding.{UnbindsOthers, UnbindsBehind, UnlinksFirst};
 
 use definition_log::chain::Walk;
 use definition_log::record::Log;
+use input::name::{FullName, is_named, name_text, unit_text};
 use making::ctx::LowerCtx;
 use making::place::PathAt;
 use paths_numbers::dt_node::Joined;
@@ -18,6 +20,19 @@ use resolving::resolve::first_with;
 pub struct Below<'a> {
     pub name: &'a [u8],
     pub unit: &'a [u8],
+}
+
+// What a full name says, where the name is there, and one in its unit address where there is one.
+pub fn named_below<'a, 'b>(words: &'b [u32], text: &'a [u8], full: FullName) -> Option<Below<'a>>
+    ensures { NamesBelow words.now text.now full result }
+{
+    if !is_named(full) {
+        return None;
+    }
+    Some(Below {
+        name: name_text(words, text, full.name),
+        unit: unit_text(words, text, full.unit),
+    })
 }
 
 // The path of a deletion: of a name and a unit address below a place, that of a place, one that is given, a

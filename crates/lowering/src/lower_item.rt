@@ -8,7 +8,6 @@ ghost use Rattle.input.specs.machine.Fits.{depth_of, depths_of};
 ghost use Rattle.input.specs.machine.OfRecord.{tree_of, parts_of, contents_of, span_in};
 ghost use Rattle.input.specs.meaning.GoodName.{good_names, good_names_in};
 ghost use Rattle.resolving.specs.machine.Lowers.{LowersAt};
-ghost use Rattle.items.specs.machine.NodeLowered.{LowersApart};
 
 use input::kinds::{DIRECTIVE, NODE, PREPROCESSOR, PROPERTY};
 use input::linked::{Chain, Input, Record};
@@ -70,7 +69,7 @@ fn lower_item(
     }
 }
 
-// Lowers a node: where it goes, and then its body. A state that ran short stays as it is.
+// Lowers a node: where it goes, and then its body, at "/" where it has a log of its own. A state that ran short stays as it is.
 #[cycle(nesting)]
 fn lower_dt_node(
     node: Record<'_>,
@@ -95,38 +94,20 @@ fn lower_dt_node(
     let made = placed.ctx;
     match placed.node {
         NodePlace::At(place) => lower_items(body, place, deeper, out, bytes, made, level),
-        NodePlace::Aside(reference, kind, keeps) => {
-            let apart = lower_apart(body, keeps, deeper, out, bytes, made, level);
+        NodePlace::Aside(reference, kind) => {
+            let inner = made.enter(true);
+            let apart = lower_items(body, PathAt::Root, deeper, out, bytes, inner, level);
             let Record { input, number, .. } = node;
             let Input { words, text, .. } = input;
             settle_aside(
-                words, text, number, reference, kind, keeps, out, bytes, apart, made,
+                words, text, number, reference, kind, out, bytes, apart, made,
             )
         }
         NodePlace::Discarded => {
-            let apart = lower_apart(body, false, deeper, out, bytes, made, level);
+            let inner = made.enter(false);
+            let apart = lower_items(body, PathAt::Root, deeper, out, bytes, inner, level);
             apart.leave_dropped(out, bytes, made)
         }
         NodePlace::Nowhere => made,
     }
-}
-
-// Lowers a body at "/" into a log of its own.
-#[cycle(nesting)]
-fn lower_apart(
-    items: Chain<'_>,
-    keeps: bool,
-    nesting: u32,
-    out: &mut [u32],
-    bytes: &mut [u8],
-    ctx: LowerCtx,
-    level: u32,
-) -> LowerCtx
-    requires shallow { depths_of (trees_left items) ≤ nesting }
-    requires good { good_names_in (trees_left items) ≡ true }
-    ensures { LowersApart ctx result keeps out.old bytes.old out.new bytes.new
-        (λ (q : List ℕ) (u : State). lower_items level (trees_left items.entry) q u) }
-{
-    let inner = ctx.enter(keeps);
-    lower_items(items, PathAt::Root, nesting, out, bytes, inner, level)
 }

@@ -37,10 +37,10 @@ returns c = let s = c
     c.full_name-name.result
     (rw (c.parts.ensures.input, c.parts.ensures.next) at
     c.full_name-name.ensures) s.requires.good
-    c.is_named-keep.result
-    (c.is_named-keep.ensures words text)
+    c.named_below-named.result
+    c.named_below-named.ensures
     c.define_property-made.ensures (rw
-    (c.contents.ensures.input, c.contents.ensures.next) at
+    (c.is_some.ensures, c.contents.ensures.input, c.contents.ensures.next) at
     c.lower_prop_values-filled.ensures)
     c.emit_name.ensures
     c.if-ctx.false

@@ -7,7 +7,7 @@ use Rattle.items.proofs.item.delete_named.Goals as goal
 pub returns-then-ctx : goal.returns-then-ctx
 returns-then-ctx c =
     let a = c.args in
-    short_under c.if-ctx.true (λ p. delete_grows (joined p a.name.now a.unit.now) (meant a.span))
+    short_under c.if-ctx.true (λ p. delete_grows (joined p a.below.name.now a.below.unit.now) (meant a.span))
 
 pub returns : goal.returns
 returns c = deletes_named

@@ -18,18 +18,14 @@ returns-in-Bound c =
     let a = c.args in
     let words = a.node.input.words.now in
     let text = a.node.input.text.now in
-    let part = c.parts-parts.ensures in
     defines_bound a.leads (label_at words text a.reference) (path_at words text a.reference)
-    c.node_kind-kind.result
-    c.span-span.result
-    c.node_name_span-name_span.result
+    c.node_head-kind.result.kind
+    c.node_head-kind.result.span
+    c.node_head-kind.result.name_span
     (span_at words a.node.number) _ c.define_at.ensures
-    (rw (part.input, part.next) at
-    (c.node_kind-kind.ensures text))
-    c.span-span.ensures
-    (c.node_name_span-name_span.ensures
-    text ∙ rw (part.input, part.next, c.span-span.ensures)
-    refl)
+    c.node_head-kind.ensures.kind
+    c.node_head-kind.ensures.span
+    c.node_head-kind.ensures.name_span
     _ (c.in-Ok.is ∙ ap Ok c.in-Bound.is)
     (ap (path_in a.ctx.bytes a.bytes.now) c.second_place-place.ensures)
 
@@ -38,14 +34,12 @@ returns-in-BoundPath c =
     let a = c.args in
     let words = a.node.input.words.now in
     let text = a.node.input.text.now in
-    let part = c.parts-parts.ensures in
     defines_below a.leads (label_at words text a.reference) (path_at words text a.reference)
-    c.node_kind-kind.result
-    c.span-span.result c.node_name_span-name_span.result (span_at words a.node.number) _ c.define.ensures
-    (rw (part.input, part.next) at
-    (c.node_kind-kind.ensures text))
-    c.span-span.ensures
-    (c.node_name_span-name_span.ensures text ∙ rw (part.input, part.next, c.span-span.ensures) refl)
+    c.node_head-kind.result.kind
+    c.node_head-kind.result.span c.node_head-kind.result.name_span (span_at words a.node.number) _ c.define.ensures
+    c.node_head-kind.ensures.kind
+    c.node_head-kind.ensures.span
+    c.node_head-kind.ensures.name_span
     _ (c.in-Ok.is ∙ ap Ok c.in-BoundPath.is)
     (rw (
       c.second_place-place-in-BoundPath.ensures,
@@ -58,16 +52,13 @@ returns-in-AtPath c =
     let a = c.args in
     let words = a.node.input.words.now in
     let text = a.node.input.text.now in
-    let part = c.parts-parts.ensures in
     defines_path a.leads (label_at words text a.reference) (path_at words text a.reference)
-    c.node_kind-kind.result
-    c.span-span.result
-    c.node_name_span-name_span.result (span_at words a.node.number) _
+    c.node_head-kind.result.kind
+    c.node_head-kind.result.span
+    c.node_head-kind.result.name_span (span_at words a.node.number) _
     c.define_text.ensures
-    (rw (part.input, part.next) at (c.node_kind-kind.ensures
-    text)) c.span-span.ensures
-    (c.node_name_span-name_span.ensures text
-    ∙ rw (part.input, part.next, c.span-span.ensures) refl)
+    c.node_head-kind.ensures.kind c.node_head-kind.ensures.span
+    c.node_head-kind.ensures.name_span
     (c.in-Ok.is ∙ ap Ok c.in-AtPath.is)
     c.phandle_path_at-path.ensures
 
@@ -76,17 +67,13 @@ returns-in-Node c =
     let a = c.args in
     let words = a.node.input.words.now in
     let text = a.node.input.text.now in
-    let part = c.parts-parts.ensures in
     defines_named a.leads (label_at words text a.reference) (path_at words text a.reference)
-    c.node_kind-kind.result
-    c.span-span.result
-    c.node_name_span-name_span.result
+    c.node_head-kind.result.kind
+    c.node_head-kind.result.span
+    c.node_head-kind.result.name_span
     (span_at words a.node.number) _ c.define_at-in-Node.ensures
-    (rw (part.input, part.next) at
-    (c.node_kind-kind.ensures text))
-    c.span-span.ensures
-    (c.node_name_span-name_span.ensures
-    text ∙ rw (part.input, part.next, c.span-span.ensures)
-    refl)
+    c.node_head-kind.ensures.kind
+    c.node_head-kind.ensures.span
+    c.node_head-kind.ensures.name_span
     _ (c.in-Ok.is ∙ ap Ok c.in-Node.is)
     (ap (path_in a.ctx.bytes a.bytes.now) c.first_place-place.ensures)

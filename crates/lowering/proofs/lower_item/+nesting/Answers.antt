@@ -7,13 +7,10 @@ use Rattle.input.proofs.Read.{some_nesting, contents_shallow}
 use Rattle.items.proofs.ChainWalked.{record_there, record_shallow}
 use Rattle.lowering.proofs.CountsGrow.{node_grows}
 use Rattle.items.proofs.Short.{short_lowers}
-use Rattle.items.proofs.NodeLowered.{enters_apart, node_at_lem, node_aside, node_discarded, node_nowhere}
+use Rattle.items.proofs.NodeLowered.{node_at_lem, node_aside, node_discarded, node_nowhere}
 use Rattle.lowering.proofs.ItemsLowered.{items_start, items_whole, item_good, items_more, is_node_lem, is_property_lem}
 use Rattle.lowering.proofs.ItemsLowered.{is_directive_lem, is_preprocessor, is_other, parts_good, body_good}
 use Rattle.lowering.proofs.lower_item.+nesting.Goals as goal
-
-pub lower_apart-returns : goal.lower_apart-returns
-lower_apart-returns t c = enters_apart _ refl c.enter-inner.ensures c.lower_items.ensures
 
 pub lower_dt_node-returns-then-ctx : goal.lower_dt_node-returns-then-ctx
 lower_dt_node-returns-then-ctx t c = short_lowers (λ p. node_grows _ _ _ _ p) c.if-ctx.true
@@ -33,16 +30,16 @@ lower_dt_node-lower_items-requires t c =
       (rw (b.input, b.next) (contents_shallow c.args.node c.args.nesting h), rw (b.input, b.next) (body_good _ _ _ c.requires.good)),
     )
 
-pub lower_dt_node-lower_apart-apart-requires : goal.lower_dt_node-lower_apart-apart-requires
-lower_dt_node-lower_apart-apart-requires t c =
+pub lower_dt_node-lower_items-apart-requires : goal.lower_dt_node-lower_items-apart-requires
+lower_dt_node-lower_items-apart-requires t c =
     let h = c.requires.shallow in
     let b = c.contents-body.ensures in (
       omega (arith, some_nesting c.args.node c.args.nesting h),
       (rw (b.input, b.next) (contents_shallow c.args.node c.args.nesting h), rw (b.input, b.next) (body_good _ _ _ c.requires.good)),
     )
 
-pub lower_dt_node-lower_apart-apart-requires-in-Discarded : goal.lower_dt_node-lower_apart-apart-requires-in-Discarded
-lower_dt_node-lower_apart-apart-requires-in-Discarded t c =
+pub lower_dt_node-lower_items-apart-requires-in-Discarded : goal.lower_dt_node-lower_items-apart-requires-in-Discarded
+lower_dt_node-lower_items-apart-requires-in-Discarded t c =
     let h = c.requires.shallow in
     let b = c.contents-body.ensures in (
       omega (arith, some_nesting c.args.node c.args.nesting h),
@@ -60,9 +57,10 @@ pub lower_dt_node-returns-in-Aside : goal.lower_dt_node-returns-in-Aside
 lower_dt_node-returns-in-Aside t c = node_aside
     (λ q u. lower_items c.args.level (contents_of c.args.node) q u)
     c.if-ctx.false
-    c.place_node-placed.ensures _ _ _
+    c.place_node-placed.ensures _ _
     c.in-Aside.is
-    (rw (c.contents-body.ensures.input, c.contents-body.ensures.next) at c.lower_apart-apart.ensures)
+    c.enter-inner.ensures
+    (rw (c.contents-body.ensures.input, c.contents-body.ensures.next) at c.lower_items-apart.ensures)
     c.settle_aside.ensures
 
 pub lower_dt_node-returns-in-Discarded : goal.lower_dt_node-returns-in-Discarded
@@ -71,7 +69,8 @@ lower_dt_node-returns-in-Discarded t c = node_discarded
     c.if-ctx.false
     c.place_node-placed.ensures
     c.in-Discarded.is
-    (rw (c.contents-body.ensures.input, c.contents-body.ensures.next) at c.lower_apart-apart-in-Discarded.ensures)
+    c.enter-inner-in-Discarded.ensures
+    (rw (c.contents-body.ensures.input, c.contents-body.ensures.next) at c.lower_items-apart-in-Discarded.ensures)
     c.leave_dropped.ensures
 
 pub lower_dt_node-returns-in-Nowhere : goal.lower_dt_node-returns-in-Nowhere

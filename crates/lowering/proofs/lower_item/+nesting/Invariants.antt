@@ -7,9 +7,6 @@ use Rattle.input.specs.machine.ChainLeft.{chain_left}
 use Rattle.lowering.proofs.ItemsLowered.{ItemsTo}
 use Rattle.lowering.proofs.lower_item.+nesting.Given as goal
 
-abbrev pub decreases-lower_apart : goal.decreases-lower_apart
-decreases-lower_apart l = l.nesting * 4 + 3
-
 abbrev pub decreases-lower_dt_node : goal.decreases-lower_dt_node
 decreases-lower_dt_node l = l.nesting * 4
 
