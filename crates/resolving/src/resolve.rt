@@ -13,6 +13,7 @@ use input::record::no_text;
 use input::report::Report;
 use making::ctx::LowerCtx;
 use making::place::second_place;
+use making::recs::NO_SPAN;
 use paths_numbers::codes::{LABEL_NOT_FOUND, NODE_AMBIGUOUS, NODE_NOT_FOUND};
 use paths_numbers::phandle::MirPhandleTarget;
 use paths_numbers::text::equals;
@@ -75,16 +76,12 @@ pub fn resolve_target(log: Log<'_>, binds: u32, defs: u32, r: u32) -> Result<Lea
     let n = out_field(log.words, r, layout::N);
     let label = log.first_text(r);
     let path = log.second_text(r);
-    if n == 1 {
-        return resolve_label(log, binds, label);
+    match MirPhandleTarget::try_from(n) {
+        Ok(MirPhandleTarget::Label) => resolve_label(log, binds, label),
+        Ok(MirPhandleTarget::LabelPath) => resolve_below(log, binds, defs, label, path),
+        Ok(MirPhandleTarget::Path) => resolve_path(log, defs, path),
+        Err(_) => Err(Missing::NoLabel),
     }
-    if n == 2 {
-        return resolve_below(log, binds, defs, label, path);
-    }
-    if n == 3 {
-        return resolve_path(log, defs, path);
-    }
-    Err(Missing::NoLabel)
 }
 
 // Where a label leads.
@@ -168,10 +165,9 @@ pub fn report_unresolved(
     if sets_overlay_in(out, ctx.defs.first) {
         return ctx;
     }
-    let none = Span { from: 0, to: 0 };
     match missing {
-        Missing::NoLabel => ctx.emit(out, bytes, LABEL_NOT_FOUND, label, span, none),
-        Missing::NoNode(code) => ctx.emit(out, bytes, code, path, span, none),
+        Missing::NoLabel => ctx.emit(out, bytes, LABEL_NOT_FOUND, label, span, NO_SPAN),
+        Missing::NoNode(code) => ctx.emit(out, bytes, code, path, span, NO_SPAN),
         Missing::NoNodeBelow(code, b) => ctx.emit_joined(
             out,
             bytes,
