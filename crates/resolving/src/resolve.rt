@@ -2,7 +2,8 @@
 // by the heads of its chains, of any words and bytes.
 ghost use Rattle.definition_log.specs.machine.Parts.{meant};
 ghost use Rattle.resolving.specs.machine.Leading.{AnswersPhandle, AnswersTarget, AnswersLabel, AnswersBelow, AnswersPath};
-ghost use Rattle.resolving.specs.machine.Leading.{FirstWith, ReportsMissing};
+ghost use Rattle.std.specs.Prelude.{◌≡◌};
+ghost use Rattle.resolving.specs.machine.Leading.{FirstWith, ReportsMissing, node_found};
 
 use definition_log::chain::chain;
 use definition_log::layout;
@@ -46,6 +47,7 @@ pub struct Found {
 }
 
 // Where a reference leads that can be read.
+// kept: a log and two heads, of which two functions below need one; callers hold both in a LowerCtx, so a struct is made at each call.
 pub fn resolve_phandle(
     words: &[u32],
     text: &[u8],
@@ -109,23 +111,27 @@ pub fn resolve_below(
     };
     let number = found.number;
     let base = log.second_text(number);
-    match lookup_path(log, defs, base, path) {
-        Lookup::Exact => Ok(Leads::BoundPath(number)),
-        Lookup::Node(node) => Ok(Leads::Node(node)),
-        Lookup::NoNode => Err(Missing::NoNodeBelow(NODE_NOT_FOUND, number)),
-        Lookup::Several => Err(Missing::NoNodeBelow(NODE_AMBIGUOUS, number)),
-    }
+    let found = lookup_path(log, defs, base, path);
+    node_found(found, Leads::BoundPath(number)).map_err(|code| Missing::NoNodeBelow(code, number))
 }
 
 // Where a path leads.
 pub fn resolve_path(log: Log<'_>, defs: u32, path: &[u8]) -> Result<Leads, Missing>
     ensures { AnswersPath log.entry.words.now log.entry.bytes.now defs path.now result }
 {
-    match lookup_in(log, defs, path) {
-        Lookup::Exact => Ok(Leads::AtPath),
+    node_found(lookup_in(log, defs, path), Leads::AtPath).map_err(|code| Missing::NoNode(code))
+}
+
+// The node that a look-up found, which leads as `exact` says where its path is the one looked up; a code where there
+// is none.
+fn node_found(found: Lookup, exact: Leads) -> Result<Leads, u32>
+    ensures { result ≡ node_found exact found }
+{
+    match found {
+        Lookup::Exact => Ok(exact),
         Lookup::Node(r) => Ok(Leads::Node(r)),
-        Lookup::NoNode => Err(Missing::NoNode(NODE_NOT_FOUND)),
-        Lookup::Several => Err(Missing::NoNode(NODE_AMBIGUOUS)),
+        Lookup::NoNode => Err(NODE_NOT_FOUND),
+        Lookup::Several => Err(NODE_AMBIGUOUS),
     }
 }
 
@@ -147,6 +153,7 @@ pub fn first_with(log: Log<'_>, first: u32, text: &[u8]) -> Option<Found>
 }
 
 // Reports a reference that leads nowhere, unless the log in hand is an overlay.
+// kept: check_phandle of post_checks tells the three of places in the log, while the texts here lie outside it.
 pub fn report_unresolved(
     ctx: LowerCtx,
     out: &mut [u32],
