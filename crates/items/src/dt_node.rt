@@ -21,7 +21,7 @@ ghost use Rattle.items.specs.machine.AtRecord.{node_name_in, named_at};
 
 use crate::dt_property::is_top;
 use crate::open_node::{Opened, define_below, define_leading, define_there, open_node};
-use crate::report::{NO_SPAN, emit_name, emit_report};
+use crate::report::{emit_name, emit_report};
 use definition_log::record::Log;
 use input::kinds::{REFERENCE, SLASH};
 use input::linked::Record;
@@ -30,7 +30,7 @@ use input::phandle::{phandle_label_at, phandle_path_at};
 use input::record::span_at;
 use making::ctx::LowerCtx;
 use making::place::PathAt;
-use making::recs::Target;
+use making::recs::{NO_SPAN, Target};
 use paths_numbers::codes::{ROOT_INSIDE, SUBNODE_OUTSIDE};
 use paths_numbers::phandle::MirPhandleTarget;
 use queries::mir::sets_overlay_in;

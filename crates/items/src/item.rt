@@ -16,7 +16,7 @@ ghost use Rattle.resolving.specs.machine.Lowers.{Lowers, LowersAt};
 ghost use Rattle.items.specs.machine.Deleting.{DeletesAt, DeletesThere, DeletesBound, DefinesBound};
 
 use crate::directive::{DELETE_NODE, DELETE_PROPERTY, INCLUDE, PLUGIN, VERSION};
-use crate::report::{NO_SPAN, emit_name, emit_report};
+use crate::report::{emit_name, emit_report};
 use crate::unbind::{
     Base, Below, bound_base, goes_with, named_below, unbind_all, unbind_others, unlink_first,
 };
@@ -27,7 +27,7 @@ use input::linked::{Chain, Record};
 use input::record::{no_text, number_at, text_at};
 use making::ctx::LowerCtx;
 use making::place::{PathAt, first_place, second_place};
-use making::recs::DefKind;
+use making::recs::{DefKind, NO_SPAN};
 use paths_numbers::codes;
 use paths_numbers::phandle::MirPhandleTarget;
 use resolving::resolve::{Leads, first_with, report_unresolved, resolve_phandle};

@@ -9,15 +9,12 @@ ghost use Rattle.resolving.specs.machine.Lowers.{Lowers};
 ghost use Rattle.input.specs.machine.NameRead.{name_read, full_read};
 ghost use Rattle.input.specs.machine.Reported.{reports_of};
 
-use definition_log::parts::Span;
 use input::name::FullName;
 use input::record::{span_at, text_at};
 use input::report::Report;
 use making::ctx::LowerCtx;
+use making::recs::NO_SPAN;
 use paths_numbers::codes::MACRO_UNDEFINED;
-
-// The second span of a diagnostic that has one only.
-pub const NO_SPAN: Span = Span { from: 0, to: 0 };
 
 // Reports it.
 // kept: this and the others take any words and text, so that they ask nothing of them.

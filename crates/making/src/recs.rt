@@ -11,7 +11,7 @@ use definition_log::parts::Span;
 use paths_numbers::phandle::MirPhandleTarget;
 
 // The span of a record that has none.
-pub(crate) const NO_SPAN: Span = Span { from: 0, to: 0 };
+pub const NO_SPAN: Span = Span { from: 0, to: 0 };
 
 // What a definition is; a node with an omit mark is a kind of its own.
 #[derive(Clone, Copy, Debug, PartialEq, Eq)]

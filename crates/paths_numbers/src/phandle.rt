@@ -1,7 +1,7 @@
 // What lower_phandle of lowering/mod.rs makes of a raw reference text, `&{..}`.
 ghost use Rattle.std.specs.Prelude.{◌≡◌, true, false, length, MatchOption};
 ghost use Rattle.paths_numbers.specs.meaning.Reference.{is_braced, inner_text, before_slash, target, number_of, label_of, path_of};
-ghost use Rattle.paths_numbers.specs.meaning.Reference.{kind_number, target_number};
+ghost use Rattle.paths_numbers.specs.meaning.Reference.{kind_number, NumberNames, target_number};
 
 use slashes::slash::next_slash;
 
@@ -22,6 +22,26 @@ impl From<MirPhandleTarget> for u32 {
             MirPhandleTarget::Label => 1,
             MirPhandleTarget::LabelPath => 2,
             MirPhandleTarget::Path => 3,
+        }
+    }
+}
+
+// A number that names none.
+#[derive(Clone, Copy, Debug, PartialEq, Eq)]
+pub struct UnknownTarget;
+
+// What 01's N names.
+impl TryFrom<u32> for MirPhandleTarget {
+    type Error = UnknownTarget;
+
+    ghost try_from_gives = { NumberNames };
+
+    fn try_from(n: u32) -> Result<MirPhandleTarget, UnknownTarget> {
+        match n {
+            1 => Ok(MirPhandleTarget::Label),
+            2 => Ok(MirPhandleTarget::LabelPath),
+            3 => Ok(MirPhandleTarget::Path),
+            _ => Err(UnknownTarget),
         }
     }
 }

@@ -10,6 +10,9 @@ use Rattle.paths_numbers.proofs.Texts.{by_test, same_true, same_refl, same_ne, s
 use Rattle.making.specs.declared.ctx.LowerCtx.{LowerCtx}
 use Rattle.making.specs.declared.place.PathAt.{PathAt}
 use Rattle.definition_log.specs.declared.parts.Span as declared
+use Rattle.definition_log.specs.declared.chain.Walk.{Walk}
+use Rattle.definition_log.specs.machine.ChainLeft.{Stepped}
+use Rattle.definition_log.proofs.ChainLeft.{goes_left}
 use Rattle.definition_log.specs.meaning.Contents.{Binding}
 use Rattle.definition_log.specs.meaning.Record.{next_of, span_start, span_end, text_start, text_length, log_count}
 use Rattle.definition_log.specs.meaning.ReadBack.{chain_from, chain_of, span_at, binding_at, read_bindings}
@@ -135,6 +138,16 @@ module _ {c d : LowerCtx} {words bytes w b : List ℕ} (h : Kept c d words bytes
   pub bindings_kept : {l : List ℕ} → All (Still words c.records) l → map (binding_at w b) l ≡ map (binding_at words bytes) l
   bindings_kept all_none = refl
   bindings_kept (all_more {r} {l} s a) = cc (binding_kept s, bindings_kept a)
+
+abbrev left_of : Walk → ℕ → Walk
+left_of whole n = record { next = whole.next; left = n }
+
+-- what was passed before the record that a step came to
+pub passed_before : {words : List ℕ} {s t q : Walk} {r : ℕ} (whole : Walk) → Stepped words s t r
+    → q ≡ record { next = whole.next; left = whole.left - t.left - 1 }
+    → q ≡ record { next = whole.next; left = whole.left - s.left }
+passed_before {words} {s} {t} {r = r} whole p e =
+    e ∙ ap (left_of whole) (omega (arith, p.left, goes_left words r s.left p.going))
 
 -- what is left of the bindings behind a label's first one, at r: the step of check_bindings
 module _ {c d : LowerCtx} {words bytes w b : List ℕ} (kept : Kept c d words bytes w b) where

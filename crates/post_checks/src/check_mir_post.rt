@@ -1,9 +1,9 @@
 // The post checks (check_mir_post.rs). They report while they walk through the log; what is reported
 // is added behind it and keeps what they walk through.
-ghost use Rattle.std.specs.Prelude.{◌≡◌, [], ◌∷◌, map};
+ghost use Rattle.std.specs.Prelude.{◌≡◌, ◌-◌, [], ◌∷◌, map};
 ghost use Rattle.definition_log.specs.meaning.Record.{kind_of};
 ghost use Rattle.definition_log.specs.machine.ChainLeft.{walk_left};
-ghost use Rattle.definition_log.specs.meaning.ReadBack.{chain_from, name_span_at, binding_at};
+ghost use Rattle.definition_log.specs.meaning.ReadBack.{name_span_at, binding_at};
 ghost use Rattle.making.specs.meaning.State.{State, emit};
 ghost use Rattle.paths_numbers.specs.meaning.Lists.{any};
 ghost use Rattle.post_checks.specs.meaning.Post.{duplicates_of, duplicate_labels, check_directives, post_checks};
@@ -14,10 +14,11 @@ ghost use Rattle.post_checks.specs.machine.Checks.{has_label, has_path, again, i
 use crate::check_phandles::check_phandles;
 use definition_log::chain::{Walk, chain_of_most};
 use definition_log::kinds::{DELETED_PROPERTY, NODE, PLUGIN};
-use definition_log::parts::{Span, name_span_of, span_of};
+use definition_log::parts::{name_span_of, span_of};
 use definition_log::record::{Log, kind_of};
 use making::ctx::LowerCtx;
 use making::place::{PathAt, first_place};
+use making::recs::NO_SPAN;
 use paths_numbers::codes::{BEFORE_VERSION, DUPLICATE_LABEL, PLUGIN_MISPLACED, VERSION_LATE};
 use paths_numbers::text::equals;
 
@@ -49,35 +50,42 @@ pub fn check_duplicate_labels(out: &mut [u32], bytes: &mut [u8], ctx: LowerCtx) 
     ensures { Lowers ctx result out.old bytes.old out.new bytes.new
         (λ (s : State). emit (duplicate_labels [] s.binds) s) }
 {
-    let first = ctx.binds.first;
+    let whole = Walk::new(out, ctx.binds.first);
     let mut made = ctx;
-    let mut passed = 0;
-    let mut walk = Walk::new(out, first);
+    let mut walk = whole;
     while let Some(r) = walk.step(out) {
-        made = check_label(out, bytes, made, first, passed, r, walk);
-        passed += 1;
+        made = check_label(out, bytes, made, passed(whole, walk), r, walk);
     }
     made
 }
 
-// The reports on the label of binding `r`, which `passed` bindings precede and the rest of a walk follows:
+// What a walk passed before the record that it came to last, by all of it and by the rest of it.
+fn passed(whole: Walk, rest: Walk) -> Walk
+    ensures { result ≡ record { next = whole.next; left = whole.left - rest.left - 1 } }
+{
+    Walk {
+        next: whole.next,
+        left: whole.left.saturating_sub(rest.left).saturating_sub(1),
+    }
+}
+
+// The reports on the label of binding `r`, which the bindings `before` precede and the rest of a walk follows:
 // none where one of those before it has the label.
 fn check_label(
     out: &mut [u32],
     bytes: &mut [u8],
     ctx: LowerCtx,
-    first: u32,
-    passed: u32,
+    before: Walk,
     r: u32,
     rest: Walk,
 ) -> LowerCtx
     ensures { Reports ctx result out.old bytes.old out.new bytes.new
         (r ∷ walk_left out.old rest)
         (label_reports (binding_at out.old bytes.old r)
-        (map (binding_at out.old bytes.old) (chain_from passed out.old first))
+        (map (binding_at out.old bytes.old) (walk_left out.old before))
         (map (binding_at out.old bytes.old) (walk_left out.old rest))) }
 {
-    if binds_label(Log { words: out, bytes }, first, passed, r) {
+    if binds_label(Log { words: out, bytes }, before, r) {
         return ctx;
     }
     check_bindings(out, bytes, ctx, r, rest)
@@ -98,31 +106,28 @@ fn check_bindings(
         (map (binding_at out.old bytes.old) (walk_left out.old rest))) }
 {
     let mut made = ctx;
-    let mut passed = 0;
     let mut walk = rest;
     while let Some(r) = walk.step(out) {
-        made = check_binding(out, bytes, made, first, rest.next, passed, r);
-        passed += 1;
+        made = check_binding(out, bytes, made, first, passed(rest, walk), r);
     }
     made
 }
 
-// The report on binding `r`, which the label's first binding and `passed` others from `after` on
-// precede: none where it has another label, or a path seen before.
+// The report on binding `r`, which the label's first binding and those `between` precede: none where it has
+// another label, or a path seen before.
 fn check_binding(
     out: &mut [u32],
     bytes: &mut [u8],
     ctx: LowerCtx,
     first: u32,
-    after: u32,
-    passed: u32,
+    between: Walk,
     r: u32,
 ) -> LowerCtx
     ensures { Reports ctx result out.old bytes.old out.new bytes.new (r ∷ [])
         (binding_report (binding_at out.old bytes.old first) (binding_at out.old bytes.old r)
-        (map (binding_at out.old bytes.old) (chain_from passed out.old after))) }
+        (map (binding_at out.old bytes.old) (walk_left out.old between))) }
 {
-    if is_reported(Log { words: out, bytes }, first, after, passed, r) {
+    if is_reported(Log { words: out, bytes }, first, between, r) {
         let span = span_of(out, r);
         let earlier = span_of(out, first);
         let label = first_place(out, r);
@@ -132,29 +137,29 @@ fn check_binding(
 }
 
 // Whether there is a report on it.
-fn is_reported(log: Log<'_>, first: u32, after: u32, passed: u32, r: u32) -> bool
+fn is_reported(log: Log<'_>, first: u32, between: Walk, r: u32) -> bool
     ensures { result ≡ is_reported (binding_at log.entry.words.now log.entry.bytes.now first)
         (binding_at log.entry.words.now log.entry.bytes.now r) (map (binding_at log.entry.words.now log.entry.bytes.now)
-        (chain_from passed log.entry.words.now after)) }
+        (walk_left log.entry.words.now between)) }
 {
-    has_label(log, first, r) && !has_path(log, first, r) && !binds_again(log, after, passed, r)
+    has_label(log, first, r) && !has_path(log, first, r) && !binds_again(log, between, r)
 }
 
-// Whether one of the bindings from `first` on, of which there are at most `most`, has the label of
-// binding `r`.
-fn binds_label(log: Log<'_>, first: u32, most: u32, r: u32) -> bool
+// Whether one of the bindings of a walk has the label of binding `r`.
+fn binds_label(log: Log<'_>, walk: Walk, r: u32) -> bool
     ensures { result ≡ any (has_label (binding_at log.entry.words.now log.entry.bytes.now r))
-        (map (binding_at log.entry.words.now log.entry.bytes.now) (chain_from most log.entry.words.now first)) }
+        (map (binding_at log.entry.words.now log.entry.bytes.now) (walk_left log.entry.words.now walk)) }
 {
-    chain_of_most(log.words, first, most).any(|x| has_label(log, x, r))
+    chain_of_most(log.words, walk.next, walk.left).any(|x| has_label(log, x, r))
 }
 
 // Whether one of them has its label and its path.
-fn binds_again(log: Log<'_>, first: u32, most: u32, r: u32) -> bool
+fn binds_again(log: Log<'_>, walk: Walk, r: u32) -> bool
     ensures { result ≡ any (again (binding_at log.entry.words.now log.entry.bytes.now r))
-        (map (binding_at log.entry.words.now log.entry.bytes.now) (chain_from most log.entry.words.now first)) }
+        (map (binding_at log.entry.words.now log.entry.bytes.now) (walk_left log.entry.words.now walk)) }
 {
-    chain_of_most(log.words, first, most).any(|x| has_label(log, x, r) && has_path(log, x, r))
+    chain_of_most(log.words, walk.next, walk.left).any(|x| has_label(log, x, r)
+        && has_path(log, x, r))
 }
 
 // Whether binding `x` has the label of binding `r`.
@@ -204,8 +209,7 @@ fn check_directive(
         return ctx;
     };
     let span = name_span_of(out, r);
-    let none = Span { from: 0, to: 0 };
-    ctx.emit_copied(out, bytes, code, span, none, PathAt::EMPTY)
+    ctx.emit_copied(out, bytes, code, span, NO_SPAN, PathAt::EMPTY)
 }
 
 // The code that a definition of a kind reports, if it reports one.

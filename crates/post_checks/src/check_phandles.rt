@@ -18,7 +18,9 @@ use definition_log::record::{Log, child_of, kind_of, log_count, out_field};
 use input::record::no_text;
 use making::ctx::LowerCtx;
 use making::place::{PathAt, first_place, second_place};
+use making::recs::NO_SPAN;
 use paths_numbers::codes::LABEL_NOT_FOUND;
+use paths_numbers::phandle::MirPhandleTarget;
 use queries::live::live_list;
 use queries::mir::sets_overlay_in;
 use resolving::resolve::{Missing, resolve_target};
@@ -149,7 +151,6 @@ fn check_phandle(out: &mut [u32], bytes: &mut [u8], ctx: LowerCtx, span: Span, r
         (check_target (said ctx out.old bytes.old) (meant span)
         (target_at out.old bytes.old r)) }
 {
-    let none = Span { from: 0, to: 0 };
     let label = target_place(out, r);
     let path = second_place(out, r);
     match resolve_target(
@@ -159,8 +160,8 @@ fn check_phandle(out: &mut [u32], bytes: &mut [u8], ctx: LowerCtx, span: Span, r
         r,
     ) {
         Ok(_) => ctx,
-        Err(Missing::NoLabel) => ctx.emit_copied(out, bytes, LABEL_NOT_FOUND, span, none, label),
-        Err(Missing::NoNode(code)) => ctx.emit_copied(out, bytes, code, span, none, path),
+        Err(Missing::NoLabel) => ctx.emit_copied(out, bytes, LABEL_NOT_FOUND, span, NO_SPAN, label),
+        Err(Missing::NoNode(code)) => ctx.emit_copied(out, bytes, code, span, NO_SPAN, path),
         Err(Missing::NoNodeBelow(code, b)) => {
             ctx.emit_joined_at(out, bytes, code, span, second_place(out, b), path)
         }
@@ -171,8 +172,9 @@ fn check_phandle(out: &mut [u32], bytes: &mut [u8], ctx: LowerCtx, span: Span, r
 fn target_place(out: &[u32], r: u32) -> PathAt
     ensures { result ≡ target_place out.now r }
 {
-    match out_field(out, r, layout::N) {
-        1 | 2 => first_place(out, r),
-        _ => PathAt::EMPTY,
+    match MirPhandleTarget::try_from(out_field(out, r, layout::N)) {
+        Ok(MirPhandleTarget::Label | MirPhandleTarget::LabelPath) => first_place(out, r),
+        Ok(MirPhandleTarget::Path) => PathAt::EMPTY,
+        Err(_) => PathAt::EMPTY,
     }
 }

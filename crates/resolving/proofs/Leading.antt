@@ -6,7 +6,8 @@ use mathlib.Core.List.{List, [], ◌∷◌, ◌++◌, map, append-nil, head-eq_o
 use mathlib.Core.Option.{some, none}
 use native.Mathlib.Omega.{arith}
 use borrow.Author.Tests.{eqb-true}
-use Rattle.std.specs.Prelude.{Option as Maybe, Some, None, Result, Ok, Err}
+use Rattle.std.specs.Prelude.{Option as Maybe, Some, None, Result, Ok, Err, MatchResult, IsErrAnd}
+use Rattle.std.proofs.lemmas.Result.{err_from_is_err_and}
 use lib.Dec.{eqb}
 use lib.Seq.{append_snoc}
 use Rattle.paths_numbers.specs.meaning.Code.{node_not_found, node_ambiguous}
@@ -33,7 +34,7 @@ use Rattle.input.specs.declared.report.Report.{Report}
 use Rattle.paths_numbers.specs.declared.phandle.MirPhandleTarget.{MirPhandleTarget}
 use Rattle.paths_numbers.specs.declared.phandle.MirPhandleTarget.TheVariants as K
 use Rattle.resolving.specs.machine.Leading.{has_text, FirstAt, FirstWith, resolution, InChain, bound_by, Leads}
-use Rattle.resolving.specs.machine.Leading.{AnswersBelow, AnswersPath, ReportsMissing}
+use Rattle.resolving.specs.machine.Leading.{AnswersBelow, AnswersPath, ReportsMissing, node_found}
 use Rattle.making.specs.machine.PathPlaces.{placed_in, path_in}
 use Rattle.making.specs.declared.ctx.LowerCtx.{LowerCtx}
 use Rattle.making.specs.declared.place.PathAt.{PathAt}
@@ -170,17 +171,21 @@ unfolding joined with_unit is_empty
 joined_plain parent name = refl
 
 -- where a reference leads by the look-up of its own path, and of the path below binding n's
+abbrev pub told_missing : (ℕ → Missing) → Result Led ℕ → Result Led Missing
+told_missing f (Ok to) = Ok to
+told_missing f (Err code) = Err (f code)
+
 abbrev pub path_led : Lookup → Result Led Missing
-path_led L.Exact = Ok R.AtPath
-path_led L.NoNode = Err (M.NoNode node_not_found)
-path_led (L.Node r) = Ok (R.Node r)
-path_led L.Several = Err (M.NoNode node_ambiguous)
+path_led v = told_missing M.NoNode (node_found R.AtPath v)
 
 abbrev pub below_led : ℕ → Lookup → Result Led Missing
-below_led n L.Exact = Ok (R.BoundPath n)
-below_led n L.NoNode = Err (M.NoNodeBelow node_not_found n)
-below_led n (L.Node r) = Ok (R.Node r)
-below_led n L.Several = Err (M.NoNodeBelow node_ambiguous n)
+below_led n v = told_missing (λ code. M.NoNodeBelow code n) (node_found (R.BoundPath n) v)
+
+pub told : (f : ℕ → Missing) (r : Result Led ℕ) {o : Result Led Missing} {P : ℕ → Missing → Type 0}
+    → MatchResult r (λ x. o ≡ Ok x) (λ e. IsErrAnd o (P e)) → ((e : ℕ) (d : Missing) → P e d → d ≡ f e)
+    → o ≡ told_missing f r
+told f (Ok x) m h = m
+told f (Err e) {o} m h = let p = err_from_is_err_and o m in p.1 ∙ ap Err (h e p.0 p.2)
 
 module _ (words bytes l p : List ℕ) where
   path_led_lem : (v : Lookup) → resolution words bytes l p (path_led v) ≡ by_lookup p (looked_up words bytes p v)

@@ -2,7 +2,8 @@
 // by the heads of its chains, of any words and bytes.
 ghost use Rattle.definition_log.specs.machine.Parts.{meant};
 ghost use Rattle.resolving.specs.machine.Leading.{AnswersPhandle, AnswersTarget, AnswersLabel, AnswersBelow, AnswersPath};
-ghost use Rattle.resolving.specs.machine.Leading.{FirstWith, ReportsMissing};
+ghost use Rattle.std.specs.Prelude.{◌≡◌};
+ghost use Rattle.resolving.specs.machine.Leading.{FirstWith, ReportsMissing, node_found};
 
 use definition_log::chain::chain;
 use definition_log::layout;
@@ -13,6 +14,7 @@ use input::record::no_text;
 use input::report::Report;
 use making::ctx::LowerCtx;
 use making::place::second_place;
+use making::recs::NO_SPAN;
 use paths_numbers::codes::{LABEL_NOT_FOUND, NODE_AMBIGUOUS, NODE_NOT_FOUND};
 use paths_numbers::phandle::MirPhandleTarget;
 use paths_numbers::text::equals;
@@ -45,6 +47,7 @@ pub struct Found {
 }
 
 // Where a reference leads that can be read.
+// kept: a log and two heads, of which two functions below need one; callers hold both in a LowerCtx, so a struct is made at each call.
 pub fn resolve_phandle(
     words: &[u32],
     text: &[u8],
@@ -75,16 +78,12 @@ pub fn resolve_target(log: Log<'_>, binds: u32, defs: u32, r: u32) -> Result<Lea
     let n = out_field(log.words, r, layout::N);
     let label = log.first_text(r);
     let path = log.second_text(r);
-    if n == 1 {
-        return resolve_label(log, binds, label);
+    match MirPhandleTarget::try_from(n) {
+        Ok(MirPhandleTarget::Label) => resolve_label(log, binds, label),
+        Ok(MirPhandleTarget::LabelPath) => resolve_below(log, binds, defs, label, path),
+        Ok(MirPhandleTarget::Path) => resolve_path(log, defs, path),
+        Err(_) => Err(Missing::NoLabel),
     }
-    if n == 2 {
-        return resolve_below(log, binds, defs, label, path);
-    }
-    if n == 3 {
-        return resolve_path(log, defs, path);
-    }
-    Err(Missing::NoLabel)
 }
 
 // Where a label leads.
@@ -112,23 +111,27 @@ pub fn resolve_below(
     };
     let number = found.number;
     let base = log.second_text(number);
-    match lookup_path(log, defs, base, path) {
-        Lookup::Exact => Ok(Leads::BoundPath(number)),
-        Lookup::Node(node) => Ok(Leads::Node(node)),
-        Lookup::NoNode => Err(Missing::NoNodeBelow(NODE_NOT_FOUND, number)),
-        Lookup::Several => Err(Missing::NoNodeBelow(NODE_AMBIGUOUS, number)),
-    }
+    let found = lookup_path(log, defs, base, path);
+    node_found(found, Leads::BoundPath(number)).map_err(|code| Missing::NoNodeBelow(code, number))
 }
 
 // Where a path leads.
 pub fn resolve_path(log: Log<'_>, defs: u32, path: &[u8]) -> Result<Leads, Missing>
     ensures { AnswersPath log.entry.words.now log.entry.bytes.now defs path.now result }
 {
-    match lookup_in(log, defs, path) {
-        Lookup::Exact => Ok(Leads::AtPath),
+    node_found(lookup_in(log, defs, path), Leads::AtPath).map_err(|code| Missing::NoNode(code))
+}
+
+// The node that a look-up found, which leads as `exact` says where its path is the one looked up; a code where there
+// is none.
+fn node_found(found: Lookup, exact: Leads) -> Result<Leads, u32>
+    ensures { result ≡ node_found exact found }
+{
+    match found {
+        Lookup::Exact => Ok(exact),
         Lookup::Node(r) => Ok(Leads::Node(r)),
-        Lookup::NoNode => Err(Missing::NoNode(NODE_NOT_FOUND)),
-        Lookup::Several => Err(Missing::NoNode(NODE_AMBIGUOUS)),
+        Lookup::NoNode => Err(NODE_NOT_FOUND),
+        Lookup::Several => Err(NODE_AMBIGUOUS),
     }
 }
 
@@ -150,6 +153,7 @@ pub fn first_with(log: Log<'_>, first: u32, text: &[u8]) -> Option<Found>
 }
 
 // Reports a reference that leads nowhere, unless the log in hand is an overlay.
+// kept: check_phandle of post_checks tells the three of places in the log, while the texts here lie outside it.
 pub fn report_unresolved(
     ctx: LowerCtx,
     out: &mut [u32],
@@ -168,10 +172,9 @@ pub fn report_unresolved(
     if sets_overlay_in(out, ctx.defs.first) {
         return ctx;
     }
-    let none = Span { from: 0, to: 0 };
     match missing {
-        Missing::NoLabel => ctx.emit(out, bytes, LABEL_NOT_FOUND, label, span, none),
-        Missing::NoNode(code) => ctx.emit(out, bytes, code, path, span, none),
+        Missing::NoLabel => ctx.emit(out, bytes, LABEL_NOT_FOUND, label, span, NO_SPAN),
+        Missing::NoNode(code) => ctx.emit(out, bytes, code, path, span, NO_SPAN),
         Missing::NoNodeBelow(code, b) => ctx.emit_joined(
             out,
             bytes,

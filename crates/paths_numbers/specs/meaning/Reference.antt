@@ -1,9 +1,10 @@
 -- 01, "Records", kind 8 with W 1: a raw reference, `&{..}`, taken apart: a path, a label and a path, or a label; N of output kind 12.
-use Rattle.std.specs.Prelude.{ℕ, ◌-◌, Bool, true, false, cond, List, [], ◌∷◌, length, take, drop, ◌==◌, slice_index, Option, Some, None}
+use Rattle.std.specs.Prelude.{ℕ, ◌-◌, ◌≡◌, Bool, true, false, cond, List, [], ◌∷◌, length, take, drop, ◌==◌, slice_index, Option, Some, None, Result, MatchResult}
 use Rattle.paths_numbers.specs.meaning.Byte.{slash, ampersand, opening_brace, closing_brace}
 use Rattle.paths_numbers.specs.meaning.Text.{begins, starts_with}
 use Rattle.paths_numbers.specs.declared.phandle.MirPhandleTarget.{MirPhandleTarget}
 use Rattle.paths_numbers.specs.declared.phandle.MirPhandleTarget.TheVariants as K
+use Rattle.paths_numbers.specs.declared.phandle.UnknownTarget.{UnknownTarget}
 
 -- what a reference names
 pub data Target : Type 0 where
@@ -70,12 +71,17 @@ path_of (label_path l p) = p
 path_of (path p) = p
 path_of unreadable = []
 
--- 01's N of a kind that the code names, and what its answer tells, by the same numbers
+-- 01's N of a kind that the code names
 abbrev pub kind_number : MirPhandleTarget → ℕ
 kind_number K.Label = 1
 kind_number K.LabelPath = 2
 kind_number K.Path = 3
 
+-- which kind 01's N names, if it names one
+abbrev pub NumberNames : ℕ → Result MirPhandleTarget UnknownTarget → Type 0
+NumberNames n r = MatchResult r (λ k. n ≡ kind_number k) (λ e. (k : MirPhandleTarget) → n ≡ kind_number k → ⊥)
+
+-- what the code's answer tells, by the same numbers
 abbrev pub target_number : Option MirPhandleTarget → ℕ
 target_number (Some k) = kind_number k
 target_number None = 0

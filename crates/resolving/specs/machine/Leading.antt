@@ -23,6 +23,9 @@ use Rattle.resolving.specs.declared.resolve.Leads.{Leads as Led}
 use Rattle.resolving.specs.declared.resolve.Leads.TheVariants as R
 use Rattle.resolving.specs.declared.resolve.Missing.{Missing}
 use Rattle.resolving.specs.declared.resolve.Missing.TheVariants as M
+use Rattle.queries.specs.declared.lookup.Lookup.{Lookup}
+use Rattle.queries.specs.declared.lookup.Lookup.TheVariants as L
+use Rattle.paths_numbers.specs.meaning.Code.{node_not_found, node_ambiguous}
 
 -- where a reference with this label and this path leads
 unfoldable pub resolution : List ℕ → List ℕ → List ℕ → List ℕ → Result Led Missing → Resolution
@@ -33,6 +36,13 @@ resolution words bytes l p (Ok (R.Node r)) = reaches (first_text words bytes r)
 resolution words bytes l p (Err M.NoLabel) = missing 3 l
 resolution words bytes l p (Err (M.NoNode code)) = missing code p
 resolution words bytes l p (Err (M.NoNodeBelow code r)) = missing code (joined (second_text words bytes r) p [])
+
+-- where a look-up leads, and where it finds its own path; else the code
+abbrev pub node_found : Led → Lookup → Result Led ℕ
+node_found own L.Exact = Ok own
+node_found own (L.Node r) = Ok (R.Node r)
+node_found own L.NoNode = Err node_not_found
+node_found own L.Several = Err node_ambiguous
 
 -- the label that a reference of a log names, empty where it names none
 unfoldable pub target_label : List ℕ → List ℕ → ℕ → List ℕ

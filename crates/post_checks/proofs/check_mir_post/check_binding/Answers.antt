@@ -1,13 +1,14 @@
 -- By whether there is a report on it (Duplicates).
 use mathlib.Core.List.{map}
-use Rattle.definition_log.specs.meaning.ReadBack.{chain_from, binding_at}
+use Rattle.definition_log.specs.meaning.ReadBack.{binding_at}
+use Rattle.definition_log.specs.machine.ChainLeft.{walk_left}
 use Rattle.post_checks.proofs.Duplicates.{binding_none, binding_one}
 use Rattle.post_checks.proofs.check_mir_post.check_binding.Goals as goal
 
 pub returns-then-is_reported : goal.returns-then-is_reported
 returns-then-is_reported c =
     let a = c.args in
-    binding_one a.first a.r (map (binding_at a.out.now a.bytes.now) (chain_from a.passed a.out.now a.after)) _
+    binding_one a.first a.r (map (binding_at a.out.now a.bytes.now) (walk_left a.out.now a.between)) _
     c.is_reported.ensures _ _ _
     c.if-is_reported.true
     c.span_of-span.ensures
@@ -18,5 +19,5 @@ returns-then-is_reported c =
 pub returns : goal.returns
 returns c =
     let a = c.args in
-    binding_none a.first a.r (map (binding_at a.out.now a.bytes.now) (chain_from a.passed a.out.now a.after)) _
+    binding_none a.first a.r (map (binding_at a.out.now a.bytes.now) (walk_left a.out.now a.between)) _
     c.is_reported.ensures c.if-is_reported.false

@@ -1,5 +1,5 @@
 -- The chain behind the first binding is walked (Checks), with the paths seen (Duplicates).
-use Prim.Native.Nat.{ℕ, ◌+◌}
+use Prim.Native.Nat.{ℕ}
 use mathlib.Core.Path.{◌≡◌}
 use mathlib.Core.List.{List, [], ◌∷◌, map}
 use lib.ListN.{length}
@@ -14,7 +14,6 @@ abbrev pub invariant-loop-r : goal.invariant-loop-r
 invariant-loop-r l =
     (length l.out ≡ length l.initial.out)
     × (length l.bytes ≡ length l.initial.bytes)
-    × (l.passed + l.walk.left ≡ l.rest.left)
     × Walks l.initial.made l.made l.initial.out l.initial.bytes l.out l.bytes (l.first ∷ walk_left l.initial.out l.rest)
     l.rest.next l.rest.left l.walk.next l.walk.left
     (duplicates_of (binding_at l.initial.out l.initial.bytes l.first) ((binding_at l.initial.out l.initial.bytes l.first).path ∷ [])

@@ -1,10 +1,10 @@
 -- The chain of bindings is walked (Checks), with the labels seen (Duplicates).
-use Prim.Native.Nat.{ℕ, ◌+◌}
+use Prim.Native.Nat.{ℕ}
 use mathlib.Core.Path.{◌≡◌}
 use mathlib.Core.List.{List, [], map}
 use lib.ListN.{length}
-use Rattle.definition_log.specs.meaning.Record.{log_count}
-use Rattle.definition_log.specs.meaning.ReadBack.{chain_from, binding_at}
+use Rattle.definition_log.specs.meaning.ReadBack.{binding_at}
+use Rattle.definition_log.specs.machine.ChainLeft.{walk_left}
 use Rattle.post_checks.specs.meaning.Post.{duplicate_labels}
 use Rattle.post_checks.proofs.Checks.{Walks}
 use Rattle.post_checks.proofs.Duplicates.{labels_seen}
@@ -14,10 +14,9 @@ abbrev pub invariant-loop-r : goal.invariant-loop-r
 invariant-loop-r l =
     (length l.out ≡ length l.initial.out)
     × (length l.bytes ≡ length l.initial.bytes)
-    × (l.passed + l.walk.left ≡ log_count l.initial.out)
     × Walks l.initial.made l.made l.initial.out l.initial.bytes l.out l.bytes
-    (chain_from (log_count l.initial.out) l.initial.out l.first) l.first (log_count l.initial.out) l.walk.next l.walk.left
-    (duplicate_labels [] (map (binding_at l.initial.out l.initial.bytes) (chain_from (log_count l.initial.out) l.initial.out l.first)))
+    (walk_left l.initial.out l.whole) l.whole.next l.whole.left l.walk.next l.walk.left
+    (duplicate_labels [] (map (binding_at l.initial.out l.initial.bytes) (walk_left l.initial.out l.whole)))
     (λ (passed later : List ℕ). duplicate_labels (labels_seen (map (binding_at l.initial.out l.initial.bytes) passed))
     (map (binding_at l.initial.out l.initial.bytes) later))
 

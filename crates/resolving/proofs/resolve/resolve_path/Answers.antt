@@ -1,20 +1,12 @@
 -- By what the look-up finds (Leading).
-use mathlib.Core.Path.{sym, ap}
-use Rattle.resolving.proofs.Leading.{path_led, answers_path}
+use mathlib.Core.Path.{ap, ◌∙◌}
+use borrow.Author.Rules.{rules}
+use Rattle.std.proofs.Common.{tests}
+use Rattle.resolving.specs.declared.resolve.Missing.TheVariants.{NoNode}
+use Rattle.resolving.proofs.Leading.{told, told_missing, answers_path}
 use Rattle.resolving.proofs.resolve.resolve_path.Goals as goal
 
-pub returns-in-Exact : goal.returns-in-Exact
-returns-in-Exact c = answers_path c.lookup_in.result _ (sym (ap path_led c.in-Exact.is))
-    c.lookup_in.ensures
-
-pub returns-in-Node : goal.returns-in-Node
-returns-in-Node c = answers_path c.lookup_in.result _ (sym (ap path_led c.in-Node.is))
-    c.lookup_in.ensures
-
-pub returns-in-NoNode : goal.returns-in-NoNode
-returns-in-NoNode c = answers_path c.lookup_in.result _ (sym (ap path_led c.in-NoNode.is))
-    c.lookup_in.ensures
-
-pub returns-in-Several : goal.returns-in-Several
-returns-in-Several c = answers_path c.lookup_in.result _ (sym (ap path_led c.in-Several.is))
+pub returns : goal.returns
+returns c = answers_path c.lookup_in.result _
+    (told NoNode _ c.map_err.ensures.cases (λ e d p. search (rules, tests)) ∙ ap (told_missing NoNode) c.node_found.ensures)
     c.lookup_in.ensures
