@@ -4,11 +4,10 @@ use mathlib.Core.Path.{◌≡◌, refl, sym, ap, ◌∙◌}
 use mathlib.Core.List.{List, [], ◌∷◌, ◌++◌, map, flat_map}
 use Rattle.definition_log.specs.meaning.Record.{first_def, first_bind, first_diag, first_post}
 use Rattle.definition_log.specs.meaning.ReadBack.{chain_of, read_defs, read_bindings, read_diags, read_log, def_at, binding_at, diag_at}
-use Rattle.listing.specs.declared.lines.Kind.TheVariants.{Definition, Binding, Diagnostic}
 use Rattle.listing.specs.declared.page.Page.{Page}
 use Rattle.listing.specs.meaning.Listing.{definition_lines, binding_line, diagnostic_line, last_line, listing}
 use Rattle.listing.specs.machine.Page.{put, Puts}
-use Rattle.listing.specs.machine.Chains.{record_lines, chain_lines}
+use Rattle.listing.specs.machine.Chains.{definition_record, binding_record, diagnostic_record, chain_lines}
 use Rattle.listing.proofs.Pages.{put_append}
 
 -- w is the page with the whole chain, and the invariant says that what is left of the chain, rest, gives it
@@ -28,9 +27,9 @@ lines_of line rec [] = refl
 lines_of line rec (r ∷ rs) = ap (λ (s : List ℕ). line (rec r) ++ s) (lines_of line rec rs)
 
 -- the four chains and the last line are the listing of a log
-pub chains_listed : (words bytes : List ℕ) → chain_lines Definition 1 words bytes ++ chain_lines Binding 3 words bytes
-    ++ chain_lines Diagnostic 4 words bytes ++ chain_lines Diagnostic 6 words bytes ++ last_line ≡ listing (read_log words bytes)
-unfolding chain_lines record_lines listing read_log read_defs read_bindings read_diags
+pub chains_listed : (words bytes : List ℕ) → chain_lines definition_record 1 words bytes ++ chain_lines binding_record 3 words bytes
+    ++ chain_lines diagnostic_record 4 words bytes ++ chain_lines diagnostic_record 6 words bytes ++ last_line ≡ listing (read_log words bytes)
+unfolding chain_lines listing read_log read_defs read_bindings read_diags
 chains_listed words bytes =
     rw (
       lines_of definition_lines (def_at words bytes) (chain_of words (first_def words)),

@@ -6,7 +6,6 @@ ghost use Rattle.definition_log.specs.meaning.ReadBack.{read_labels, def_value_a
 ghost use Rattle.listing.specs.meaning.Listing.{letter, path_field, definition_line, label_line, definition_lines, binding_line};
 ghost use Rattle.listing.specs.meaning.Listing.{diagnostic_line, refusal_line};
 ghost use Rattle.listing.specs.machine.Page.{Puts};
-ghost use Rattle.listing.specs.machine.Chains.{record_lines};
 
 use crate::page::Page;
 use definition_log::answer::Refusal;
@@ -16,27 +15,8 @@ use definition_log::layout;
 use definition_log::parts::{name_span_of, span_of};
 use definition_log::record::{Log, child_of, kind_of, out_field};
 
-// What the records of a chain are.
-#[derive(Clone, Copy, Debug, PartialEq, Eq)]
-pub enum Kind {
-    Definition,
-    Binding,
-    Diagnostic,
-}
-
-// A record of a chain of this kind.
-pub fn put_record(log: Log<'_>, kind: Kind, r: u32, page: &mut Page)
-    ensures { Puts (record_lines kind log.entry.words.now log.entry.bytes.now r) page.old page.new }
-{
-    match kind {
-        Kind::Definition => put_definition(log, r, page),
-        Kind::Binding => put_binding(log, r, page),
-        Kind::Diagnostic => put_diagnostic(log.words, r, page),
-    }
-}
-
 // A definition with its labels.
-fn put_definition(log: Log<'_>, r: u32, page: &mut Page)
+pub fn put_definition(log: Log<'_>, r: u32, page: &mut Page)
     ensures { Puts (definition_lines (def_at log.entry.words.now log.entry.bytes.now r)) page.old page.new }
 {
     put_definition_line(log, r, page);
@@ -99,7 +79,7 @@ fn put_label(page: &mut Page, label: &[u8])
 }
 
 // A binding.
-fn put_binding(log: Log<'_>, r: u32, page: &mut Page)
+pub fn put_binding(log: Log<'_>, r: u32, page: &mut Page)
     ensures { Puts (binding_line (binding_at log.entry.words.now log.entry.bytes.now r)) page.old page.new }
 {
     page.put_text(b"B ");
@@ -110,13 +90,13 @@ fn put_binding(log: Log<'_>, r: u32, page: &mut Page)
     page.put_byte(b'\n');
 }
 
-// A diagnostic, whatever its text is.
-fn put_diagnostic(words: &[u32], r: u32, page: &mut Page)
-    ensures { (bytes : List ℕ) → Puts (diagnostic_line (diag_at words.now bytes r)) page.old page.new }
+// A diagnostic.
+pub fn put_diagnostic(log: Log<'_>, r: u32, page: &mut Page)
+    ensures { Puts (diagnostic_line (diag_at log.entry.words.now log.entry.bytes.now r)) page.old page.new }
 {
     page.put_text(b"M ");
-    page.put_number(out_field(words, r, layout::N));
-    page.put_span(span_of(words, r));
+    page.put_number(out_field(log.words, r, layout::N));
+    page.put_span(span_of(log.words, r));
     page.put_byte(b'\n');
 }
 

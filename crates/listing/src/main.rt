@@ -1,11 +1,14 @@
 // Reads a description from standard input, lowers it and prints the listing of its log.
 #![tactic(auto)]
 
-ghost use Rattle.std.specs.Prelude.{ℕ, ◌*◌, ◌≤◌, ◌≡◌, List, length, take, replicate, OnOk, IfSome};
+ghost use Rattle.std.specs.Prelude.{ℕ, ◌+◌, ◌*◌, ◌≤◌, ◌≡◌, List, length, take, replicate, OnOk, IfOk, IfErr, IfSome};
+ghost use Rattle.definition_log.specs.meaning.Answer.{refused};
+ghost use Rattle.input.specs.meaning.Rows.{most_records};
+ghost use Rattle.listing.specs.meaning.Listing.{refusal_line};
 ghost use Rattle.std.specs.Io.KnownBytes.{Appends};
 ghost use Rattle.listing.specs.machine.Page.{page_at, Puts, IsPrefixLen};
 ghost use Rattle.listing.specs.meaning.Program.{word_bytes, most_words, words_of, out_length, bytes_length, listed, printed};
-ghost use Rattle.listing.specs.meaning.Program.{most_printed, most_read, ReadOf};
+ghost use Rattle.listing.specs.meaning.Program.{count_in, most_printed, most_read, ReadOf};
 
 mod lines;
 mod listing;
@@ -64,23 +67,34 @@ fn list_whole(buffer: &[u8], n: usize, page: &mut Page)
 fn list_input(input: &[u8], page: &mut Page)
     ensures { Puts (printed input.now) page.old page.new }
 {
+    match records_of(input) {
+        Ok(count) => list_records(
+            &input[WORD_BYTES..],
+            count * RECORD_WORDS,
+            &input[WORD_BYTES + count * RECORD_BYTES..],
+            page,
+        ),
+        Err(refusal) => put_refusal(refusal, page),
+    }
+}
+
+// How many records an input has, which are all there.
+fn records_of(input: &[u8]) -> Result<usize, Refusal>
+    ensures count { IfOk result (λ n. (n ≡ count_in input.now) × (4 + n * 32 ≤ length input.now) × (n ≤ most_records)) }
+    ensures refusal { IfErr result (λ e. refusal_line (refused e).number (refused e).returned ≡ printed input.now) }
+{
     if input.len() < WORD_BYTES {
-        return put_refusal(Refusal::Size, page);
+        return Err(Refusal::Size);
     }
     let count = word_at(input, 0) as usize;
     let from = WORD_BYTES + count * RECORD_BYTES;
     if input.len() < from {
-        return put_refusal(Refusal::Size, page);
+        return Err(Refusal::Size);
     }
     if MOST_RECORDS < count {
-        return put_refusal(Refusal::Size, page);
+        return Err(Refusal::Size);
     }
-    list_records(
-        &input[WORD_BYTES..],
-        count * RECORD_WORDS,
-        &input[from..],
-        page,
-    )
+    Ok(count)
 }
 
 // The same for the bytes of `n` words, and a text.

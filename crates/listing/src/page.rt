@@ -62,6 +62,7 @@ impl Page {
     }
 
     // A span behind a space.
+    // kept: no Display of Span, which would need a Write for Page beside it: two impls for these four lines.
     pub fn put_span(&mut self, span: Span)
         ensures { Puts (span_field (meant span)) self.old self.new }
     {

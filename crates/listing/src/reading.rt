@@ -23,6 +23,7 @@ pub fn read_words(s: &[u8], n: usize, words: &mut [u32])
     requires { (n * word_bytes ≤ length s.now) × (n ≤ length words.old) }
     ensures { words.new ≡ written words.old 0 (words_of n s.now) }
 {
+    // kept: an index, for a proof does not learn what was written through `iter_mut().zip(..)`.
     for i in 0..n {
         words[i] = word_at(s, i * WORD_BYTES);
     }

@@ -9,15 +9,9 @@ use std::io;
 
 // A chain: how many records it has, and each of them with the chains that it has.
 #[cycle(chain_chains_of)]
-pub fn chain<R: Print>(
-    log: Log<'_>,
-    has: ChainOf,
-    first: u32,
-    what: &str,
-    t: &mut Tally<R>,
-) -> io::Result<()> {
+pub fn chain<R: Print>(log: Log<'_>, has: ChainOf, first: u32, t: &mut Tally<R>) -> io::Result<()> {
     let count = t.sample.peek();
-    counted(log.words, first, t, what)?;
+    counted(log.words, has, first, t)?;
     let mut r = first;
     for _ in 0..count {
         let kind = t.sample.peek();
@@ -41,26 +35,27 @@ fn chains_of<R: Print>(
     match has {
         ChainOf::Extensions => {
             let body = out_field(log.words, r, layout::M);
-            chain(log, ChainOf::Definitions, body, "number of definitions", t)
+            chain(log, ChainOf::Definitions, body, t)
         }
         ChainOf::Definitions => {
             let labels = child_if(log.words, r, NODE);
             let values = child_if(log.words, r, PROPERTY);
-            chain(log, ChainOf::Labels, labels, "number of labels", t)?;
-            chain(log, ChainOf::Values, values, "number of values", t)
+            chain(log, ChainOf::Labels, labels, t)?;
+            chain(log, ChainOf::Values, values, t)
         }
         ChainOf::Values => {
             if kind != CELL_LIST {
                 return Ok(());
             }
             let cells = child_of(log.words, r);
-            chain(log, ChainOf::Cells, cells, "number of cells", t)
+            chain(log, ChainOf::Cells, cells, t)
         }
         _ => Ok(()),
     }
 }
 
 // The children of a record that is of a kind.
+// kept: 0 for none, which is how the words of the log say it
 fn child_if(out: &[u32], r: u32, kind: u32) -> u32 {
     if kind_of(out, r) == kind {
         child_of(out, r)
@@ -70,7 +65,8 @@ fn child_if(out: &[u32], r: u32, kind: u32) -> u32 {
 }
 
 // Compares a chain's length with the number that is recorded; it has no first record if that is 0.
-fn counted<R: Print>(out: &[u32], first: u32, t: &mut Tally<R>, what: &str) -> io::Result<()> {
+fn counted<R: Print>(out: &[u32], has: ChainOf, first: u32, t: &mut Tally<R>) -> io::Result<()> {
+    let what = has.number_name();
     let none = t.sample.peek() == 0;
     t.noted((first == 0) == none, what)?;
     t.number(chain_len(out, first), what)

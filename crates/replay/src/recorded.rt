@@ -1,7 +1,5 @@
 // Numbers and texts of the sample. Every method answers for any bytes: what lies behind the end reads as 0, and a text ends where the bytes
 // do.
-ghost use Rattle.std.specs.Prelude.{◌≤◌, length};
-
 // The byte that a number of five bytes starts with.
 const LONG: u8 = 255;
 
@@ -42,19 +40,23 @@ impl<'a> Sample<'a> {
         text
     }
 
-    // Puts the next list of numbers at the start of `words`, as far as they reach, and answers how many of them it put there.
-    pub fn numbers(&mut self, words: &mut [u32]) -> usize
-        ensures { result ≤ length words.new }
-    {
-        let mut n = 0;
-        for _ in 0..self.number() {
-            let number = self.number();
-            if n < words.len() {
-                words[n] = number;
-                n += 1;
-            }
+    // Puts the next list of numbers at the start of `words`, as far as they reach, and returns those that it put there.
+    pub fn numbers<'w>(&mut self, words: &'w mut [u32]) -> &'w [u32] {
+        let count = self.number() as usize;
+        let n = count.min(words.len());
+        let list = &mut words[..n];
+        for word in list.iter_mut() {
+            *word = self.number();
         }
-        n
+        self.skip(count - n);
+        list
+    }
+
+    // Reads so many numbers more.
+    fn skip(&mut self, count: usize) {
+        for _ in 0..count {
+            self.number();
+        }
     }
 }
 

@@ -19,6 +19,21 @@ pub enum ChainOf {
     Diagnostics,
 }
 
+impl ChainOf {
+    // What the number of a chain's records is printed as.
+    pub fn number_name(self) -> &'static str {
+        match self {
+            ChainOf::Cells => "number of cells",
+            ChainOf::Labels => "number of labels",
+            ChainOf::Values => "number of values",
+            ChainOf::Definitions => "number of definitions",
+            ChainOf::Extensions => "number of extensions",
+            ChainOf::Bindings => "number of bindings",
+            ChainOf::Diagnostics => "number of diagnostics",
+        }
+    }
+}
+
 // A record of a chain.
 pub fn record_itself<R: Print>(
     log: Log<'_>,

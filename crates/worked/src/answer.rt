@@ -140,6 +140,7 @@ fn evaluated<W: Write>(out: &mut W, r: Result<i64, EvalError>) -> io::Result<()>
 }
 
 // The width that a field names, 64 bits where it names none.
+// kept: beside `BitsSize::from_token`, which reads an empty text as 32 bits and takes other ways to write a number.
 fn size_of(text: &[u8]) -> BitsSize {
     match text {
         b"8" => BitsSize::Bits8,
