@@ -8,7 +8,7 @@ ghost use Rattle.queries.specs.meaning.Query.{live_numbers};
 ghost use Rattle.queries.specs.machine.Lists.{live_in};
 ghost use Rattle.queries.specs.machine.Table.{least_heads, many_heads, Table, Room, RoomForOne, Listed};
 
-use crate::later::{LaterDefs, LaterTable};
+use crate::later::{LaterDefs, LaterTable, Taken};
 use crate::list::fit;
 use definition_log::chain::chain;
 use definition_log::kinds::{DELETED_NODE, DELETED_PROPERTY, PROPERTY};
@@ -113,14 +113,14 @@ fn pass<'x>(
     let kind = kind_of(log.words, r);
     let path = log.first_text(r);
     if kind == DELETED_NODE {
-        table.enter_at(true, path, later.len());
+        table.enter_at(Taken::Node, path, later.len());
         return false;
     }
     if !lies_under(path, base) {
         return false;
     }
     if kind == DELETED_PROPERTY {
-        table.enter_at(false, path, later.len());
+        table.enter_at(Taken::Property, path, later.len());
         return false;
     }
     let seen = LaterDefs { log, later, table };
@@ -128,7 +128,7 @@ fn pass<'x>(
     if kind != PROPERTY {
         return !above.deleted;
     }
-    let overwritten = seen.holds(false, path, above.hash);
-    table.enter(false, above.hash, later.len());
+    let overwritten = seen.holds(Taken::Property, path, above.hash);
+    table.enter(Taken::Property, above.hash, later.len());
     !(above.deleted || overwritten)
 }

@@ -12,7 +12,7 @@ use Rattle.queries.proofs.later.LaterTable.finds.Given as goal
 abbrev pub invariant-loop-e : goal.invariant-loop-e
 invariant-loop-e l =
     let def = def_at l.log.words.now l.log.bytes.now in
-    let wanted = takes_at l.deleted l.path in
+    let wanted = takes_at l.taken l.path in
     let rest = drop (length l.later - l.e) l.later in
     (l.e ≤ length l.later) × (any wanted (map def l.later) ≡ any wanted (map def rest)) × Holds def wanted l.self.links.now rest l.e
 
