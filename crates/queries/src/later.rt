@@ -9,7 +9,7 @@ ghost use Rattle.paths_numbers.specs.meaning.Path.{root};
 ghost use Rattle.definition_log.specs.meaning.ReadBack.{def_at};
 ghost use Rattle.paths_numbers.specs.meaning.Lists.{any};
 ghost use Rattle.queries.specs.meaning.Live.{deletes};
-ghost use Rattle.queries.specs.machine.Table.{mixed, hash_from, place_of, slot_of, Holds, deleted_at, of_node, takes_at, Deleted, Sized};
+ghost use Rattle.queries.specs.machine.Table.{mixed, hash_from, place_of, slot_of, Held, deleted_at, of_node, takes_at, Deleted, Sized};
 ghost use Rattle.queries.specs.machine.Table.{RoomForOne};
 
 use crate::definition::{is_deleted_at, overwrites_at};
@@ -62,7 +62,7 @@ impl LaterTable<'_> {
 
     // Whether a list holds a deleted node at a path, or a property or deleted property there.
     fn finds(&self, log: Log<'_>, later: &[u32], first: u32, taken: Taken, path: &[u8]) -> bool
-        requires holds { Holds (def_at log.words.now log.bytes.now) (takes_at taken path.now) self.now.links.now later.now first }
+        requires held { Held (def_at log.words.now log.bytes.now) (takes_at taken path.now) self.now.links.now later.now first }
         requires later_in_bounds { length later.now ≤ length self.now.links.now }
         ensures { result ≡ any (takes_at taken path.now)
             (map (def_at log.entry.words.now log.entry.bytes.now) later.now) }
@@ -81,20 +81,20 @@ impl LaterTable<'_> {
 }
 
 // A table that is looked into, with a link for each of a log's later definitions.
-// kept: that it finds deleted nodes is a clause and no field, since `holds` does not ask for it.
 #[derive(Clone, Copy)]
 pub struct LaterDefs<'a, 'b> {
     pub log: Log<'a>,
     pub later: &'a [u32],
     pub table: &'a LaterTable<'b>,
     pub ghost sized: { Sized table.now.heads.now table.now.links.now later.now },
+    pub ghost finds_deleted: { Deleted (def_at log.words.now log.bytes.now) table.now.heads.now table.now.links.now later.now },
 }
 
 impl LaterDefs<'_, '_> {
     // Whether a later definition is a deleted node at a path, which has this hash, or a property or
     // deleted property there.
     pub fn holds(self, taken: Taken, path: &[u8], hash: u32) -> bool
-        requires { Holds (def_at self.log.words.now self.log.bytes.now) (takes_at taken path.now)
+        requires { Held (def_at self.log.words.now self.log.bytes.now) (takes_at taken path.now)
             self.table.now.links.now self.later.now
             (get_or self.table.now.heads.now (slot_of (length self.table.now.heads.now) (of_node taken) hash) 0) }
         ensures { result ≡ any (takes_at taken path.now)
@@ -108,8 +108,6 @@ impl LaterDefs<'_, '_> {
     // Whether a later definition deletes the node at a path or one above it, and the path's hash. Each
     // byte goes into the hash, so that the loop goes byte by byte.
     pub fn look_above(self, path: &[u8]) -> Above
-        requires { Deleted (def_at self.log.words.now self.log.bytes.now)
-            self.table.now.heads.now self.table.now.links.now self.later.now }
         ensures { result ≡ record {
           deleted = any (deletes path.now)
               (map (def_at self.entry.log.words.now self.entry.log.bytes.now) self.entry.later.now);
@@ -132,8 +130,6 @@ impl LaterDefs<'_, '_> {
 
     // Whether a later definition deletes "/", where a path lies under it.
     fn root_deleted(self, path: &[u8]) -> bool
-        requires { Deleted (def_at self.log.words.now self.log.bytes.now)
-            self.table.now.heads.now self.table.now.links.now self.later.now }
         ensures { result ≡ cond (starts_with slash path.now)
             (any (deleted_at root) (map (def_at self.entry.log.words.now self.entry.log.bytes.now) self.entry.later.now)) false }
     {
@@ -148,9 +144,7 @@ impl LaterDefs<'_, '_> {
 
     // Whether a later definition deletes the node at a path, which has this hash, if none was found before.
     fn or_deleted(self, path: &[u8], hash: u32, found: bool) -> bool
-        requires deleted { Deleted (def_at self.log.words.now self.log.bytes.now)
-            self.table.now.heads.now self.table.now.links.now self.later.now }
-        requires hash_value { hash ≡ hash_from 0 path.now }
+        requires { hash ≡ hash_from 0 path.now }
         ensures { result ≡ cond found true (any (deleted_at path.now)
             (map (def_at self.entry.log.words.now self.entry.log.bytes.now) self.entry.later.now)) }
     {

@@ -67,6 +67,10 @@ pub record Holds (def : ℕ → Def) (wanted : Def → Bool) (links later : List
   pub head : first ≡ first_of def test later
   pub linked : Linked def test links later
 
+-- the same as a fact: that there is such a list
+abbrev pub Held : (ℕ → Def) → (Def → Bool) → List ℕ → List ℕ → ℕ → Type 0
+Held def wanted links later first = ∥ Holds def wanted links later first ∥₁
+
 -- that a table has its heads and links
 pub record Table (def : ℕ → Def) (base : List ℕ) (room : ℕ) (heads links later : List ℕ) : Type 0 where
   pub headed : (slot : ℕ) → slot < room → get_or heads slot 0 ≡ first_of def (in_list base room slot) later
@@ -88,7 +92,7 @@ takes_at T.Property path d = overwrites path d
 
 -- that a table finds every deleted node by its path
 pub record Deleted (def : ℕ → Def) (heads links later : List ℕ) : Type 0 where
-  pub at : (path : List ℕ) → Holds def (deleted_at path) links later (get_or heads (slot_of (length heads) true (hash_from 0 path)) 0)
+  pub at : (path : List ℕ) → Held def (deleted_at path) links later (get_or heads (slot_of (length heads) true (hash_from 0 path)) 0)
 
 -- that a table has its heads, and a link for each definition
 abbrev pub Sized : List ℕ → List ℕ → List ℕ → Type 0

@@ -50,8 +50,8 @@ returns-then-kind-eq-DELETED_PROPERTY c =
       lengths = (same_length _ _ _ e.heads_after, same_length _ _ _ e.links_after);
     }
 
-pub look_above-above-requires : goal.look_above-above-requires
-look_above-above-requires c =
+pub invariant_of-seen-clause-finds_deleted : goal.invariant_of-seen-clause-finds_deleted
+invariant_of-seen-clause-finds_deleted c =
     let a = c.args in
     let t = a.table.now in
     deleted_held (def_at a.log.words.now a.log.bytes.now) a.base.now t.heads.now t.links.now a.later.now c.requires.room_for_one.0

@@ -16,4 +16,4 @@ bounds-self-slot c =
     omega (arith, c.slot_of-slot.ensures, slot_most (length a.self.table.now.heads.now) (of_node a.taken) a.hash a.self.sized.0)
 
 pub finds-requires : goal.finds-requires
-finds-requires c = rw c.slot_of-slot.ensures (record { holds = c.requires; later_in_bounds = c.args.self.sized.1 })
+finds-requires c = rw c.slot_of-slot.ensures (record { held = c.requires; later_in_bounds = c.args.self.sized.1 })

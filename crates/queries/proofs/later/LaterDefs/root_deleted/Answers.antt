@@ -21,7 +21,7 @@ pub or_deleted-requires : goal.or_deleted-requires
 or_deleted-requires c =
     let a = c.args in
     let f = first_slash a.path.now c.if-path-eq0.false c.if-path-ne47.false in
-    record { deleted = c.requires; hash_value = rw f.1 (sym root_hash) }
+    rw f.1 (sym root_hash)
 
 pub returns : goal.returns
 returns c =

@@ -9,14 +9,14 @@ pub loop-e-init : goal.loop-e-init
 loop-e-init c =
     let a = c.args in
     search_start (def_at a.log.words.now a.log.bytes.now) (takes_at a.taken a.path.now) a.self.now.links.now a.later.now a.first
-    c.requires.holds
+    c.requires.held
 
 pub returns-then-takes_at : goal.returns-then-takes_at
 returns-then-takes_at c =
     let a = c.args in
     let l = c.loop-e in
     sym (l.invariant.1 ∙ search_hit (def_at a.log.words.now a.log.bytes.now) (takes_at a.taken a.path.now) a.self.now.links.now
-    a.later.now l.e (omega arith) (omega arith) l.invariant.2 (sym c.takes_at.ensures ∙ c.if-takes_at.true))
+    a.later.now l.e (omega arith) (omega arith) (sym c.takes_at.ensures ∙ c.if-takes_at.true))
 
 pub loop-e-smaller : goal.loop-e-smaller
 loop-e-smaller c =
