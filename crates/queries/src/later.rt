@@ -133,13 +133,10 @@ impl LaterDefs<'_, '_> {
         ensures { result ≡ cond (starts_with slash path.now)
             (any (deleted_at root) (map (def_at self.entry.log.words.now self.entry.log.bytes.now) self.entry.later.now)) false }
     {
-        if path.len() == 0 {
-            return false;
+        match path {
+            [b'/', ..] => self.or_deleted(b"/", ROOT_HASH, false),
+            _ => false,
         }
-        if path[0] != b'/' {
-            return false;
-        }
-        self.or_deleted(&path[..1], ROOT_HASH, false)
     }
 
     // Whether a later definition deletes the node at a path, which has this hash, if none was found before.

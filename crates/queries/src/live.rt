@@ -60,6 +60,7 @@ fn chain_order<'a>(words: &[u32], first: u32, numbers: &'a mut [u32]) -> &'a [u3
     requires { log_count words.now ≤ length numbers.old }
     ensures { result.now ≡ chain_of words.now first }
 {
+    // kept: a count, since how much of the array is filled is wanted behind the loop, where `enumerate` is gone
     let mut count = 0;
     for r in chain(words, first) {
         numbers[count] = r;
@@ -79,20 +80,22 @@ fn live_of<'a>(
     requires { Room (length order.now) order.now table.old.heads.now table.old.links.now live.old }
     ensures { result.now ≡ live_numbers (def_at log.entry.words.now log.entry.bytes.now) base.now order.now }
 {
+    // kept: a count of what is written, which is not each record, and is wanted behind the loop
     let mut count = 0;
-    for i in (0..order.len()).rev() {
-        let r = order[i];
-        if pass(log, base, r, &order[i + 1..], table) {
-            live[count] = r;
+    let mut left = order;
+    while let Some((r, earlier)) = left.split_last() {
+        if pass(log, base, *r, &order[left.len()..], table) {
+            live[count] = *r;
             count += 1;
         }
+        left = earlier;
     }
     &live[..count]
 }
 
 // Whether a definition is live under a base, by the table of the later ones, into which it is
 // entered if it can take something away.
-// kept: one lifetime with a name, which the check of borrows asks for where one struct holds the log, the list and the table.
+// One lifetime with a name, which the check of borrows asks for where one struct holds the log, the list and the table.
 fn pass<'x>(
     log: Log<'x>,
     base: &[u8],
