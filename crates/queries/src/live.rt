@@ -113,25 +113,24 @@ fn pass<'x>(
     ensures lengths { (length table.new.heads.now ≡ length table.old.heads.now)
         × (length table.new.links.now ≡ length table.old.links.now) }
 {
-    let kind = kind_of(log.words, r);
     let path = log.first_text(r);
-    if kind == DELETED_NODE {
-        table.enter_at(Taken::Node, path, later.len());
-        return false;
+    match kind_of(log.words, r) {
+        DELETED_NODE => {
+            table.enter_at(Taken::Node, path, later.len());
+            false
+        }
+        _ if !lies_under(path, base) => false,
+        DELETED_PROPERTY => {
+            table.enter_at(Taken::Property, path, later.len());
+            false
+        }
+        PROPERTY => {
+            let seen = LaterDefs { log, later, table };
+            let above = seen.look_above(path);
+            let overwritten = seen.holds(Taken::Property, path, above.hash);
+            table.enter(Taken::Property, above.hash, later.len());
+            !(above.deleted || overwritten)
+        }
+        _ => !LaterDefs { log, later, table }.look_above(path).deleted,
     }
-    if !lies_under(path, base) {
-        return false;
-    }
-    if kind == DELETED_PROPERTY {
-        table.enter_at(Taken::Property, path, later.len());
-        return false;
-    }
-    let seen = LaterDefs { log, later, table };
-    let above = seen.look_above(path);
-    if kind != PROPERTY {
-        return !above.deleted;
-    }
-    let overwritten = seen.holds(Taken::Property, path, above.hash);
-    table.enter(Taken::Property, above.hash, later.len());
-    !(above.deleted || overwritten)
 }
