@@ -67,7 +67,7 @@ impl LaterTable<'_> {
         ensures { result ≡ any (takes_at taken path.now)
             (map (def_at log.entry.words.now log.entry.bytes.now) later.now) }
     {
-        // kept: the next entry is read at the one before it, for which the library has no iterator
+        // kept: over `successors` its two closures need the bound on an entry that the loop's invariant has, which is no plainer
         let mut e = first as usize;
         while 0 < e {
             if takes_at(log, later[later.len() - e], taken, path) {
