@@ -4,7 +4,7 @@
 
 ghost use Rattle.std.specs.Prelude.{◌≡◌, length};
 ghost use Rattle.definition_log.specs.meaning.Alike.{Words32};
-ghost use Rattle.queries.specs.meaning.Query.{query_answer, query_out, live_answers, history_answers, contains_answer};
+ghost use Rattle.queries.specs.meaning.Query.{query_answer, query_out, live_answers, history_answers, contains_answer, told_found};
 ghost use Rattle.lowering.specs.meaning.Lowered.{Lowered};
 ghost use Rattle.definition_log.specs.meaning.Answer.{told_done};
 ghost use Rattle.definition_log.specs.meaning.Answer.{told as answer_told};
@@ -40,6 +40,14 @@ impl From<Result<(), Refusal>> for DlAnswer {
 
     fn from(answer: Result<(), Refusal>) -> DlAnswer {
         DlAnswer::from(answer.map(|()| 0))
+    }
+}
+
+impl From<Result<bool, Refusal>> for DlAnswer {
+    ghost from_gives = { λ answer a. told a ≡ told_found answer };
+
+    fn from(answer: Result<bool, Refusal>) -> DlAnswer {
+        DlAnswer::from(answer.map(u32::from))
     }
 }
 

@@ -1,12 +1,12 @@
 -- The answers of the queries by record numbers: that they stand for the definitions that are meant, and how a walk over a chain makes them.
-use Prim.Native.Nat.{ℕ, suc, ◌+◌, ◌-◌, ◌≤◌, ◌<◌}
+use Prim.Native.Nat.{ℕ, ◌+◌, ◌-◌, ◌≤◌, ◌<◌}
 use mathlib.Core.Path.{◌≡◌, refl, sym, ap, ◌∙◌}
 use mathlib.Core.Bool.{Bool, true, false, cond}
 use mathlib.Core.List.{List, [], ◌∷◌, ◌++◌, map, append-nil, append_assoc}
 use native.Mathlib.Omega.{arith}
 use borrow.Author.Tests.{le-leb, lt-leb}
-use lib.ListN.{length, get_or, take, drop, set, replicate, length-append, length-drop, length-replicate}
-use lib.Seq.{drop-cons, drop-length, take_all, length-take-le, take-append_seam}
+use lib.ListN.{length, take, drop, set, replicate, length-append, length-drop, length-replicate}
+use lib.Seq.{drop-length, take_all, length-take-le, take-append_seam, drop-append_seam}
 use Rattle.std.proofs.lemmas.List.{take_more_set}
 use Rattle.paths_numbers.specs.meaning.Text.{same, written}
 use Rattle.paths_numbers.proofs.Texts.{by_test}
@@ -93,22 +93,27 @@ module _ (d : List ℕ) (n : ℕ) {w to_come : List ℕ} (inv : w ≡ take n d +
   pub all_collected : to_come ≡ [] → take n d ≡ w
   all_collected e = sym (inv ∙ rw (e, append-nil) refl)
 
--- the live numbers from one record of a chain on, by those from the next one on
-module _ (def : ℕ → Def) (base order : List ℕ) (i : ℕ) (b : 0 < i) (m : i ≤ length order) where
-  pub one_before : drop (i - 1) order ≡ get_or order (i - 1) 0 ∷ drop i order
-  one_before =
-      let n : suc (i - 1) ≡ i = omega arith in
-      drop-cons order (i - 1) 0 (omega arith) ∙ ap (λ (k : ℕ). get_or order (i - 1) 0 ∷ drop k order) n
+-- the live numbers from one record of a chain on, by those from the next one on, where the chain is walked from its end
+module _ (def : ℕ → Def) (base order left earlier : List ℕ) (r : ℕ) (i : order ≡ left ++ drop (length left) order)
+    (e : left ≡ earlier ++ r ∷ []) where
+  parts : order ≡ earlier ++ r ∷ drop (length left) order
+  parts = i ∙ ap (λ (x : List ℕ). x ++ drop (length left) order) e ∙ append_assoc earlier (r ∷ []) (drop (length left) order)
 
-  pub live_taken : is_live base (def (get_or order (i - 1) 0)) (map def (drop i order)) ≡ true
-      → live_numbers def base (drop (i - 1) order) ≡ live_numbers def base (drop i order) ++ get_or order (i - 1) 0 ∷ []
+  pub one_before : drop (length earlier) order ≡ r ∷ drop (length left) order
+  one_before = ap (drop (length earlier)) parts ∙ drop-append_seam earlier (r ∷ drop (length left) order)
+
+  pub still_parts : order ≡ earlier ++ drop (length earlier) order
+  still_parts = parts ∙ ap (λ (x : List ℕ). earlier ++ x) (sym one_before)
+
+  pub live_taken : is_live base (def r) (map def (drop (length left) order)) ≡ true
+      → live_numbers def base (drop (length earlier) order) ≡ live_numbers def base (drop (length left) order) ++ r ∷ []
   unfolding live_numbers
   live_taken t = rw (one_before, t) refl
 
-  pub live_passed : is_live base (def (get_or order (i - 1) 0)) (map def (drop i order)) ≡ false
-      → live_numbers def base (drop (i - 1) order) ≡ live_numbers def base (drop i order)
+  pub live_passed : is_live base (def r) (map def (drop (length left) order)) ≡ false
+      → live_numbers def base (drop (length earlier) order) ≡ live_numbers def base (drop (length left) order)
   unfolding live_numbers
-  live_passed t = rw (one_before, t) (append-nil (live_numbers def base (drop i order)))
+  live_passed t = rw (one_before, t) (append-nil (live_numbers def base (drop (length left) order)))
 
 -- there are no more of them than records
 pub live_most : (def : ℕ → Def) (base l : List ℕ) → length (live_numbers def base l) ≤ length l

@@ -85,12 +85,12 @@ pub contains_refused : (w b p : List ℕ) (r : Answered) → r ≡ refusal w b p
 unfolding refusal contains_answer
 contains_refused w b p r e n = refused_by (soundness w b) (good_path p) _ r e n
 
-pub contains_answered : (w b p : List ℕ) (r : Answered) (first : ℕ) (t : Bool) (n : ℕ) → r ≡ refusal w b p → r.number ≡ 0
+pub contains_answered : (w b p : List ℕ) (r : Answered) (first : ℕ) (t : Bool) → r ≡ refusal w b p → r.number ≡ 0
     → first ≡ first_def w
-    → t ≡ contains_node p (read_defs w b first) → n ≡ cond t 1 0 → record { number = 0; returned = n } ≡ contains_answer w b p
+    → t ≡ contains_node p (read_defs w b first) → record { number = 0; returned = cond t 1 0 } ≡ contains_answer w b p
 unfolding refusal contains_answer
-contains_answered w b p r first t n e z f h k =
-    ap (λ m. record { number = 0; returned = m }) (k ∙ ap (λ s. cond s 1 0) (h ∙ ap (λ d. contains_node p (read_defs w b d)) f))
+contains_answered w b p r first t e z f h =
+    ap (λ s. record { number = 0; returned = cond s 1 0 }) (h ∙ ap (λ d. contains_node p (read_defs w b d)) f)
     ∙ answered_by (soundness w b) (good_path p) _ r e z
 
 -- rows 8 and 9 as they are tried

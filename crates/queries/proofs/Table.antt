@@ -1,7 +1,8 @@
 -- The table of later definitions: that a look-up finds what is there, and how a definition is entered.
 use Prim.Native.Nat.{ℕ, suc, ◌+◌, ◌-◌, ◌*◌, ◌%◌, ◌≤◌, ◌<◌}
 use mathlib.Core.Path.{◌≡◌, refl, sym, ap, ◌∙◌}
-use mathlib.Core.Bool.{Bool, true, false}
+use mathlib.Core.Bool.{Bool, true, false, Bool-set}
+use mathlib.Core.Logic.{∥∥₁_elim, ∥∥₁_map}
 use mathlib.Core.List.{List, [], ◌∷◌, map}
 use native.Mathlib.Nat.{mod-lt}
 use native.Mathlib.Numerals.{add-one}
@@ -10,6 +11,7 @@ use borrow.Author.Tests.{eq-eqb, eqb-true, eqb-false, ltb-false}
 use lib.Dec.{eqb, ltb}
 use lib.ListN.{length, get_or, set, drop, replicate, length-replicate, get_or-replicate, length-set, length-drop, drop_of_length-le}
 use lib.Seq.{get_or-set_same, get_or-set_other, drop-cons, drop-drop}
+use Rattle.std.specs.Coded.{le_prop}
 use Rattle.paths_numbers.specs.meaning.Path.{at_or_under}
 use Rattle.paths_numbers.proofs.Texts.{by_test, both, not_both, is_false, same_true}
 use Rattle.definition_log.specs.meaning.Contents.{DefValue, node, property, deleted_node, deleted_property, version, plugin, Def}
@@ -19,7 +21,7 @@ use Rattle.queries.specs.meaning.Live.{overwrites}
 use Rattle.definition_log.specs.meaning.Record.{most_records}
 use Rattle.queries.specs.machine.Table.{hash_from, least_heads, few_heads, many_heads, place_of, slot_of, can_take, slot_at, in_list}
 use Rattle.queries.specs.machine.Table.{first_of}
-use Rattle.queries.specs.machine.Table.{Linked, ended, more, Holds, Table, deleted_at, Deleted, Room}
+use Rattle.queries.specs.machine.Table.{Linked, ended, more, Holds, Held, Table, deleted_at, Deleted, Room}
 
 -- the first is among them
 first_most : (def : ℕ → Def) (test : Def → Bool) (l : List ℕ) → first_of def test l ≤ length l
@@ -52,32 +54,35 @@ module _ (def : ℕ → Def) (wanted test : Def → Bool) (all : (d : Def) → w
 
 -- a search along a list: it starts at the list's head
 module _ (def : ℕ → Def) (wanted : Def → Bool) (links later : List ℕ) where
-  pub search_start : (e : ℕ) → Holds def wanted links later e
+  pub search_start : (e : ℕ) → Held def wanted links later e
       → (e ≤ length later) × (any wanted (map def later) ≡ any wanted (map def (drop (length later - e) later)))
-      × Holds def wanted links (drop (length later - e) later) e
-  search_start e h = settle def wanted h.test h.all links later e h.head h.linked
+      × Held def wanted links (drop (length later - e) later) e
+  search_start e h =
+      let s = ∥∥₁_map h (λ k. settle def wanted k.test k.all links later e k.head k.linked) in
+      (∥∥₁_elim s le_prop (λ x. x.0), ∥∥₁_elim s (Bool-set _ _) (λ x. x.1), ∥∥₁_map s (λ x. x.2))
 
   -- the definition in hand is in the list, and its link leads to the next one
-  module _ (e : ℕ) (b : 0 < e) (m : e ≤ length later) (h : Holds def wanted links (drop (length later - e) later) e) where
+  module _ (e : ℕ) (b : 0 < e) (m : e ≤ length later) where
     here : drop (length later - e) later ≡ get_or later (length later - e) 0 ∷ drop (suc (length later - e)) later
     here = drop-cons later (length later - e) 0 (omega arith)
 
     behind : length (drop (suc (length later - e)) later) ≡ e - 1
     behind = length-drop (suc (length later - e)) later ∙ omega arith
 
-    linked_on : {r : ℕ} {l : List ℕ} → length l ≡ e - 1 → e ≡ first_of def h.test (r ∷ l) → Linked def h.test links (r ∷ l)
-        → (get_or links (e - 1) 0 ≡ first_of def h.test l) × Linked def h.test links l
+    linked_on : {test : Def → Bool} {r : ℕ} {l : List ℕ} → length l ≡ e - 1 → e ≡ first_of def test (r ∷ l)
+        → Linked def test links (r ∷ l)
+        → (get_or links (e - 1) 0 ≡ first_of def test l) × Linked def test links l
     unfolding first_of
-    linked_on {r} {l} n f (more x k) =
-        by_test (h.test (def r))
+    linked_on {test} {r} {l} n f (more x k) =
+        by_test (test (def r))
         (λ t. (rw (← n) (x t), k))
-        (λ t. let g : e ≡ first_of def h.test l = rw t at f in absurd (omega (arith, first_most def h.test l)))
+        (λ t. let g : e ≡ first_of def test l = rw t at f in absurd (omega (arith, first_most def test l)))
 
-    pub search_on : wanted (def (get_or later (length later - e) 0)) ≡ false → (next : ℕ) → next ≡ get_or links (e - 1) 0
+    goes_on : Holds def wanted links (drop (length later - e) later) e → wanted (def (get_or later (length later - e) 0)) ≡ false → (next : ℕ) → next ≡ get_or links (e - 1) 0
         → (next < e) × (any wanted (map def (drop (length later - e) later)) ≡ any wanted (map def (drop (length later - next) later)))
         × Holds def wanted links (drop (length later - next) later) next
     unfolding any
-    search_on w next f =
+    goes_on h w next f =
         let l = drop (suc (length later - e)) later in
         let o = linked_on behind (h.head ∙ ap (first_of def h.test) here) (rw here at h.linked) in
         let s = settle def wanted h.test h.all links l next (f ∙ o.0) o.1 in
@@ -85,6 +90,14 @@ module _ (def : ℕ → Def) (wanted : Def → Bool) (links later : List ℕ) wh
         let d : drop (length l - next) l ≡ drop (length later - next) later = drop-drop (length l - next) (suc (length later - e)) later
         ∙ ap (λ (k : ℕ). drop k later) z in
         (omega (arith, behind, s.0), rw (here, w) (s.1 ∙ ap (λ (t : List ℕ). any wanted (map def t)) d), rw d at s.2)
+
+    pub search_on : Held def wanted links (drop (length later - e) later) e → wanted (def (get_or later (length later - e) 0)) ≡ false
+        → (next : ℕ) → next ≡ get_or links (e - 1) 0
+        → (next < e) × (any wanted (map def (drop (length later - e) later)) ≡ any wanted (map def (drop (length later - next) later)))
+        × Held def wanted links (drop (length later - next) later) next
+    search_on h w next f =
+        let s = ∥∥₁_map h (λ k. goes_on k w next f) in
+        (∥∥₁_elim s le_prop (λ x. x.0), ∥∥₁_elim s (Bool-set _ _) (λ x. x.1), ∥∥₁_map s (λ x. x.2))
 
     -- or it is what is looked for
     pub search_hit : wanted (def (get_or later (length later - e) 0)) ≡ true → any wanted (map def (drop (length later - e) later)) ≡ true
@@ -160,24 +173,24 @@ module _ (def : ℕ → Def) (base : List ℕ) (heads links later : List ℕ) (m
   pub deleted_held : Deleted def heads links later
   deleted_held =
       record {
-        at = λ path. record {
+        at = λ path. ∣ record {
           test = in_list base (length heads) (slot_of (length heads) true (hash_from 0 path));
           all = deleted_listed base (length heads) path;
           head = t.headed _ (slot_most (length heads) true (hash_from 0 path) m);
           linked = t.linked _;
-        };
+        } ∣₁;
       }
 
   -- and what is of a property under the base
   pub overwrites_held : (path : List ℕ) → at_or_under path base ≡ true → (hash : ℕ) → hash ≡ hash_from 0 path
-      → Holds def (overwrites path) links later (get_or heads (slot_of (length heads) false hash) 0)
+      → Held def (overwrites path) links later (get_or heads (slot_of (length heads) false hash) 0)
   overwrites_held path u hash e =
-      record {
+      ∣ record {
         test = in_list base (length heads) (slot_of (length heads) false (hash_from 0 path));
         all = overwrite_listed base (length heads) path u;
         head = rw e (t.headed _ (slot_most (length heads) false (hash_from 0 path) m));
         linked = t.linked _;
-      }
+      } ∣₁
 
 -- a link that is set behind all others leaves them
 linked_kept : (def : ℕ → Def) (test : Def → Bool) (links : List ℕ) (k v : ℕ) (l : List ℕ) → length l ≤ k → Linked def test links l

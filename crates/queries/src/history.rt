@@ -45,6 +45,7 @@ fn history_of<'a>(log: Log<'_>, first: u32, path: &[u8], found: &'a mut [u32]) -
     requires { length (history_in log.words.now log.bytes.now first path.now) ≤ length found.old }
     ensures { result.now ≡ history_in log.entry.words.now log.entry.bytes.now first path.now }
 {
+    // kept: a count of what is written, which is not each record, and is wanted behind the loop
     let mut count = 0;
     let mut defined = false;
     for r in chain(log.words, first) {

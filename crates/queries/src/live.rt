@@ -8,7 +8,7 @@ ghost use Rattle.queries.specs.meaning.Query.{live_numbers};
 ghost use Rattle.queries.specs.machine.Lists.{live_in};
 ghost use Rattle.queries.specs.machine.Table.{least_heads, many_heads, Table, Room, RoomForOne, Listed};
 
-use crate::later::{LaterDefs, LaterTable};
+use crate::later::{LaterDefs, LaterTable, Taken};
 use crate::list::fit;
 use definition_log::chain::chain;
 use definition_log::kinds::{DELETED_NODE, DELETED_PROPERTY, PROPERTY};
@@ -60,6 +60,7 @@ fn chain_order<'a>(words: &[u32], first: u32, numbers: &'a mut [u32]) -> &'a [u3
     requires { log_count words.now ≤ length numbers.old }
     ensures { result.now ≡ chain_of words.now first }
 {
+    // kept: a count, since how much of the array is filled is wanted behind the loop, where `enumerate` is gone
     let mut count = 0;
     for r in chain(words, first) {
         numbers[count] = r;
@@ -79,20 +80,22 @@ fn live_of<'a>(
     requires { Room (length order.now) order.now table.old.heads.now table.old.links.now live.old }
     ensures { result.now ≡ live_numbers (def_at log.entry.words.now log.entry.bytes.now) base.now order.now }
 {
+    // kept: a count of what is written, which is not each record, and is wanted behind the loop
     let mut count = 0;
-    for i in (0..order.len()).rev() {
-        let r = order[i];
-        if pass(log, base, r, &order[i + 1..], table) {
-            live[count] = r;
+    let mut left = order;
+    while let Some((r, earlier)) = left.split_last() {
+        if pass(log, base, *r, &order[left.len()..], table) {
+            live[count] = *r;
             count += 1;
         }
+        left = earlier;
     }
     &live[..count]
 }
 
 // Whether a definition is live under a base, by the table of the later ones, into which it is
 // entered if it can take something away.
-// kept: one lifetime with a name, which the check of borrows asks for where one struct holds the log, the list and the table.
+// One lifetime with a name, which the check of borrows asks for where one struct holds the log, the list and the table.
 fn pass<'x>(
     log: Log<'x>,
     base: &[u8],
@@ -110,25 +113,24 @@ fn pass<'x>(
     ensures lengths { (length table.new.heads.now ≡ length table.old.heads.now)
         × (length table.new.links.now ≡ length table.old.links.now) }
 {
-    let kind = kind_of(log.words, r);
     let path = log.first_text(r);
-    if kind == DELETED_NODE {
-        table.enter_at(true, path, later.len());
-        return false;
+    match kind_of(log.words, r) {
+        DELETED_NODE => {
+            table.enter_at(Taken::Node, path, later.len());
+            false
+        }
+        _ if !lies_under(path, base) => false,
+        DELETED_PROPERTY => {
+            table.enter_at(Taken::Property, path, later.len());
+            false
+        }
+        PROPERTY => {
+            let seen = LaterDefs { log, later, table };
+            let above = seen.look_above(path);
+            let overwritten = seen.holds(Taken::Property, path, above.hash);
+            table.enter(Taken::Property, above.hash, later.len());
+            !(above.deleted || overwritten)
+        }
+        _ => !LaterDefs { log, later, table }.look_above(path).deleted,
     }
-    if !lies_under(path, base) {
-        return false;
-    }
-    if kind == DELETED_PROPERTY {
-        table.enter_at(false, path, later.len());
-        return false;
-    }
-    let seen = LaterDefs { log, later, table };
-    let above = seen.look_above(path);
-    if kind != PROPERTY {
-        return !above.deleted;
-    }
-    let overwritten = seen.holds(false, path, above.hash);
-    table.enter(false, above.hash, later.len());
-    !(above.deleted || overwritten)
 }

@@ -33,16 +33,13 @@ pub fn lookup_in(log: Log<'_>, first: u32, path: &[u8]) -> Lookup
     if contains_node_in(log, first, path) {
         return Lookup::Exact;
     }
-    if path.len() == 0 {
+    let [b'/', name @ ..] = path else {
+        return Lookup::NoNode;
+    };
+    if !has_components(b"/", name) {
         return Lookup::NoNode;
     }
-    if path[0] != b'/' {
-        return Lookup::NoNode;
-    }
-    if !has_components(&path[..1], &path[1..]) {
-        return Lookup::NoNode;
-    }
-    short_node(log, first, &path[..1], &path[1..])
+    short_node(log, first, b"/", name)
 }
 
 // The look-up of the path of a parent and a name.

@@ -41,6 +41,7 @@ pub fn unbinds<B: PathLike>(log: Log<'_>, first: u32, base: B, label: &[u8], pat
 }
 
 // Whether a chain has a node with a label at a path, live under that path.
+// kept: the loop of `contains_node_in`; one loop over a closure needs a clause on what that answers, which is no plainer
 fn unbinds_in(log: Log<'_>, first: u32, label: &[u8], path: &[u8]) -> bool
     ensures { result ≡ any (has_label_at label.now path.now)
         (live path.now (read_defs log.entry.words.now log.entry.bytes.now first)) }

@@ -2,7 +2,7 @@
 ghost use Rattle.std.specs.Prelude.{◌≡◌, length};
 ghost use Rattle.paths_numbers.specs.meaning.Path.{good_path};
 ghost use Rattle.queries.specs.meaning.Query.{good_answer, count_answer, query_answer, query_out, live_answers, history_answers};
-ghost use Rattle.queries.specs.meaning.Query.{contains_answer, refusal};
+ghost use Rattle.queries.specs.meaning.Query.{contains_answer, told_found, refusal};
 ghost use Rattle.definition_log.specs.meaning.Answer.{told, told_done, passed};
 
 use crate::history::history_list;
@@ -50,14 +50,13 @@ fn list_answer(room: usize, count: u32) -> Result<u32, Refusal>
     Ok(count)
 }
 
-// Whether a node is live at a path: returns 1 or 0.
-pub fn contains_node(log: Log<'_>, path: &[u8]) -> Result<u32, Refusal>
-    ensures { told result ≡ contains_answer log.entry.words.now log.entry.bytes.now path.now }
+// Whether a node is live at a path.
+pub fn contains_node(log: Log<'_>, path: &[u8]) -> Result<bool, Refusal>
+    ensures { told_found result ≡ contains_answer log.entry.words.now log.entry.bytes.now path.now }
 {
     refused(log, path)?;
     let first = out_field(log.words, 0, layout::FIRST_DEFINITION);
-    let found = contains_node_in(log, first, path);
-    Ok(found as u32)
+    Ok(contains_node_in(log, first, path))
 }
 
 // Row 8, then row 9.

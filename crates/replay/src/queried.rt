@@ -19,7 +19,7 @@ pub fn asked<R: Print>(log: Log<'_>, list: &mut [u32], t: &mut Tally<R>) -> io::
 // The three queries of a path.
 fn query<R: Print>(log: Log<'_>, list: &mut [u32], t: &mut Tally<R>) -> io::Result<()> {
     let path = t.sample.text();
-    answered(contains_node(log, path), t, "contains_node")?;
+    answered(contains_node(log, path).map(u32::from), t, "contains_node")?;
     let live = iter_live_defs_under(log, path, list);
     places(log.words, list, live, t, "live list")?;
     let past = history(log, path, list);

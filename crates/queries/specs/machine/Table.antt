@@ -8,6 +8,8 @@ use Rattle.definition_log.specs.meaning.Record.{most_records}
 use Rattle.definition_log.specs.machine.Limits.{few_records, least_records}
 use Rattle.queries.specs.meaning.Kind.{is_deleted_node, is_of_property}
 use Rattle.queries.specs.meaning.Live.{overwrites}
+use Rattle.queries.specs.declared.later.Taken.{Taken}
+use Rattle.queries.specs.declared.later.Taken.TheVariants as T
 
 -- a hash with one byte more
 unfoldable pub mixed : ℕ → ℕ → ℕ
@@ -65,6 +67,10 @@ pub record Holds (def : ℕ → Def) (wanted : Def → Bool) (links later : List
   pub head : first ≡ first_of def test later
   pub linked : Linked def test links later
 
+-- the same as a fact: that there is such a list
+abbrev pub Held : (ℕ → Def) → (Def → Bool) → List ℕ → List ℕ → ℕ → Type 0
+Held def wanted links later first = ∥ Holds def wanted links later first ∥₁
+
 -- that a table has its heads and links
 pub record Table (def : ℕ → Def) (base : List ℕ) (room : ℕ) (heads links later : List ℕ) : Type 0 where
   pub headed : (slot : ℕ) → slot < room → get_or heads slot 0 ≡ first_of def (in_list base room slot) later
@@ -74,13 +80,19 @@ pub record Table (def : ℕ → Def) (base : List ℕ) (room : ℕ) (heads links
 abbrev pub deleted_at : List ℕ → Def → Bool
 deleted_at path d = cond (is_deleted_node d.value) (same d.path path) false
 
--- a deleted node with a path, or a property or deleted property with it
-abbrev pub takes_at : Bool → List ℕ → Def → Bool
-takes_at deleted path d = cond deleted (deleted_at path d) (overwrites path d)
+-- whether what is taken away is a node
+abbrev pub of_node : Taken → Bool
+of_node T.Node = true
+of_node T.Property = false
+
+-- what takes a node away: a deleted node with its path; and a property: a property or deleted property with its path
+abbrev pub takes_at : Taken → List ℕ → Def → Bool
+takes_at T.Node path d = deleted_at path d
+takes_at T.Property path d = overwrites path d
 
 -- that a table finds every deleted node by its path
 pub record Deleted (def : ℕ → Def) (heads links later : List ℕ) : Type 0 where
-  pub at : (path : List ℕ) → Holds def (deleted_at path) links later (get_or heads (slot_of (length heads) true (hash_from 0 path)) 0)
+  pub at : (path : List ℕ) → Held def (deleted_at path) links later (get_or heads (slot_of (length heads) true (hash_from 0 path)) 0)
 
 -- that a table has its heads, and a link for each definition
 abbrev pub Sized : List ℕ → List ℕ → List ℕ → Type 0

@@ -1,12 +1,13 @@
 -- 01, "Answers", rows 8 to 10: what the queries answer for any words and bytes that a caller lends, and what they leave in the list.
-use Rattle.std.specs.Prelude.{ℕ, Bool, false, cond, List, [], ◌∷◌, ◌++◌, map, leb, length}
+use Rattle.std.specs.Prelude.{ℕ, Bool, false, cond, List, [], ◌∷◌, ◌++◌, map, leb, length, Result, Ok, Err}
 use Rattle.paths_numbers.specs.meaning.Text.{same, written}
 use Rattle.paths_numbers.specs.meaning.Path.{good_path}
 use Rattle.definition_log.specs.meaning.Contents.{Def}
 use Rattle.definition_log.specs.meaning.Record.{first_def}
 use Rattle.definition_log.specs.meaning.ReadBack.{chain_of, def_at, read_defs}
 use Rattle.definition_log.specs.meaning.Sound.{Soundness, sound, broken, soundness}
-use Rattle.definition_log.specs.meaning.Answer.{Answered, success, refused_path, refused_list, passed, sound_answer}
+use Rattle.definition_log.specs.meaning.Answer.{Answered, success, refused, refused_path, refused_list, passed, sound_answer}
+use Rattle.definition_log.specs.declared.answer.Refusal.{Refusal}
 use Rattle.queries.specs.meaning.Live.{is_live, deletes, contains_node}
 use Rattle.queries.specs.meaning.History.{defined_by}
 
@@ -63,6 +64,11 @@ live_answers words bytes base = live_numbers (def_at words bytes) base (main_cha
 
 unfoldable pub history_answers : List ℕ → List ℕ → List ℕ → List ℕ
 history_answers words bytes path = history_numbers (def_at words bytes) false path (main_chain words)
+
+-- a truth is told as 1 or 0
+abbrev pub told_found : Result Bool Refusal → Answered
+told_found (Ok found) = record { number = success; returned = cond found 1 0 }
+told_found (Err e) = refused e
 
 -- contains_node: "returns 1 or 0"
 unfoldable pub contains_answer : List ℕ → List ℕ → List ℕ → Answered

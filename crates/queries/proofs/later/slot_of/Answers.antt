@@ -1,20 +1,20 @@
 -- By its definition; a place is small (Table: place_small).
-use Prim.Native.Nat.{◌≤◌}
 use mathlib.Core.Path.{refl}
 use native.Mathlib.Omega.{arith}
-use Rattle.paths_numbers.proofs.Texts.{by_test}
 use Rattle.queries.specs.machine.Table.{slot_of}
 use Rattle.queries.proofs.Table.{place_small}
 use Rattle.queries.proofs.later.slot_of.Goals as goal
 
-pub overflow_mul-result : goal.overflow_mul-result
-overflow_mul-result c = omega (arith, c.place_of.ensures, place_small c.args.heads c.args.hash)
+pub overflow_mul-place : goal.overflow_mul-place
+overflow_mul-place c = omega (arith, c.place_of-place.ensures, place_small c.args.heads c.args.hash)
 
 pub overflow_add-result : goal.overflow_add-result
-overflow_add-result c =
-    let one : c.from.result ≤ 1 = rw c.from.ensures (by_test c.args.deleted (λ t. rw t (omega arith)) (λ t. rw t (omega arith))) in
-    omega (arith, c.place_of.ensures, place_small c.args.heads c.args.hash, one)
+overflow_add-result c = omega (arith, c.place_of-place.ensures, place_small c.args.heads c.args.hash)
 
-pub returns : goal.returns
+pub returns-in-Node : goal.returns-in-Node
 unfolding slot_of
-returns c = rw (c.place_of.ensures, c.from.ensures) (by_test c.args.deleted (λ t. rw t refl) (λ t. rw t refl))
+returns-in-Node c = rw (c.place_of-place.ensures, c.in-Node.is) refl
+
+pub returns-in-Property : goal.returns-in-Property
+unfolding slot_of
+returns-in-Property c = rw (c.place_of-place.ensures, c.in-Property.is) (omega arith)

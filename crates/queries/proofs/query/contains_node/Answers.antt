@@ -1,7 +1,5 @@
 -- Rows 8 and 9 first, then 1 or 0 (QueryAnswers).
-use mathlib.Core.Path.{◌≡◌, refl}
-use mathlib.Core.Bool.{Bool, true, false, cond}
-use mir.Val.{bool_byte}
+use mathlib.Core.Path.{refl}
 use Rattle.std.proofs.lemmas.Result.{err_from_is_err_and}
 use Rattle.definition_log.proofs.Answers.{refused_number}
 use Rattle.queries.proofs.QueryAnswers.{contains_refused, contains_answered}
@@ -13,13 +11,8 @@ returns-in_err-refused c =
     let p = err_from_is_err_and c.from_residual.result c.from_residual.ensures.1 in
     rw (p.1, p.2) (contains_refused a.log.words.now a.log.bytes.now a.path.now _ c.in_err-refused.ensures (refused_number _))
 
--- a truth as a number
-as_number : (t : Bool) → bool_byte t ≡ cond t 1 0
-as_number true = refl
-as_number false = refl
-
 pub returns : goal.returns
 returns c =
     let a = c.args in
-    contains_answered a.log.words.now a.log.bytes.now a.path.now _ _ _ _ c.in_ok-refused.ensures refl c.out_field-first.ensures
-    c.contains_node_in-found.ensures (as_number c.contains_node_in-found.result)
+    contains_answered a.log.words.now a.log.bytes.now a.path.now _ _ _ c.in_ok-refused.ensures refl c.out_field-first.ensures
+    c.contains_node_in.ensures

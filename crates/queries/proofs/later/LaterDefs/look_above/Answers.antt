@@ -13,8 +13,8 @@ loop-i-init c =
     let defs = map (def_at a.self.log.words.now a.self.log.bytes.now) a.self.later.now in
     (refl, above_start a.path.now defs _ c.root_deleted-deleted.ensures)
 
-pub or_deleted-deleted-requires-clause-hash_value : goal.or_deleted-deleted-requires-clause-hash_value
-or_deleted-deleted-requires-clause-hash_value c = c.loop-i.invariant.0
+pub or_deleted-deleted-requires : goal.or_deleted-deleted-requires
+or_deleted-deleted-requires c = c.loop-i.invariant.0
 
 pub loop-i-preserved : goal.loop-i-preserved
 loop-i-preserved c =
@@ -25,8 +25,8 @@ loop-i-preserved c =
       above_next (deleted_in defs) a.path.now l.i l.deleted _ l.invariant.1 c.loop-i-test.true _ (λ e. grind arith) (λ e. grind arith),
     )
 
-pub or_deleted-requires-clause-hash_value : goal.or_deleted-requires-clause-hash_value
-or_deleted-requires-clause-hash_value c =
+pub or_deleted-requires : goal.or_deleted-requires
+or_deleted-requires c =
     let l = c.loop-i in
     hash_end c.args.path.now l.i l.hash l.invariant.0 (omega (arith, c.loop-i-test.false))
 

@@ -1,30 +1,20 @@
 -- By the path's first byte (Fronts: first_none, first_other, first_slash).
-use mathlib.Core.Path.{sym, ◌∙◌}
+use mathlib.Core.Path.{refl, sym}
 use native.Mathlib.Omega.{arith}
-use lib.Seq.{length-take-le}
-use mathlib.Core.Path.{refl}
+use Rattle.std.proofs.lemmas.Bool.Decides.{nat_tests}
 use Rattle.queries.proofs.Fronts.{first_none, first_other, first_slash, root_hash}
 use Rattle.queries.proofs.later.LaterDefs.root_deleted.Goals as goal
 
-pub returns-then-path-eq0 : goal.returns-then-path-eq0
-returns-then-path-eq0 c = rw (first_none c.args.path.now c.if-path-eq0.true) refl
-
-pub returns-then-path-ne47 : goal.returns-then-path-ne47
-returns-then-path-ne47 c = rw (first_other c.args.path.now c.if-path-ne47.true)
-    refl
-
-pub slice_bounds-or_deleted-end : goal.slice_bounds-or_deleted-end
-slice_bounds-or_deleted-end c = sym (length-take-le _
-    c.args.path.now (omega arith))
-
 pub or_deleted-requires : goal.or_deleted-requires
-or_deleted-requires c =
-    let a = c.args in
-    let f = first_slash a.path.now c.if-path-eq0.false c.if-path-ne47.false in
-    record { deleted = c.requires; hash_value = rw f.1 (sym root_hash) }
+or_deleted-requires c = sym root_hash
 
-pub returns : goal.returns
-returns c =
-    let a = c.args in
-    let f = first_slash a.path.now c.if-path-eq0.false c.if-path-ne47.false in
-    rw f.0 (c.or_deleted.ensures ∙ rw f.1 refl)
+pub returns-in-47 : goal.returns-in-47
+returns-in-47 c =
+    let f = first_slash c.args.path.now (λ z. omega (arith, z, c.in-47.len_at_least)) (grind (arith, nat_tests)) in
+    rw f.0 c.or_deleted.ensures
+
+pub returns-in_default : goal.returns-in_default
+returns-in_default c = rw (first_none c.args.path.now (omega (arith, c.in_default.len_below))) refl
+
+pub returns-in_default-2 : goal.returns-in_default-2
+returns-in_default-2 c = rw (first_other c.args.path.now (λ e. grind (arith, nat_tests))) refl

@@ -2,13 +2,14 @@
 use mathlib.Core.Path.{refl}
 use native.Mathlib.Omega.{arith}
 use lib.ListN.{length}
+use Rattle.queries.specs.machine.Table.{of_node}
 use Rattle.queries.proofs.Table.{slot_most}
 use Rattle.queries.proofs.later.LaterTable.enter.Goals as goal
 
 pub offset_bounds-self-slot : goal.offset_bounds-self-slot
 offset_bounds-self-slot c =
     let a = c.args in
-    omega (arith, c.slot_of-slot.ensures, slot_most (length a.self.now.heads.now) a.deleted a.hash c.requires.0)
+    omega (arith, c.slot_of-slot.ensures, slot_most (length a.self.now.heads.now) (of_node a.taken) a.hash c.requires.0)
 
 pub bounds-self-slot : goal.bounds-self-slot
 bounds-self-slot c =
@@ -16,7 +17,7 @@ bounds-self-slot c =
     omega (
       arith,
       c.slot_of-slot.ensures,
-      slot_most (length a.self.now.heads.now) a.deleted a.hash
+      slot_most (length a.self.now.heads.now) (of_node a.taken) a.hash
           c.requires.0,
     )
 
@@ -26,7 +27,7 @@ offset_bounds-self-slot-2 c =
     omega (
       arith,
       c.slot_of-slot.ensures,
-      slot_most (length a.self.now.heads.now) a.deleted a.hash
+      slot_most (length a.self.now.heads.now) (of_node a.taken) a.hash
           c.requires.0,
     )
 
@@ -36,7 +37,7 @@ bounds-self-slot-2 c =
     omega (
       arith,
       c.slot_of-slot.ensures,
-      slot_most (length a.self.now.heads.now) a.deleted a.hash
+      slot_most (length a.self.now.heads.now) (of_node a.taken) a.hash
           c.requires.0,
     )
 
