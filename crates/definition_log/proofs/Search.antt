@@ -1,13 +1,18 @@
--- The two loops of the test: over the records that were met, and over all records in rising order.
-use Prim.Native.Nat.{ℕ, suc, ◌+◌, ◌-◌, ◌≤◌, ◌<◌}
+-- The loop of the test over the records that were met, and its search of all records in rising order.
+use Prim.Native.Nat.{ℕ, zero, suc, ◌+◌, ◌-◌, ◌≤◌, ◌<◌}
 use mathlib.Core.Path.{◌≡◌, refl, sym, ap, ◌∙◌}
-use mathlib.Core.Bool.{true, false}
+use mathlib.Core.Bool.{true}
 use mathlib.Core.List.{List, map}
+use native.Mathlib.Numerals.{add-one}
 use native.Mathlib.Omega.{arith}
 use borrow.Author.Tests.{le-ltb, lt-ltb}
 use lib.Dec.{ltb}
 use lib.ListN.{length, get_or, take, length-map, length-take, get_or-map}
 use lib.Seq.{get_or-take}
+use Rattle.std.specs.Prelude.{Option as Maybe, Some, None}
+use Rattle.std.specs.List.{find, range_with_len}
+use Rattle.std.specs.Option.{option_map}
+use Rattle.paths_numbers.proofs.Texts.{by_test}
 use Rattle.definition_log.specs.meaning.Sound.{Soundness, sound, broken, links_of, head_links}
 use Rattle.definition_log.specs.declared.links.Mark.{Mark}
 use Rattle.definition_log.specs.declared.links.Mark.TheVariants.{Unmet}
@@ -69,19 +74,30 @@ module _ (w : List ℕ) (m : List Mark) (q : List ℕ) (n i : ℕ) (x : List Mar
       met_link : get_or (held m q n).met i (link_of 0) ≡ link_of (get_or q i 0)
       met_link = held_link m q n i h
 
--- x is the answer, and the invariant says that it is decided by the records that are left
-module _ (w b : List ℕ) (m : List Mark) (n r : ℕ) (x : Soundness) (inv : x ≡ first_by (n - r) w b m r) where
-  -- this one is at fault
-  pub fault_here : r < n → fault_by w b (get_or m r Unmet) r ≡ true → broken r ≡ x
-  unfolding first_by
-  fault_here h t = let e : n - r ≡ suc (n - (r + 1)) = omega arith in sym (inv ∙ rw (e, t) refl)
+-- what the library's search of the records finds, as the answer
+abbrev pub found_fault : Maybe ℕ → Soundness
+found_fault None = sound
+found_fault (Some r) = broken r
 
-  -- this one is not
-  pub fault_later : r < n → fault_by w b (get_or m r Unmet) r ≡ false → x ≡ first_by (n - (r + 1)) w b m (r + 1)
-  unfolding first_by
-  fault_later h t = let e : n - r ≡ suc (n - (r + 1)) = omega arith in inv ∙ rw (e, t) refl
+found_first : (w b : List ℕ) (m : List Mark) (n a : ℕ)
+    → found_fault (find (λ r. fault_by w b (get_or m r Unmet) r) (range_with_len a n)) ≡ first_by n w b m a
+unfolding first_by
+found_first w b m zero a = refl
+found_first w b m (suc n) a =
+    by_test (fault_by w b (get_or m a Unmet) a)
+    (λ q. rw q refl)
+    (λ q.
+    rw q
+    (ap (λ k. found_fault (find (λ r. fault_by w b (get_or m r Unmet) r) (range_with_len k n))) (add-one a)
+    ∙ found_first w b m n (suc a)
+    ∙ ap (first_by n w b m) (sym (add-one a))))
 
-  -- there are no more
-  pub fault_none : n ≤ r → sound ≡ x
-  unfolding first_by
-  fault_none h = let e : n - r ≡ 0 = omega arith in sym (inv ∙ rw e refl)
+-- is the definition's
+pub fault_search : (w b : List ℕ) (m : List Mark) (n : ℕ) (o : Maybe ℕ)
+    → option_map (λ x. x) o ≡ find (λ r. fault_by w b (get_or m r Unmet) r) (range_with_len 0 n)
+    → found_fault o ≡ first_by n w b m 0
+fault_search w b m n o e = ap found_fault (sym (mapped o) ∙ e) ∙ found_first w b m n 0
+  where
+    mapped : (o : Maybe ℕ) → option_map (λ (x : ℕ). x) o ≡ o
+    mapped None = refl
+    mapped (Some x) = refl

@@ -38,20 +38,20 @@ pub(crate) enum Chain {
 // How many there are.
 const CHAINS: u32 = 9;
 
-impl Chain {
-    // Its number.
-    // kept: the queue has a record and its chain in one word, for a walk's memory is fixed and on the stack.
-    fn number(self) -> u32
-        ensures small { result < chains }
-        ensures same { place_of result ≡ place_told self }
-    {
-        self as u32
-    }
+impl From<Chain> for u32 {
+    ghost from_gives = { λ chain number. (number < chains) × (place_of number ≡ place_told chain) };
 
-    // The chain of a number.
-    fn of(number: u32) -> Chain
-        ensures { place_told result ≡ place_of number }
-    {
+    // kept: the queue has a record and its chain in one word. An array of structs of both takes twice as much of a walk's fixed memory, which
+    // is on the stack: 512 KB of 65,536 records and not 256 KB.
+    fn from(chain: Chain) -> u32 {
+        chain as u32
+    }
+}
+
+impl From<u32> for Chain {
+    ghost from_gives = { λ number chain. place_told chain ≡ place_of number };
+
+    fn from(number: u32) -> Chain {
         match number {
             0 => Chain::Definitions,
             1 => Chain::Extensions,
@@ -64,7 +64,9 @@ impl Chain {
             _ => Chain::Nowhere,
         }
     }
+}
 
+impl Chain {
     // The chain below a record of a kind.
     fn below(kind: u32) -> Chain
         ensures { place_told result ≡ below kind }
@@ -166,7 +168,7 @@ impl<const N: usize> Walk<N> {
             (links_of words.now (link_of code)) (held self.old.marks self.old.queue self.old.met) }
     {
         let r = code / CHAINS;
-        self.follow(words, next_of(words, r), Chain::of(code % CHAINS));
+        self.follow(words, next_of(words, r), Chain::from(code % CHAINS));
         self.follow(words, child_of(words, r), Chain::below(kind_of(words, r)));
         self.follow(words, body_link(words, r), Chain::Definitions);
     }
@@ -185,7 +187,7 @@ impl<const N: usize> Walk<N> {
         }
         set_mark(&mut self.marks, r, first_mark(words, r, chain));
         if self.met < N {
-            self.queue[self.met] = r * CHAINS + chain.number();
+            self.queue[self.met] = r * CHAINS + u32::from(chain);
             self.met += 1;
         }
     }

@@ -1,5 +1,5 @@
 // Parts of what a log says, as code holds them.
-ghost use Rattle.std.specs.Prelude.{◌≡◌};
+ghost use Rattle.std.specs.Prelude.{◌≡◌, ltb};
 ghost use Rattle.definition_log.specs.meaning.ReadBack.{span_at, name_span_at};
 ghost use Rattle.definition_log.specs.machine.Parts.{meant};
 
@@ -11,6 +11,15 @@ use crate::record::out_field;
 pub struct Span {
     pub from: u32,
     pub to: u32,
+}
+
+impl Span {
+    // Whether it ends before it starts.
+    pub(crate) fn is_reversed(self) -> bool
+        ensures { result ≡ ltb self.to self.from }
+    {
+        self.to < self.from
+    }
 }
 
 // The span of a record.

@@ -1,6 +1,6 @@
 // Row 8's test of a log that a caller lends, any words and any bytes: first every link that can be reached is followed and marks the record
 // that it leads to (links), then the records are tried in rising order.
-#![tactic(auto, unfolding(crate::specs::meaning::Sound::heads_out, crate::specs::meaning::Sound::links_out, crate::specs::meaning::Sound::texts_out, crate::specs::meaning::Sound::spans_reversed, crate::specs::meaning::Sound::path_wrong, crate::specs::meaning::Sound::any_of, crate::specs::machine::Walk::record_wrong, crate::specs::machine::Walk::fault_by))]
+#![tactic(auto, unfolding(crate::specs::meaning::Sound::heads_out, crate::specs::meaning::Sound::links_out, crate::specs::meaning::Sound::texts_out, crate::specs::meaning::Sound::spans_reversed, crate::specs::meaning::Sound::path_wrong, crate::specs::meaning::Record::one_of, crate::specs::meaning::Sound::any_of, crate::specs::machine::Walk::record_wrong, crate::specs::machine::Walk::fault_by))]
 
 ghost use Rattle.std.specs.Prelude.{◌≤◌, false, not, cond, ◌≡◌, eqb, ltb};
 ghost use Rattle.definition_log.specs.meaning.Record.{one_of, has_children, has_span, has_name_span, log_count, kind_of, child_of, m_of};
@@ -16,7 +16,7 @@ use crate::answer::Refusal;
 use crate::kinds::{has_children, has_name_span, has_span, is_def};
 use crate::limits::{FEW_RECORDS, MOST_RECORDS};
 use crate::links::{Mark, Walk, mark_at};
-use crate::lists::one_of;
+use crate::parts::{name_span_of, span_of};
 use crate::record::{Log, child_of, kind_of, log_count, out_field};
 use crate::{kinds, layout};
 use paths_numbers::mir::good_path;
@@ -84,12 +84,10 @@ fn check_within<const N: usize>(log: Log<'_>) -> Result<(), Broken>
 fn first_fault(log: Log<'_>, marks: &[Mark]) -> Result<(), Broken>
     ensures { told result ≡ first_by (log_count log.entry.words.now) log.entry.words.now log.entry.bytes.now marks.now 0 }
 {
-    for r in 0..log_count(log.words) {
-        if at_fault(log, mark_at(marks, r), r) {
-            return Err(Broken { record: r });
-        }
+    match (0..log_count(log.words)).find(|&r| at_fault(log, mark_at(marks, r), r)) {
+        Some(record) => Err(Broken { record }),
+        None => Ok(()),
     }
-    Ok(())
 }
 
 // Whether a record is at fault, by its mark: record 0 for its links alone, another only if it is reached.
@@ -187,42 +185,20 @@ fn text_out(bytes: &[u8], start: u32, size: u32) -> bool
 fn spans_reversed(words: &[u32], r: u32) -> bool
     ensures { result ≡ spans_reversed words.now r }
 {
-    spans_reversed_whole(words, r) || spans_reversed_name(words, r)
-}
-
-// Whether the record has a span that does.
-fn spans_reversed_whole(words: &[u32], r: u32) -> bool
-    ensures { result ≡ cond (has_span (kind_of words.now r))
-        (ltb (span_end words.now r) (span_start words.now r)) false }
-{
-    has_span(kind_of(words, r))
-        && out_field(words, r, layout::SPAN_END) < out_field(words, r, layout::SPAN_START)
-}
-
-// Whether it has a name span that does.
-fn spans_reversed_name(words: &[u32], r: u32) -> bool
-    ensures { result ≡ cond (has_name_span (kind_of words.now r))
-        (ltb (name_end words.now r) (name_start words.now r)) false }
-{
-    has_name_span(kind_of(words, r))
-        && out_field(words, r, layout::NAME_END) < out_field(words, r, layout::NAME_START)
+    let kind = kind_of(words, r);
+    (has_span(kind) && span_of(words, r).is_reversed())
+        || (has_name_span(kind) && name_span_of(words, r).is_reversed())
 }
 
 // Whether a record's path lacks the form that its kind asks for.
 fn path_wrong(log: Log<'_>, r: u32) -> bool
     ensures { result ≡ path_wrong log.entry.words.now log.entry.bytes.now r }
 {
-    let kind = kind_of(log.words, r);
-    if one_of(kind, &[kinds::VERSION, kinds::PLUGIN]) {
-        return !good_path(log.first_text(r));
+    match kind_of(log.words, r) {
+        kinds::VERSION | kinds::PLUGIN => !good_path(log.first_text(r)),
+        kinds::BINDING => !nonempty_path(log.second_text(r)),
+        kind => is_def(kind) && !nonempty_path(log.first_text(r)),
     }
-    if is_def(kind) {
-        return !nonempty_path(log.first_text(r));
-    }
-    if kind == kinds::BINDING {
-        return !nonempty_path(log.second_text(r));
-    }
-    false
 }
 
 // Whether a path has row 9's form and is not empty.

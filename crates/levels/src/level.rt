@@ -10,7 +10,7 @@ use paths_numbers::expr_eval::{IntErrorKind, parse_int_tok_i64};
 use paths_numbers::operators::{EvalError, eval_infix, eval_prefix};
 
 // The level that keeps 01's signed rule, and the one of unsigned numbers that wrap.
-// kept: C gives a level as a number, and may give any.
+// kept: the public `literal`, `unary` and `binary` take any number as a level and may not ask more.
 pub const SIGNED: u32 = 1;
 
 pub const UNSIGNED: u32 = 2;

@@ -1,21 +1,24 @@
 // The log in the making: LowerCtx of lowering/mod.rs, by value, with the counts and the chain ends.
-ghost use Rattle.std.specs.Prelude.{◌≡◌, ◌+◌, ◌*◌, ◌≤◌, ◌<◌, length};
+ghost use Rattle.std.specs.Prelude.{◌≡◌, ◌+◌, ◌*◌, ◌≤◌, ◌<◌, length, []};
+ghost use Rattle.paths_numbers.specs.meaning.Bytestring.{bytes_of, count_of};
+ghost use Rattle.paths_numbers.specs.meaning.Reading.{value};
 ghost use Rattle.paths_numbers.specs.meaning.Text.{written};
 ghost use Rattle.definition_log.specs.meaning.Record.{log_count, most_bytes};
 ghost use Rattle.making.specs.machine.Removed.{without};
 ghost use Rattle.making.specs.machine.Texts.{text_said};
 ghost use Rattle.making.specs.machine.Made.{start_at, sixteen, set_link, has_room, makes, ran_short, one_more, end_link, grown};
-ghost use Rattle.making.specs.machine.Made.{Told, ToldBytes};
+ghost use Rattle.making.specs.machine.Made.{Told};
 
 use crate::text::Text;
 use definition_log::layout::{NEXT_AT, RECORD_WORDS};
 use definition_log::limits::MOST_BYTES;
 use definition_log::parts::Span;
 use definition_log::record::log_count;
-use paths_numbers::dt_property::{bytestring_len, lower_bytestring};
+use paths_numbers::dt_property::lower_bytestring;
 
 // The first and the last record of a chain, 0 where there is none.
-// kept: 0 for none, which is how the words of the log say it
+// kept: 0 for none, as the links in the log's words have it. As Options, a chain takes 12 bytes and not 8, and the state, with its part and
+// cell, 76 and not 52 (size_of): it is copied by value in each call.
 #[derive(Clone, Copy, Debug, PartialEq, Eq)]
 pub struct Chain {
     pub first: u32,
@@ -174,29 +177,25 @@ impl LowerCtx {
         self.put(words, rec, size as u32, more as u32, link)
     }
 
-    // The same with one text, the bytes of a bytestring; nothing where its text lacks a digit.
-    // kept: beside `make`, whose texts cannot fail
+    // The same with one text, the bytes of a bytestring, which lacks no digit and stands for so many bytes.
+    // kept: beside `make`, since as a variant of `Text` it could lack a digit, and `len` and `write` have no answer then.
     pub(crate) fn make_bytestring(
         self,
         words: &mut [u32],
         bytes: &mut [u8],
         rec: Rec,
         text: &[u8],
+        size: usize,
         link: usize,
     ) -> LowerCtx
-        ensures { ToldBytes self result words.old bytes.old words.new bytes.new rec
-            text.now link }
+        requires { count_of text.now ≡ value size }
+        ensures { Told self result words.old bytes.old words.new bytes.new rec (bytes_of text.now) [] link }
     {
-        match bytestring_len(text) {
-            Err(_) => self,
-            Ok(size) => {
-                if !self.admits(words, bytes, size, link) {
-                    return self.run_short();
-                }
-                let _ = lower_bytestring(text, bytes, self.bytes as usize); // there is room, and no digit is missing
-                self.put(words, rec, size as u32, 0, link)
-            }
+        if !self.admits(words, bytes, size, link) {
+            return self.run_short();
         }
+        let _ = lower_bytestring(text, bytes, self.bytes as usize); // there is room, and no digit is missing
+        self.put(words, rec, size as u32, 0, link)
     }
 
     // Whether a record with so many bytes of texts is made.

@@ -59,13 +59,14 @@ impl LowerCtx {
     {
         match bytestring_len(text) {
             Err(_) => self,
-            Ok(_) => {
+            Ok(size) => {
                 let link = child_link(self.defs.last, self.part);
                 let made = self.make_bytestring(
                     words,
                     bytes,
                     Rec::part(BYTESTRING, 0, 0),
                     text,
+                    size,
                     link,
                 );
                 made.with_part(self.records)
@@ -96,6 +97,7 @@ impl LowerCtx {
     }
 
     // A part of the newest definition.
+    // kept: beside `add_cell`, which differs in the link and in what is counted: one of both would be handed these by each of six callers.
     fn add_part(
         self,
         words: &mut [u32],

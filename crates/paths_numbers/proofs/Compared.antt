@@ -1,14 +1,16 @@
 -- What the library's comparisons of slices decide: `same`, `begins`, and the last byte.
-use Rattle.std.proofs.Common.{◌≡◌, ℕ, suc, ◌-◌, ◌<◌, Bool, true, false, cond, ◌&&◌, eqb, List, [], ◌∷◌, length, take, drop, sym, refl, ap}
+use Rattle.std.proofs.Common.{◌≡◌, ℕ, suc, ◌+◌, ◌-◌, ◌<◌, ◌≤◌, add-one, Bool, true, false, cond, ◌&&◌, eqb, List, [], ◌∷◌, length, take, drop, sym, refl, ap}
 use Rattle.std.proofs.Common.{◌∙◌, arith, drop_of_length-le, drop-cons, ne_eqb, eq-eqb, eqb-true, get_or, ◌++◌}
 use Rattle.std.specs.Prelude.{Option, Some, None, unwrap_or, option_map}
 use Rattle.std.specs.Option.{option_eq}
 use denote.Ref.{Bor}
 use borrow.Author.Tests.{eqb-false}
+use lib.ListN.{length-take}
 use lib.Pointwise.{pointwise}
+use Rattle.std.specs.List.{list_all, enumerate_from}
 use Rattle.paths_numbers.specs.meaning.Text.{begins, same}
 use Rattle.paths_numbers.specs.meaning.Reference.{last_byte}
-use Rattle.paths_numbers.proofs.Texts.{by_test}
+use Rattle.paths_numbers.proofs.Texts.{by_test, begins_same}
 
 -- two tests, the second asked only where the first holds
 pub and_cond : (t u v : Bool) → u ≡ v → (t && u) ≡ cond t v false
@@ -64,3 +66,20 @@ ends_pointwise (a ∷ s) b h =
     ap (λ (l : List ℕ). pointwise eqb l (b ∷ []))
     (drop-cons (a ∷ s) (length (a ∷ s) - 1) 0 (omega arith) ∙ ap (λ (l : List ℕ). last_byte (a ∷ s) ∷ l) e)
     ∙ by_test (eqb (last_byte (a ∷ s)) b) (λ t. rw t refl) (λ t. rw t refl)
+
+-- a text begins with another as the other begins with as many bytes of the text
+pub begins_taken : (s p : List ℕ) → length p ≤ length s → begins p (take (length p) s) ≡ begins s p
+begins_taken s p h =
+    begins_same p (take (length p) s) (omega (arith, length-take (length p) s))
+    ∙ sym (same_pointwise p (take (length p) s))
+    ∙ starts_pointwise s p
+
+-- a text that is no longer, byte by byte with the places of its bytes
+pub begins_numbered : (p f : List ℕ) (n : ℕ) → n + length f ≤ length p
+    → list_all (λ (q : ℕ × ℕ). eqb q.1 (get_or p q.0 0)) (enumerate_from n f) ≡ begins (drop n p) f
+unfolding begins
+begins_numbered p [] n h = refl
+begins_numbered p (b ∷ f) n h =
+    let d : drop n p ≡ get_or p n 0 ∷ drop (n + 1) p = drop-cons p n 0 (omega arith) ∙ rw add-one refl in
+    and_cond (eqb b (get_or p n 0)) _ (begins (drop (n + 1) p) f) (begins_numbered p f (n + 1) (omega arith))
+    ∙ rw (d, eqb_swap (get_or p n 0) b) refl

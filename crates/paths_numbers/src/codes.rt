@@ -1,5 +1,6 @@
 // The codes of diagnostics, by 01's numbers.
-// kept: C is told these numbers, and the log's words hold them.
+// kept: ways to fail are enums, which give these numbers by `Code`. What writes a code into a log is public, takes any number and may not
+// ask more; an enum of the codes would need a second table, back to the same 27 numbers.
 ghost use Rattle.std.specs.Prelude.{◌≡◌, ℕ};
 
 // A way to fail that has a code.

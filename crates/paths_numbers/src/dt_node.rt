@@ -188,28 +188,23 @@ fn begins_with_path(this: &[u8], path: Joined<'_>) -> bool
     ensures { result ≡ begins this.now (joined_path path.entry) }
 {
     let n = path_len(path);
-    if this.len() < n {
-        return false;
-    }
-    for i in 0..n {
-        if this[i] != path_byte(path, i) {
-            return false;
-        }
-    }
-    true
+    n <= this.len() && has_front(path, &this[..n])
 }
 
 // Whether the path of a parent and a name begins with another.
 fn path_begins_with(path: Joined<'_>, base: &[u8]) -> bool
     ensures { result ≡ begins (joined_path path.entry) base.now }
 {
-    if path_len(path) < base.len() {
-        return false;
-    }
-    for (i, b) in base.iter().enumerate() {
-        if path_byte(path, i) != *b {
-            return false;
-        }
-    }
-    true
+    base.len() <= path_len(path) && has_front(path, base)
+}
+
+// The same of one that is no longer.
+fn has_front(path: Joined<'_>, front: &[u8]) -> bool
+    requires { length front.now ≤ length (joined_path path) }
+    ensures { result ≡ begins (joined_path path.entry) front.now }
+{
+    front
+        .iter()
+        .enumerate()
+        .all(|(i, b)| *b == path_byte(path, i))
 }

@@ -21,7 +21,7 @@ pub enum EvalError {
 }
 
 // The infix operators that evaluate only what they need: && || ?:
-// kept: operators go by 01's numbers, which C and the words of a description hold.
+// kept: the public `eval_prefix` and `eval_infix` take any number and may not ask more; an enum would need a second table, of 23 arms.
 pub const AND: u32 = 11;
 
 pub const OR: u32 = 12;

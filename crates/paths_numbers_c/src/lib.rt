@@ -12,7 +12,7 @@ ghost use Rattle.paths_numbers.specs.meaning.Reading.{told};
 ghost use Rattle.paths_numbers.specs.meaning.Reference.{target};
 ghost use Rattle.paths_numbers.specs.meaning.Text.{same};
 ghost use Rattle.paths_numbers_c.specs.meaning.Told.{truth, number_told, integer_told, result_told, length_told, bytes_told, path_told};
-ghost use Rattle.paths_numbers_c.specs.meaning.Told.{width_told, int_at, expr_at, char_at, target_told, place_told};
+ghost use Rattle.paths_numbers_c.specs.meaning.Told.{width_told, at_width, width_of, int_at, expr_at, char_at, target_told, place_told};
 ghost use Rattle.slashes.specs.meaning.Slash.{next_slash};
 
 use paths_numbers::codes::Code;
@@ -267,16 +267,25 @@ pub extern "C" fn pn_path_lies_under(parent: &[u8], name: &[u8], unit: &[u8], ba
     u32::from(path_lies_under(Joined { parent, name, unit }, base))
 }
 
-// An unsigned number's text, read at a width of 8, 16, 32 or 64 bits.
+// What a step answers at the width of this many bits, or the code of a width that is none.
 #[tactic(auto, unfolding(crate::specs::meaning::Told::at_width))]
+fn at_width<E: Code, F: FnOnce(BitsSize) -> Result<u64, E>>(bits: u32, step: F) -> PnNumber
+    requires { F.IsAlwaysCallable step }
+    ensures { (f : BitsSize → PnNumber) → ((size : BitsSize) (r : _) → F.post step size r → number_told (told E.code_of r) ≡ f size)
+        → result ≡ at_width f (width_of bits) }
+{
+    match BitsSize::try_from(bits as u64) {
+        Ok(size) => PnNumber::from(step(size)),
+        Err(e) => PnNumber::from(Err::<u64, SizeError>(e)),
+    }
+}
+
+// An unsigned number's text, read at a width of 8, 16, 32 or 64 bits.
 #[unsafe(no_mangle)]
 pub extern "C" fn pn_parse_int(text: &[u8], bits: u32) -> PnNumber
     ensures { result ≡ int_at bits text.now }
 {
-    match BitsSize::try_from(bits as u64) {
-        Ok(size) => PnNumber::from(parse_int_tok(text, size)),
-        Err(e) => PnNumber::from(Err::<u64, SizeError>(e)),
-    }
+    at_width(bits, |size| parse_int_tok(text, size))
 }
 
 // A number's text, read as a signed 64-bit number.
@@ -296,27 +305,19 @@ pub extern "C" fn pn_width(text: &[u8]) -> PnNumber
 }
 
 // What an expression's result is as a cell of 8, 16, 32 or 64 bits.
-#[tactic(auto, unfolding(crate::specs::meaning::Told::at_width))]
 #[unsafe(no_mangle)]
 pub extern "C" fn pn_expr_cell(num: i64, bits: u32) -> PnNumber
     ensures { result ≡ expr_at bits num }
 {
-    match BitsSize::try_from(bits as u64) {
-        Ok(size) => PnNumber::from(expr_cell(num, size)),
-        Err(e) => PnNumber::from(Err::<u64, SizeError>(e)),
-    }
+    at_width(bits, |size| expr_cell(num, size))
 }
 
 // What a character is as a cell of 8, 16, 32 or 64 bits.
-#[tactic(auto, unfolding(crate::specs::meaning::Told::at_width))]
 #[unsafe(no_mangle)]
 pub extern "C" fn pn_char_cell(ch: u32, bits: u32) -> PnNumber
     ensures { result ≡ char_at bits ch }
 {
-    match BitsSize::try_from(bits as u64) {
-        Ok(size) => PnNumber::from(char_cell(ch, size)),
-        Err(e) => PnNumber::from(Err::<u64, SizeError>(e)),
-    }
+    at_width(bits, |size| char_cell(ch, size))
 }
 
 // The prefix operator of this number on a value; code 1 where there is none.

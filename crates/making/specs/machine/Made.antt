@@ -1,7 +1,6 @@
 -- The words of a record that is made, and the link that leads to it, as the code writes them.
 use Rattle.std.specs.Prelude.{ℕ, ◌+◌, ◌*◌, ◌≤◌, ◌<◌, ◌≡◌, Bool, true, false, cond, List, [], ◌∷◌, ◌++◌, eqb, ltb, leb, length, set}
 use Rattle.paths_numbers.specs.meaning.Text.{written}
-use Rattle.paths_numbers.specs.meaning.Bytestring.{bytes_of, is_odd}
 use Rattle.definition_log.specs.meaning.Record.{log_count, most_bytes}
 use Rattle.making.specs.declared.ctx.Chain.{Chain}
 use Rattle.making.specs.declared.ctx.LowerCtx.{LowerCtx}
@@ -166,8 +165,3 @@ pub record Told (c d : LowerCtx) (words bytes w b : List ℕ) (r : Rec) (first s
   pub state : d ≡ counted c words bytes (length first) (length second) link
   pub words_are : w ≡ made_words c words bytes r (length first) (length second) link
   pub bytes_are : b ≡ made_bytes c words bytes first second link
-
--- the same of a bytestring's text: the record's text is its bytes, and where a digit is missing nothing is made
-pub record ToldBytes (c d : LowerCtx) (words bytes w b : List ℕ) (r : Rec) (text : List ℕ) (link : ℕ) : Type 0 where
-  pub even : is_odd text ≡ false → Told c d words bytes w b r (bytes_of text) [] link
-  pub odd : is_odd text ≡ true → (d ≡ c) × (w ≡ words) × (b ≡ bytes)

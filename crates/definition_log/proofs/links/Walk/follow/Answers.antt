@@ -24,13 +24,13 @@ overflow_mul-self g c =
 pub overflow_add-self : goal.overflow_add-self
 overflow_add-self g c =
     let a = c.args in
-    omega (arith, (leads_below a.words.now a.r (cc)).1, count_most a.words.now, c.number.ensures.small)
+    omega (arith, (leads_below a.words.now a.r (cc)).1, count_most a.words.now, c.from.ensures.0)
 
 pub returns-then-self : goal.returns-then-self
 returns-then-self g c =
     let s = c.args.self.now in
     link_first c.args.words.now s.marks s.queue s.met c.args.r _ _ _ (cc) (grind (arith, common_steps)) (cc) (omega arith)
-    c.number.ensures.small c.number.ensures.same
+    c.from.ensures.0 c.from.ensures.1
 
 pub returns-else-self : goal.returns-else-self
 returns-else-self g c =

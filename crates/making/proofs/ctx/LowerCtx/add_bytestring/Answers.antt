@@ -20,7 +20,7 @@ returns-in-Ok c =
     ∙ ap count_told c.in-Ok.is) in
     record {
       even = λ e. makes_bytestring
-          c.args.text.now e (c.make_bytestring-made.ensures.even e)
+          c.args.text.now e c.make_bytestring-made.ensures
           c.part.ensures
           c.child_link-link.ensures c.with_part.ensures;
       odd = λ e. absurd (not_both e n.0);
