@@ -3,8 +3,8 @@
 #![tactic(auto, unfolding(crate::specs::meaning::Record::out_field, crate::specs::meaning::Record::log_count))]
 
 ghost use Rattle.std.specs.Prelude.{◌≡◌, ◌≤◌, ◌+◌, ◌*◌, get_or};
-ghost use Rattle.definition_log.specs.meaning.Record.{record_words, out_field, kind_of, next_of, child_of, log_count, leads, text_in, first_text};
-ghost use Rattle.definition_log.specs.meaning.Record.{second_text};
+ghost use Rattle.definition_log.specs.meaning.Record.{out_field, kind_of, next_of, child_of, log_count, leads, text_in, first_text};
+ghost use Rattle.definition_log.specs.meaning.Record.{record_words, second_text};
 
 use crate::layout;
 use crate::limits::MOST_RECORDS;

@@ -11,7 +11,8 @@ use Rattle.input.specs.machine.At.{record_at}
 use Rattle.input.proofs.Read.{some_nesting, parts_shallow}
 use Rattle.input.proofs.Evaluation.{infix_short, conditional_short, decided}
 use Rattle.input.proofs.Evaluation.{value_passes, second_decides, second_fails, plain_infix}
-use Rattle.input.proofs.Evaluation.{no_first, first_is, first_operand_in, two_in, three_in, eval_kind, eval_macro, eval_other, binary_fails, binary_value}
+use Rattle.input.proofs.Evaluation.{no_first, first_is, first_operand_in, two_in, three_in}
+use Rattle.input.proofs.Evaluation.{eval_kind, eval_macro, eval_other, binary_fails, binary_value}
 use Rattle.input.proofs.Evaluation.{conditional_fails, conditional_value}
 use Rattle.input.proofs.Levels.{character_at}
 use Rattle.input.proofs.linked.+eval.Goals as goal
