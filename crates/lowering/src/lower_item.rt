@@ -97,17 +97,10 @@ fn lower_dt_node(
         NodePlace::Aside(reference, kind) => {
             let inner = made.enter(true);
             let apart = lower_items(body, PathAt::Root, deeper, out, bytes, inner, level);
-            let Input { words, text, .. } = node.input;
+            let Record { input, number, .. } = node;
+            let Input { words, text, .. } = input;
             settle_aside(
-                words,
-                text,
-                node.number,
-                reference,
-                kind,
-                out,
-                bytes,
-                apart,
-                made,
+                words, text, number, reference, kind, out, bytes, apart, made,
             )
         }
         NodePlace::Discarded => {
