@@ -23,7 +23,11 @@ pub struct Below<'a> {
 }
 
 // What a full name says, where the name is there, and one in its unit address where there is one.
-pub fn named_below<'a, 'b>(words: &'b [u32], text: &'a [u8], full: FullName) -> Option<Below<'a>>
+pub(crate) fn named_below<'a, 'b>(
+    words: &'b [u32],
+    text: &'a [u8],
+    full: FullName,
+) -> Option<Below<'a>>
     ensures { NamesBelow words.now text.now full result }
 {
     if !is_named(full) {

@@ -97,8 +97,7 @@ fn lower_dt_node(
         NodePlace::Aside(reference, kind) => {
             let inner = made.enter(true);
             let apart = lower_items(body, PathAt::Root, deeper, out, bytes, inner, level);
-            let Record { input, number, .. } = node;
-            let Input { words, text, .. } = input;
+            let (Input { words, text, .. }, number) = (node.input, node.number);
             settle_aside(
                 words, text, number, reference, kind, out, bytes, apart, made,
             )

@@ -35,5 +35,6 @@ property_begun r None p s = s
 -- a name that was read, with its unit address, where both are there
 abbrev pub NamesBelow : List ℕ → List ℕ → FullName → Maybe Below → Type 0
 NamesBelow words text f (Some b) =
-    (is_there (full_read words text f).result ≡ true) × (b.name.now ≡ name_text words text f.name) × (b.unit.now ≡ unit_text words text f.unit)
+    (is_there (full_read words text f).result ≡ true) × (b.name.now ≡ name_text words text f.name)
+    × (b.unit.now ≡ unit_text words text f.unit)
 NamesBelow words text f None = is_there (full_read words text f).result ≡ false
