@@ -46,6 +46,7 @@ pub fn check_mir_post(out: &mut [u32], bytes: &mut [u8], ctx: LowerCtx) -> Lower
 }
 
 // Reports labels that are still bound at more than one path.
+// kept: check_bindings has this loop too: four lines, whose one form takes a closure and a record of laws on what was passed, for two uses.
 pub fn check_duplicate_labels(out: &mut [u32], bytes: &mut [u8], ctx: LowerCtx) -> LowerCtx
     ensures { Lowers ctx result out.old bytes.old out.new bytes.new
         (λ (s : State). emit (duplicate_labels [] s.binds) s) }

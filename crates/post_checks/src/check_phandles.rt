@@ -146,6 +146,7 @@ fn check_cell(out: &mut [u32], bytes: &mut [u8], ctx: LowerCtx, span: Span, r: u
 }
 
 // The report on a reference, where it leads nowhere.
+// kept: report_unresolved of resolving tells the three of texts from outside, while the places here lie in the log.
 fn check_phandle(out: &mut [u32], bytes: &mut [u8], ctx: LowerCtx, span: Span, r: u32) -> LowerCtx
     ensures { Reports ctx result out.old bytes.old out.new bytes.new (r ∷ [])
         (check_target (said ctx out.old bytes.old) (meant span)
