@@ -41,8 +41,8 @@ const CHAINS: u32 = 9;
 impl From<Chain> for u32 {
     ghost from_gives = { λ chain number. (number < chains) × (place_of number ≡ place_told chain) };
 
-    // kept: the queue has a record and its chain in one word. An array of structs of both takes twice as much of a walk's fixed memory, which
-    // is on the stack: 512 KB of 65,536 records and not 256 KB.
+    // kept: the queue has a record and its chain in one word, of fixed memory on the stack. A struct of both takes 8 bytes and not 4
+    // (size_of): 512 KB for 65,536 records and not 256 KB.
     fn from(chain: Chain) -> u32 {
         chain as u32
     }

@@ -17,7 +17,8 @@ impl PathAt {
     pub const EMPTY: PathAt = PathAt::Bytes { start: 0, size: 0 };
 
     // The same, or the empty path where its bytes do not lie among those in use.
-    // kept: no Option, since `text` and `write_path` both read the empty path there, and `write_path` copies by the place and not by a slice.
+    // kept: no Option, since `text` and `write_path` both read the empty path there, and `write_path` copies by the place and not by a
+    // slice.
     pub(crate) fn settle(self, used: u32, bytes: &[u8]) -> PathAt
         ensures { result ≡ settled used bytes.now self }
     {
