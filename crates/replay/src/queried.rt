@@ -36,7 +36,7 @@ fn answered<R: Print>(
     t.number(Numbers::from(answer).returned, what)
 }
 
-// A list of places against the definitions that are listed; a place that ours has not is a number behind the last place.
+// A list of places against the definitions that are listed.
 fn places<R: Print>(
     out: &[u32],
     list: &[u32],
@@ -49,14 +49,20 @@ fn places<R: Print>(
     // kept: an index, for more may be recorded than are listed; the library has no `repeat` for what is missing
     for i in 0..count {
         let number = list.get(i).copied().unwrap_or(0);
-        t.number(place_of(out, number).unwrap_or(log_count(out)), what)?;
+        t.number(place_of(out, number), what)?;
     }
     Ok(())
 }
 
-// A definition's place in the main log.
-fn place_of(out: &[u32], number: u32) -> Option<u32> {
+// A definition's place in the main log; of 0, which ends the chain, the place of that end; else a number behind the last place.
+fn place_of(out: &[u32], number: u32) -> u32 {
     let first = out_field(out, 0, layout::FIRST_DEFINITION);
-    let place = chain(out, first).position(|r| r == number)?;
-    Some(u32::try_from(place).unwrap_or(u32::MAX))
+    let place = match number {
+        0 => Some(chain(out, first).count()),
+        _ => chain(out, first).position(|r| r == number),
+    };
+    match place {
+        Some(place) => u32::try_from(place).unwrap_or(u32::MAX),
+        None => log_count(out),
+    }
 }

@@ -1,5 +1,7 @@
 // Numbers and texts of the sample. Every method answers for any bytes: what lies behind the end reads as 0, and a text ends where the bytes
 // do.
+ghost use Rattle.std.specs.Prelude.{◌≤◌, length};
+
 // The byte that a number of five bytes starts with.
 const LONG: u8 = 255;
 
@@ -41,7 +43,9 @@ impl<'a> Sample<'a> {
     }
 
     // Puts the next list of numbers at the start of `words`, as far as they reach, and returns those that it put there.
-    pub fn numbers<'w>(&mut self, words: &'w mut [u32]) -> &'w [u32] {
+    pub fn numbers<'w>(&mut self, words: &'w mut [u32]) -> &'w [u32]
+        ensures { length result.now ≤ length words.old }
+    {
         let count = self.number() as usize;
         let n = count.min(words.len());
         let list = &mut words[..n];
