@@ -1,67 +1,69 @@
 -- The braces around a raw reference, and the text between them.
-use Rattle.std.proofs.Common.{◌≡◌, ℕ, suc, ◌+◌, ◌-◌, ◌<◌, ◌≤◌, Bool, true, false, cond, eqb, List, [], ◌∷◌, ◌++◌, length, get_or, take}
-use Rattle.std.proofs.Common.{drop, sym, refl, ap, ◌∙◌, arith, length-append, drop_of_length-le, take_at, eq-eqb, eqb-true}
+use Rattle.std.proofs.Common.{◌≡◌, ℕ, suc, ◌+◌, ◌-◌, ◌<◌, ◌≤◌, Bool, true, false, cond, eqb, ltb, List, [], ◌∷◌, ◌++◌, length, get_or, take}
+use Rattle.std.proofs.Common.{drop, sym, refl, ap, ◌∙◌, arith, length-append, length-drop, drop_of_length-le, get_or-drop, take_at, ltb-false}
+use Rattle.std.proofs.Common.{ltb-true, eq-eqb, ne_eqb, eqb-true}
 use lib.Seq.{get_or_at, split_at}
 use Rattle.paths_numbers.specs.meaning.Byte.{ampersand, opening_brace, closing_brace}
 use Rattle.paths_numbers.specs.meaning.Text.{begins}
 use Rattle.paths_numbers.specs.meaning.Reference.{last_byte, is_braced, inner_text}
-use Rattle.paths_numbers.proofs.Texts.{not_both, cond_in}
-use Rattle.paths_numbers.proofs.Compared.{begins_pointwise, ends_pointwise}
-use Rattle.std.specs.Prelude.{Option, Some, None, MatchOption}
-use Rattle.std.specs.Option.{UnwrapsOrElse}
-use denote.Ref.{Bor}
-use lib.Pointwise.{pointwise}
+use Rattle.paths_numbers.proofs.Texts.{not_both, by_test}
 
--- a text is in braces where it begins with the first two, and the text behind them ends with the third
-pub unopened : (s : List ℕ) → pointwise eqb (take 2 s) (ampersand ∷ opening_brace ∷ []) ≡ false → is_braced s ≡ false
-unfolding is_braced
-unopened s e = rw (sym (begins_pointwise s (ampersand ∷ opening_brace ∷ [])) ∙ e) refl
+-- a test that changes nothing
+cond_same : {A : Type 0} (t : Bool) (x : A) → cond t x x ≡ x
+cond_same true x = refl
+cond_same false x = refl
 
-opened : (s r : List ℕ) → pointwise eqb (take 2 s) (ampersand ∷ opening_brace ∷ []) ≡ true → r ≡ drop 2 s
-    → is_braced s ≡ pointwise eqb (drop (length r - 1) r) (closing_brace ∷ [])
-unfolding is_braced
-opened s r e f =
-    rw (sym (begins_pointwise s (ampersand ∷ opening_brace ∷ [])) ∙ e)
-    (ap (λ (l : List ℕ). eqb (last_byte l) closing_brace) (sym f) ∙ sym (ends_pointwise r closing_brace (omega arith)))
+-- the last byte behind the first two is the last byte of all
+last_behind : (s : List ℕ) → 3 ≤ length s → last_byte (drop 2 s) ≡ last_byte s
+last_behind s h =
+    let e : 2 + (length (drop 2 s) - 1) ≡ length s - 1 = omega (arith, length-drop 2 s) in
+    get_or-drop 2 s (length (drop 2 s) - 1) 0 ∙ ap (λ (i : ℕ). get_or s i 0) e
 
--- what the code finds between the braces
-abbrev pub Found : List ℕ → Option (Bor (List ℕ)) → Type 0
-Found s o = MatchOption o (is_braced s ≡ false) (λ x. (is_braced s ≡ true) × (x.now ≡ inner_text s))
-
-pub found : (s r : List ℕ) (o : Option (Bor (List ℕ))) → pointwise eqb (take 2 s) (ampersand ∷ opening_brace ∷ []) ≡ true → r ≡ drop 2 s
-    → length r + 2 ≡ length s
-    → MatchOption o (pointwise eqb (drop (length r - 1) r) (closing_brace ∷ []) ≡ false)
-    (λ x. (pointwise eqb (drop (length r - 1) r) (closing_brace ∷ []) ≡ true) × (x.now ≡ take (length r - 1) r) × (length x.now + 1 ≡ length r))
-    → Found s o
-unfolding inner_text
-found s r None e f n h = opened s r e f ∙ h
-found s r (Some x) e f n (h, t, m) =
-    let b = opened s r e f ∙ h in
-    let l : length r - 1 ≡ length s - 3 = omega arith in
-    (b, t ∙ rw (b, l, f) refl)
-
--- or nothing, where they are missing
-pub found_or_empty : (s : List ℕ) (o : Option (Bor (List ℕ))) (x : Bor (List ℕ)) → Found s o → UnwrapsOrElse o (λ y. y.now ≡ []) x
-    → x.now ≡ inner_text s
-unfolding inner_text
-found_or_empty s None x b e = e ∙ rw b refl
-found_or_empty s (Some y) x (b, t) e = ap (λ (z : Bor (List ℕ)). z.now) e ∙ t
-
--- a text in braces has room for them
-pub braced_length : (s : List ℕ) → is_braced s ≡ true → 3 ≤ length s
+-- a text is in braces where it has their three bytes, and has room for them
+pub braced_short : (s : List ℕ) → length s < 3 → is_braced s ≡ false
 unfolding is_braced begins
-braced_length [] e = absurd (not_both e refl)
-braced_length (a ∷ []) e = absurd (not_both e (cond_in (λ (t : Bool). cond t (eqb 0 closing_brace) false ≡ false) (eqb a ampersand) refl refl))
-braced_length (a ∷ b ∷ []) e =
-    absurd (not_both e
-    (cond_in (λ (t : Bool). cond t (eqb 0 closing_brace) false ≡ false) (eqb a ampersand)
-    (cond_in (λ (t : Bool). cond t (eqb 0 closing_brace) false ≡ false) (eqb b opening_brace) refl refl) refl))
-braced_length (a ∷ b ∷ d ∷ s) e = omega arith
+braced_short [] h = refl
+braced_short (a ∷ []) h = rw (cond_same (eqb a ampersand) false) refl
+braced_short (a ∷ b ∷ []) h = cond_same (cond (eqb a ampersand) (cond (eqb b opening_brace) true false) false) false
+braced_short (a ∷ b ∷ d ∷ s) h = absurd (omega arith)
 
--- the text between the braces
+pub braced_first : (s : List ℕ) → (get_or s 0 0 ≡ ampersand → ⊥) → is_braced s ≡ false
+unfolding is_braced begins
+braced_first [] h = refl
+braced_first (a ∷ s) h = simp (ne_eqb _ _ h)
+
+pub braced_second : (s : List ℕ) → (get_or s 1 0 ≡ opening_brace → ⊥) → is_braced s ≡ false
+unfolding is_braced begins
+braced_second [] h = refl
+braced_second (a ∷ []) h = rw (cond_same (eqb a ampersand) false) refl
+braced_second (a ∷ b ∷ s) h = simp (ne_eqb _ _ h, cond_same)
+
+pub braced_last : (s : List ℕ) → 3 ≤ length s → (last_byte s ≡ closing_brace → ⊥) → is_braced s ≡ false
+unfolding is_braced
+braced_last s h n = rw (last_behind s h) (simp (ne_eqb _ _ n, cond_same))
+
+pub braced_all : (s : List ℕ) → 3 ≤ length s → get_or s 0 0 ≡ ampersand → get_or s 1 0 ≡ opening_brace → last_byte s ≡ closing_brace
+    → is_braced s ≡ true
+unfolding is_braced begins
+braced_all [] h e f g = absurd (omega arith)
+braced_all (a ∷ []) h e f g = absurd (omega arith)
+braced_all (a ∷ b ∷ s) h e f g = simp (eq-eqb _ _ e, eq-eqb _ _ f) (eq-eqb _ _ (last_behind (a ∷ b ∷ s) h ∙ g))
+
 inner_braced : (s : List ℕ) → is_braced s ≡ true → take (length s - 1 - 2) (drop 2 s) ≡ inner_text s
 unfolding inner_text
 inner_braced s e = let f : length s - 1 - 2 ≡ length s - 3 = omega arith in rw (e, f) refl
+
+pub inner_all : (s : List ℕ) → 3 ≤ length s → get_or s 0 0 ≡ ampersand → get_or s 1 0 ≡ opening_brace → last_byte s ≡ closing_brace
+    → take (length s - 1 - 2) (drop 2 s) ≡ inner_text s
+inner_all s h e f g = inner_braced s (braced_all s h e f g)
+
+pub ruleset braced_steps = (braced_short, braced_first, braced_second, braced_last, braced_all, inner_all)
+
+pub braced_length : (s : List ℕ) → is_braced s ≡ true → 3 ≤ length s
+braced_length s e =
+    by_test (ltb (length s) 3)
+    (λ t. absurd (not_both e (braced_short s (ltb-true _ _ t))))
+    (λ t. ltb-false _ _ t)
 
 -- a text put in braces
 abbrev pub braced : List ℕ → List ℕ
@@ -104,3 +106,8 @@ braced_text (a ∷ b ∷ s) e =
     let i : take (length s - 1) s ≡ inner_text (a ∷ b ∷ s) = sym (ap (λ (k : ℕ). take k s) n) ∙ inner_braced (a ∷ b ∷ s) e in
     let l = last_split s (omega (arith, braced_length (a ∷ b ∷ s) e)) in
     cc (i, l, eqb-true a ampersand u.0, eqb-true b opening_brace v.0, eqb-true (last_byte s) closing_brace t.1)
+
+-- so that what stands between them is shorter
+pub inner_shorter : (raw s : List ℕ) → is_braced raw ≡ true → s ≡ inner_text raw → length s < length raw
+inner_shorter raw s e i =
+    omega (arith, ap length i, ap length (braced_text raw e), length-append (inner_text raw) (closing_brace ∷ []))

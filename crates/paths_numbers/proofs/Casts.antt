@@ -1,9 +1,9 @@
 -- Signed numbers of 64 bits as the machine reads them: the test of the sign, the cast, and -1 minus one of them.
 use Rattle.std.proofs.Common.{◌≡◌, ℕ, zero, suc, ◌+◌, ◌-◌, ◌%◌, ◌^◌, ◌<◌, ◌≤◌, true, false, T, ℤ, pos, negsuc, ◌-ℤ◌, neg_ℤ, nat_abs, refl}
-use Rattle.std.proofs.Common.{ap, ◌∙◌, arith, w64, SFits, to_z, le-ltb}
+use Rattle.std.proofs.Common.{ap, ◌∙◌, arith, w64, SFits, to_z, of_z, le-ltb}
 use lib.Dec.{leb-zero}
 use lib.Signed.{le_z, non_neg, pos-nat_abs}
-use mir.ValLaws.{to_z_pos, to_z-neg}
+use mir.ValLaws.{to_z-of_z, to_z_pos, to_z-neg}
 use Rattle.paths_numbers.proofs.Integers.{Z, read}
 
 -- -1 minus z: n and -(n + 1) change places
@@ -35,6 +35,15 @@ from_zero (negsuc n) t = let o : ◌≡◌ {A = ℕ} 0 1 = cc in absurd (omega a
 below_zero : (z : ℤ) → le_z (pos 0) z ≡ false → T (non_neg (flip z))
 below_zero (pos n) t = let o : ◌≡◌ {A = ℕ} 0 1 = cc (leb-zero n) in absurd (omega arith)
 below_zero (negsuc n) t = tt
+
+-- bits k that are read as z
+module _ (k : ℕ) (z : ℤ) (e : to_z w64 k ≡ z) (f : SFits w64 z) where
+  -- -1 minus z fits, and is read as it is
+  pub minus_fits : SFits w64 (negsuc 0 -ℤ to_z w64 k)
+  minus_fits = rw (e, minus_one) (flip_fits z f)
+
+  pub minus_is : to_z w64 (of_z w64 (negsuc 0 -ℤ to_z w64 k)) ≡ flip z
+  minus_is = to_z-of_z w64 _ minus_fits ∙ rw e (minus_one z)
 
 module _ (a : ℤ) (f : SFits w64 a) where
   -- a from 0 on, cast to an unsigned type

@@ -1,6 +1,6 @@
--- What the library's comparisons of slices decide: `same`, `begins`, and the last byte.
-use Rattle.std.proofs.Common.{◌≡◌, ℕ, suc, ◌+◌, ◌-◌, ◌<◌, ◌≤◌, add-one, Bool, true, false, cond, ◌&&◌, eqb, List, [], ◌∷◌, length, take, drop, sym, refl, ap}
-use Rattle.std.proofs.Common.{◌∙◌, arith, drop_of_length-le, drop-cons, ne_eqb, eq-eqb, eqb-true, get_or, ◌++◌}
+-- What the library's comparisons of slices decide: `same` and `begins`.
+use Rattle.std.proofs.Common.{◌≡◌, ℕ, suc, ◌+◌, ◌≤◌, add-one, Bool, true, false, cond, ◌&&◌, eqb, List, [], ◌∷◌, length, take, drop, sym, refl}
+use Rattle.std.proofs.Common.{◌∙◌, arith, drop-cons, ne_eqb, eq-eqb, eqb-true, get_or, ◌++◌}
 use Rattle.std.specs.Prelude.{Option, Some, None, unwrap_or, option_map}
 use Rattle.std.specs.Option.{option_eq}
 use denote.Ref.{Bor}
@@ -9,7 +9,6 @@ use lib.ListN.{length-take}
 use lib.Pointwise.{pointwise}
 use Rattle.std.specs.List.{list_all, enumerate_from}
 use Rattle.paths_numbers.specs.meaning.Text.{begins, same}
-use Rattle.paths_numbers.specs.meaning.Reference.{last_byte}
 use Rattle.paths_numbers.proofs.Texts.{by_test, begins_same}
 
 -- two tests, the second asked only where the first holds
@@ -23,12 +22,6 @@ same_pointwise [] [] = refl
 same_pointwise [] (b ∷ t) = refl
 same_pointwise (a ∷ s) [] = refl
 same_pointwise (a ∷ s) (b ∷ t) = and_cond (eqb a b) _ _ (same_pointwise s t)
-
-pub begins_pointwise : (s p : List ℕ) → pointwise eqb (take (length p) s) p ≡ begins s p
-unfolding begins
-begins_pointwise s [] = refl
-begins_pointwise [] (b ∷ p) = refl
-begins_pointwise (a ∷ s) (b ∷ p) = and_cond (eqb a b) _ _ (begins_pointwise s p)
 
 eqb_swap : (a b : ℕ) → eqb b a ≡ eqb a b
 eqb_swap a b = by_test (eqb a b) (λ t. rw t (eq-eqb b a (sym (eqb-true a b t)))) (λ t. rw t (ne_eqb b a (λ e. eqb-false a b t (sym e))))
@@ -58,14 +51,6 @@ begins_last (a ∷ s) (c ∷ p) b = rw (begins_last s p b) (swapped (eqb a c) (e
     swapped true false v = refl
     swapped false true v = refl
     swapped false false v = refl
-
-pub ends_pointwise : (s : List ℕ) (b : ℕ) → 0 < b → pointwise eqb (drop (length s - 1) s) (b ∷ []) ≡ eqb (last_byte s) b
-ends_pointwise [] b h = sym (ne_eqb 0 b (λ e. omega arith))
-ends_pointwise (a ∷ s) b h =
-    let e : drop (suc (length (a ∷ s) - 1)) (a ∷ s) ≡ [] = drop_of_length-le (a ∷ s) {i = suc (length (a ∷ s) - 1)} (omega arith) in
-    ap (λ (l : List ℕ). pointwise eqb l (b ∷ []))
-    (drop-cons (a ∷ s) (length (a ∷ s) - 1) 0 (omega arith) ∙ ap (λ (l : List ℕ). last_byte (a ∷ s) ∷ l) e)
-    ∙ by_test (eqb (last_byte (a ∷ s)) b) (λ t. rw t refl) (λ t. rw t refl)
 
 -- a text begins with another as the other begins with as many bytes of the text
 pub begins_taken : (s p : List ℕ) → length p ≤ length s → begins p (take (length p) s) ≡ begins s p

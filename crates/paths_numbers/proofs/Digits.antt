@@ -3,7 +3,7 @@ use Rattle.std.proofs.Common.{◌≡◌, ℕ, ◌+◌, ◌*◌, ◌<◌, ◌≤�
 use Rattle.std.proofs.Common.{drop-cons, le-ltb, lt-ltb, le-leb}
 use borrow.Author.Tests.{lt-leb}
 use Rattle.std.proofs.lemmas.Bool.Decides.{nat_tests}
-use Rattle.std.specs.Char.{digit_value}
+use Rattle.std.specs.Char.{digit_value, is_digit, is_ascii_hexdigit}
 use Rattle.paths_numbers.specs.meaning.Byte.{digit_of}
 use Rattle.paths_numbers.specs.meaning.Code.{not_a_digit}
 use Rattle.paths_numbers.specs.meaning.Reading.{Reading, value, fails}
@@ -13,6 +13,10 @@ use Rattle.paths_numbers.specs.meaning.Number.{digits}
 pub digit_same : (b : ℕ) → digit_of b ≡ digit_value b
 unfolding digit_of
 digit_same b = grind (arith, nat_tests)
+
+-- and so is what it takes for a hex digit
+pub hex_same : (b : ℕ) → is_ascii_hexdigit b ≡ is_digit b 16
+hex_same b = grind (arith, nat_tests)
 
 -- w is what the whole text gives, and the invariant says that the rest gives it too
 module _ (base most over acc : ℕ) (s : List ℕ) (i : ℕ) (w : Reading ℕ)

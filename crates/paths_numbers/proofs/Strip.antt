@@ -87,8 +87,19 @@ pub under_tests : (p b : List ℕ)
 unfolding at_or_under
 under_tests p b = ap is_found (strip_case p b _ _ _ refl refl refl) ∙ found_by (begins p b) _ _ _ _ _
 
--- so does the code: where the path does not begin with the base, and where it ends there or a byte follows
+-- so does the code: where the base is "/", where the path does not begin with the base, and where it ends there or a byte follows
 module _ (p b : List ℕ) where
+  pub under_slash : same b root ≡ true → at_or_under p b ≡ begins p root
+  under_slash r =
+      under_tests p b
+      ∙ simp r (begun (begins p b) (eqb (length p) (length b)))
+      ∙ ap (begins p) (same_true b root r)
+    where
+      begun : (t u : Bool) → cond t (cond u true true) false ≡ t
+      begun true true = refl
+      begun true false = refl
+      begun false u = refl
+
   pub under_no : begins p b ≡ false → at_or_under p b ≡ false
   under_no e = under_tests p b ∙ simp e
 

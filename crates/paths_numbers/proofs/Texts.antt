@@ -52,6 +52,24 @@ same_ne s t n = is_false (same s t) (λ e. n (same_true s t e))
 pub same_lengths : (s t : List ℕ) → (length s ≡ length t → ⊥) → same s t ≡ false
 same_lengths s t n = same_ne s t (λ e. n (ap length e))
 
+-- a text of one byte is that of the byte it has, and no other is
+pub one_byte : (s : List ℕ) (b : ℕ) → 1 ≤ length s → length s < 2 → get_or s 0 0 ≡ b → same s (b ∷ []) ≡ true
+unfolding same
+one_byte [] b h k e = absurd (omega arith)
+one_byte (a ∷ []) b h k e = simp (eq-eqb a b e)
+one_byte (a ∷ a' ∷ s) b h k e = absurd (omega arith)
+
+pub other_byte : (s : List ℕ) (b : ℕ) → (get_or s 0 0 ≡ b → ⊥) → same s (b ∷ []) ≡ false
+other_byte s b n = same_ne s (b ∷ []) (λ e. n (ap (λ (l : List ℕ). get_or l 0 0) e))
+
+pub no_bytes : (s : List ℕ) (b : ℕ) → length s < 1 → same s (b ∷ []) ≡ false
+no_bytes s b h = same_lengths s (b ∷ []) (λ e. omega arith)
+
+pub more_bytes : (s : List ℕ) (b : ℕ) → 2 ≤ length s → same s (b ∷ []) ≡ false
+more_bytes s b h = same_lengths s (b ∷ []) (λ e. omega arith)
+
+pub ruleset one_byte_steps = (one_byte, other_byte, no_bytes, more_bytes)
+
 -- a text that begins with p is p and what follows it
 pub begins_split : (s p : List ℕ) → begins s p ≡ true → s ≡ p ++ drop (length p) s
 unfolding begins

@@ -6,6 +6,7 @@ ghost use Rattle.paths_numbers.specs.machine.Limits.{stem};
 ghost use Rattle.paths_numbers.specs.meaning.Text.{same, begins, written};
 
 use crate::mir::is_root;
+use crate::text::put;
 
 // The path of a parent and a name. The name's unit address is empty where there is none.
 #[derive(Clone, Copy)]
@@ -132,14 +133,6 @@ fn write_name(name: &[u8], unit: &[u8], out: &mut [u8], at: usize)
     let sign = at + name.len();
     put(b"@", out, sign);
     put(unit, out, sign + 1);
-}
-
-// Writes a text.
-fn put(text: &[u8], out: &mut [u8], at: usize)
-    requires { at + length text.now ≤ length out.old }
-    ensures { out.new ≡ written out.old at text.now }
-{
-    out[at..at + text.len()].copy_from_slice(text);
 }
 
 // Whether a path is that of a parent and a name.

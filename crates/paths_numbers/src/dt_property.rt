@@ -242,6 +242,14 @@ fn bytestring_len_digits(text: &[u8]) -> usize
 {
     text.iter()
         .take_while(|b| **b != CLOSING_BRACKET)
-        .filter(|b| char::from(**b).is_digit(HEX))
+        .filter(|b| is_hex_digit(**b))
         .count()
+}
+
+// Whether a byte is a hex digit.
+#[tactic(auto, using(crate::proofs::Digits::hex_same))]
+fn is_hex_digit(b: u8) -> bool
+    ensures { result ≡ is_digit b 16 }
+{
+    b.is_ascii_hexdigit()
 }

@@ -10,21 +10,25 @@ use crate::text::starts_with;
 pub fn lies_under(this: &[u8], base: &[u8]) -> bool
     ensures { result ≡ at_or_under this.now base.now }
 {
+    if is_root(base) {
+        return this.starts_with(b"/");
+    }
     if !starts_with(this, base) {
         return false;
     }
     match this.get(base.len()) {
         None => true,
-        Some(next) => is_root(base) || *next == b'/',
+        Some(next) => *next == b'/',
     }
 }
 
-// The end of `this` behind `base`, empty where `this` does not lie at or under `base`.
+// The end of `this` behind `base`, or its empty end where `this` does not lie at or under `base`.
 pub fn strip_base<'a>(this: &'a [u8], base: &[u8]) -> &'a [u8]
     ensures { result.now ≡ stripped this.now base.now }
 {
-    if !lies_under(this, base) || this.len() == base.len() {
-        return &[];
+    let end = this.len();
+    if !lies_under(this, base) || end == base.len() {
+        return &this[end..];
     }
     if is_root(base) {
         return this;
@@ -33,10 +37,11 @@ pub fn strip_base<'a>(this: &'a [u8], base: &[u8]) -> &'a [u8]
 }
 
 // Whether a path is "/".
+#[tactic(auto, using(crate::proofs::Texts::one_byte_steps))]
 pub fn is_root(path: &[u8]) -> bool
     ensures { result ≡ same path.now root }
 {
-    path == b"/".as_slice()
+    matches!(path, [b'/'])
 }
 
 // Whether a path has row 9's form: empty, "/", or "/" before each of its nonempty components.

@@ -62,7 +62,9 @@ pub fn lower_phandle(raw: &[u8]) -> Option<MirPhandleTarget>
 pub fn phandle_label(raw: &[u8]) -> &[u8]
     ensures { result.now ≡ label_of (target raw.now) }
 {
-    let inner = inner_text(raw).unwrap_or_default();
+    let Some(inner) = inner_text(raw) else {
+        return &raw[raw.len()..];
+    };
     let k = first_slash(inner);
     &inner[..k]
 }
@@ -71,19 +73,25 @@ pub fn phandle_label(raw: &[u8]) -> &[u8]
 pub fn phandle_path(raw: &[u8]) -> &[u8]
     ensures { result.now ≡ path_of (target raw.now) }
 {
-    let inner = inner_text(raw).unwrap_or_default();
+    let Some(inner) = inner_text(raw) else {
+        return &raw[raw.len()..];
+    };
     match next_slash(inner, 0) {
-        None => &[],
+        None => &inner[inner.len()..],
         Some(0) => inner,
         Some(k) => &inner[k + 1..],
     }
 }
 
 // The text between `&{` and `}`; nothing where they are missing.
+#[tactic(auto, using(crate::proofs::Braces::braced_steps))]
 fn inner_text(raw: &[u8]) -> Option<&[u8]>
     ensures { MatchOption result (is_braced raw.now ≡ false) (λ s. (is_braced raw.now ≡ true) × (s.now ≡ inner_text raw.now)) }
 {
-    raw.strip_prefix(b"&{")?.strip_suffix(b"}")
+    match raw {
+        [b'&', b'{', inner @ .., b'}'] => Some(inner),
+        _ => None,
+    }
 }
 
 // The index of the first "/", the length where there is none.
