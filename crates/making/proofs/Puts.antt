@@ -2,15 +2,9 @@
 use Rattle.std.proofs.Common.{◌≡◌, ℕ, ◌+◌, ◌≤◌, List, ◌++◌, length, take, drop, replicate, refl, sym, ◌∙◌, arith}
 use borrow.Rule.Slice.PartMut.{put_mid}
 use lib.ListN.{length-replicate}
-use lib.Seq.{paste}
 use Rattle.paths_numbers.specs.meaning.Text.{written}
 use Rattle.paths_numbers.proofs.Written.{put_written}
 use Rattle.definition_log.proofs.Texts.{part, part_length}
-
--- a part of the buffer itself
-pub pasted : (d : List ℕ) (at from size n : ℕ) → n ≡ size → from + size ≤ length d → paste d at (drop from d) n ≡ written d at (part d from size)
-unfolding written
-pasted d at from size n e h = rw (e, part_length d from size h) refl
 
 -- a part set to zeros
 pub filled : (d : List ℕ) (at size k : ℕ) (ys : List ℕ) → ys ≡ replicate (length (take k (drop at d))) 0 → k ≡ size → at + size ≤ length d

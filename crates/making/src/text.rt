@@ -1,5 +1,5 @@
 // A text of a record that is made: bytes that are given, or a path that the bytes of the log have.
-ghost use Rattle.std.specs.Prelude.{◌≡◌, ◌+◌, ◌≤◌, length};
+ghost use Rattle.std.specs.Prelude.{◌≡◌, ◌+◌, ◌≤◌, length, take, drop};
 ghost use Rattle.paths_numbers.specs.meaning.Text.{written};
 ghost use Rattle.paths_numbers.specs.meaning.Path.{joined, joined_path, at_most, largest_usize};
 ghost use Rattle.making.specs.machine.PathPlaces.{path_in};
@@ -7,6 +7,7 @@ ghost use Rattle.making.specs.machine.Texts.{piece_in, text_said};
 
 use crate::place::PathAt;
 use paths_numbers::dt_node::{Joined, build_path, path_len};
+use paths_numbers::text::put;
 
 // Bytes that are given, or the path of a place.
 #[derive(Clone, Copy, Debug, PartialEq, Eq)]
@@ -61,7 +62,7 @@ impl<'a> Text<'a> {
         ensures { bytes.new ≡ written bytes.old at (text_said used bytes.old self.entry) }
     {
         match self {
-            Text::Whole(Piece::Given(text)) => bytes[at..at + text.len()].copy_from_slice(text),
+            Text::Whole(Piece::Given(text)) => put(text, bytes, at),
             Text::Whole(Piece::At(path)) => write_path(used, bytes, at, path),
             Text::Joined { path, name, unit } => write_joined(used, bytes, at, path, name, unit),
         }
@@ -75,9 +76,18 @@ fn write_path(used: u32, bytes: &mut [u8], at: usize, path: PathAt)
 {
     match path.settle(used, bytes) {
         PathAt::Root => bytes[at] = b'/',
-        PathAt::Bytes { start, size } => {
-            bytes.copy_within((start as usize)..(start as usize) + (size as usize), at)
-        }
+        PathAt::Bytes { start, size } => copy_on(bytes, start as usize, size as usize, at),
+    }
+}
+
+// Copies `size` bytes from index `start` to index `at`, which lies behind them.
+fn copy_on(bytes: &mut [u8], start: usize, size: usize, at: usize)
+    requires { (start + size ≤ at) × (at + size ≤ length bytes.old) }
+    ensures { bytes.new ≡ written bytes.old at (take size (drop start bytes.old)) }
+{
+    // kept: an index, for `copy_within` would have the archive for C ask for `memmove`, which it does without.
+    for i in 0..size {
+        bytes[at + i] = bytes[start + i];
     }
 }
 

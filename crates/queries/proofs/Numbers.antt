@@ -1,15 +1,17 @@
 -- The answers of the queries by record numbers: that they stand for the definitions that are meant, and how a walk over a chain makes them.
-use Prim.Native.Nat.{ℕ, ◌+◌, ◌-◌, ◌≤◌, ◌<◌}
+use Prim.Native.Nat.{ℕ, suc, ◌+◌, ◌-◌, ◌≤◌, ◌<◌}
 use mathlib.Core.Path.{◌≡◌, refl, sym, ap, ◌∙◌}
 use mathlib.Core.Bool.{Bool, true, false, cond}
 use mathlib.Core.List.{List, [], ◌∷◌, ◌++◌, map, append-nil, append_assoc}
 use native.Mathlib.Omega.{arith}
+use native.Mathlib.Numerals.{add-one}
 use borrow.Author.Tests.{le-leb, lt-leb}
-use lib.ListN.{length, take, drop, set, replicate, length-append, length-drop, length-replicate}
-use lib.Seq.{drop-length, take_all, length-take-le, take-append_seam, drop-append_seam}
+use lib.ListN.{length, get_or, take, drop, set, replicate, length-append, length-drop, length-replicate}
+use lib.Seq.{drop-cons, drop-length, take_all, length-take-le, take-append_seam, drop-append_seam}
 use Rattle.std.proofs.lemmas.List.{take_more_set}
 use Rattle.paths_numbers.specs.meaning.Text.{same, written}
 use Rattle.paths_numbers.proofs.Texts.{by_test}
+use Rattle.paths_numbers.proofs.Written.{written_cons}
 use Rattle.definition_log.specs.meaning.Contents.{Def}
 use Rattle.definition_log.specs.meaning.Record.{first_def}
 use Rattle.definition_log.specs.meaning.ReadBack.{chain_of, def_at, read_defs}
@@ -147,12 +149,10 @@ pub written_start : (d s : List ℕ) (n : ℕ) → n ≡ length s → take n (wr
 unfolding written
 written_start d s n e = rw e (take-append_seam s (drop (0 + length s) d))
 
--- a part at the start of a list, written anew
-pub written_over : (list : List ℕ) {part numbers : List ℕ} → part ≡ numbers → part ++ drop (length numbers) list ≡ written list 0 numbers
-unfolding written
-written_over list {numbers = numbers} e =
-    let z : 0 + length numbers ≡ length numbers = omega arith in
-    rw (e, z) refl
+-- one number more of a list that is written number by number: w is the whole written, and the invariant says that the rest written gives it
+pub written_next : (d s w : List ℕ) (i : ℕ) → w ≡ written d i (drop i s) → i < length d → i < length s
+    → w ≡ written (set d i (get_or s i 0)) (i + 1) (drop (i + 1) s)
+written_next d s w i inv h k = inv ∙ rw (drop-cons s i 0 k, written_cons d i (get_or s i 0) (drop (suc i) s) h, add-one i) refl
 
 -- a list that has room for the answers, and one that has not
 pub fitted_full : (list answers : List ℕ) → length answers ≤ length list → written list 0 answers ≡ fitted list answers

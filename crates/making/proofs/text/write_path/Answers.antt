@@ -3,7 +3,6 @@ use Rattle.std.proofs.Common.{length, sym, ap, ◌∙◌, arith}
 use Rattle.paths_numbers.specs.meaning.Text.{written}
 use Rattle.definition_log.proofs.Texts.{part_length}
 use Rattle.making.proofs.PathPlaces.{settled_in, path_root, path_bytes, written_one}
-use Rattle.making.proofs.Puts.{pasted}
 use Rattle.making.proofs.text.write_path.Goals as goal
 
 pub bounds-bytes-at : goal.bounds-bytes-at
@@ -12,18 +11,14 @@ bounds-bytes-at c =
     let r = path_root a.used a.bytes.now a.path (sym c.in-Root.is ∙ c.settle.ensures) in
     omega (arith, ap length r, c.requires.1)
 
-pub copy_within-requires-clause-in_bounds : goal.copy_within-requires-clause-in_bounds
-copy_within-requires-clause-in_bounds c =
-    let a = c.args in
-    (settled_in a.used a.bytes.now a.path _ (sym c.in-Bytes.is ∙ c.settle.ensures)).1
-
-pub copy_within-requires-clause-dest_in_bounds : goal.copy_within-requires-clause-dest_in_bounds
-copy_within-requires-clause-dest_in_bounds c =
+pub copy_on-requires : goal.copy_on-requires
+copy_on-requires c =
     let a = c.args in
     let e = sym c.in-Bytes.is ∙ c.settle.ensures in
     let r = path_bytes a.used a.bytes.now a.path _ _ e in
-    let h = (settled_in a.used a.bytes.now a.path _ e).1 in
-    omega (arith, ap length r, part_length a.bytes.now c.in-Bytes.start c.in-Bytes.size h, c.requires.1)
+    let h = settled_in a.used a.bytes.now a.path _ e in
+    let n = part_length a.bytes.now c.in-Bytes.start c.in-Bytes.size h.1 in
+    (omega (arith, h.0, c.requires.0), omega (arith, ap length r, n, c.requires.1))
 
 pub returns-in-Root : goal.returns-in-Root
 returns-in-Root c =
@@ -35,6 +30,4 @@ pub returns-in-Bytes : goal.returns-in-Bytes
 returns-in-Bytes c =
     let a = c.args in
     let e = sym c.in-Bytes.is ∙ c.settle.ensures in
-    let h = (settled_in a.used a.bytes.now a.path _ e).1 in
-    c.copy_within.ensures.after ∙ pasted a.bytes.now a.at c.in-Bytes.start c.in-Bytes.size _ (omega arith) h
-    ∙ ap (written a.bytes.now a.at) (path_bytes a.used a.bytes.now a.path _ _ e)
+    c.copy_on.ensures ∙ ap (written a.bytes.now a.at) (path_bytes a.used a.bytes.now a.path _ _ e)
