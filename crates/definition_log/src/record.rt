@@ -76,26 +76,40 @@ pub fn text_in(bytes: &[u8], start: u32, size: u32) -> &[u8]
     &behind[..behind.len().min(size as usize)]
 }
 
+// A record's first text, which lies in the bytes alone.
+pub fn first_text<'a>(words: &[u32], bytes: &'a [u8], r: u32) -> &'a [u8]
+    ensures { result.now ≡ first_text words.now bytes.now r }
+{
+    text_in(
+        bytes,
+        out_field(words, r, layout::TEXT_START),
+        out_field(words, r, layout::TEXT_LENGTH),
+    )
+}
+
+// A record's second text, which lies in the bytes alone.
+pub fn second_text<'a>(words: &[u32], bytes: &'a [u8], r: u32) -> &'a [u8]
+    ensures { result.now ≡ second_text words.now bytes.now r }
+{
+    text_in(
+        bytes,
+        out_field(words, r, layout::SECOND_START),
+        out_field(words, r, layout::SECOND_LENGTH),
+    )
+}
+
 impl<'a> Log<'a> {
     // A record's first text.
     pub fn first_text(self, r: u32) -> &'a [u8]
         ensures { result.now ≡ first_text self.entry.words.now self.entry.bytes.now r }
     {
-        text_in(
-            self.bytes,
-            out_field(self.words, r, layout::TEXT_START),
-            out_field(self.words, r, layout::TEXT_LENGTH),
-        )
+        first_text(self.words, self.bytes, r)
     }
 
     // A record's second text.
     pub fn second_text(self, r: u32) -> &'a [u8]
         ensures { result.now ≡ second_text self.entry.words.now self.entry.bytes.now r }
     {
-        text_in(
-            self.bytes,
-            out_field(self.words, r, layout::SECOND_START),
-            out_field(self.words, r, layout::SECOND_LENGTH),
-        )
+        second_text(self.words, self.bytes, r)
     }
 }
