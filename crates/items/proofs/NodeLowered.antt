@@ -1,10 +1,11 @@
 -- A node by where it goes: its body lowered there, or in a log of its own, or not at all.
 use Prim.Native.Nat.{ℕ}
 use mathlib.Core.Path.{◌≡◌, refl, sym, ap, ◌∙◌}
-use mathlib.Core.Bool.{Bool, true, false, not}
+use mathlib.Core.Bool.{Bool, true, false}
 use mathlib.Core.List.{List, []}
+use mathlib.Core.Logic.{◌⊎◌, inl, inr}
 use Rattle.paths_numbers.specs.meaning.Path.{root}
-use Rattle.paths_numbers.proofs.Texts.{not_both, by_test}
+use Rattle.paths_numbers.proofs.Texts.{not_both}
 use Rattle.making.specs.declared.ctx.LowerCtx.{LowerCtx}
 use Rattle.making.specs.declared.place.PathAt.{PathAt}
 use Rattle.making.specs.declared.place.PathAt.TheVariants as P
@@ -17,11 +18,11 @@ use Rattle.making.proofs.InHand.{forget_place, root_place}
 use Rattle.queries.specs.meaning.Kind.{sets_overlay}
 use Rattle.paths_numbers.specs.meaning.Lists.{any}
 use Rattle.input.specs.meaning.Tree.{Trees}
-use Rattle.items.specs.meaning.Lower.{Place, at, aside, discarded, nowhere, place_of, lower_placed, lower_node}
+use Rattle.items.specs.meaning.Lower.{place_of, lower_placed, lower_node}
 use Rattle.input.specs.meaning.Input.{span_at}
 use Rattle.input.specs.machine.PhandleRead.{label_at, path_at}
 use Rattle.resolving.specs.machine.Lowers.{LowersAt}
-use Rattle.items.specs.machine.NodePlaced.{drops, PlacedTo, PlacesIn}
+use Rattle.items.specs.machine.NodePlaced.{PlacedTo, PlacesIn}
 use Rattle.items.specs.declared.dt_node.NodePlace.{NodePlace}
 use Rattle.items.specs.declared.dt_node.NodePlace.TheVariants as N
 use Rattle.items.specs.declared.dt_node.PlacedNode.{PlacedNode}
@@ -62,23 +63,24 @@ module _ {parent : PathAt} {c : LowerCtx} {words bytes w₁ b₁ input text : Li
       }
 
   -- a body that is dropped
-  dropped_there : (l : Place) (u : State) → drops u.defs l ≡ true → lower_placed l parts span body u ≡ dropped u (body root (apart u))
-  dropped_there (aside t ref_span) u e =
-      by_test (sets_overlay u.defs) (λ y. absurd (not_both e (ap not y))) (λ y. rw y refl)
-  dropped_there discarded u e = refl
-  dropped_there (at p) u e = absurd (not_both e refl)
-  dropped_there nowhere u e = absurd (not_both e refl)
+  dropped_there : ((r : ℕ) × (kind : MirPhandleTarget) × (v.node ≡ N.Dropped r kind)) ⊎ (v.node ≡ N.Discarded)
+      → (k : Context) (p : List ℕ) (s : State) → Represents (with_place (record { at = parent; path = p }) k) c words bytes s
+      → ((u : State) → u.defs ≡ s.defs → lower_placed (place_of p parts span s).place parts span body u ≡ dropped u (body root (apart u)))
+      × Represents (with_place (record { at = parent; path = p }) k) v.ctx w₁ b₁ (emit (place_of p parts span s).reports s)
+  dropped_there (inl x) k p s m = let h = placed_as_lem x.2 k p s m in (λ u o. rw (h.0, o, h.1) refl, h.2)
+  dropped_there (inr e) k p s m = let h = placed_as_lem e k p s m in (λ u o. rw h.0 refl, h.1)
 
   -- in a log that is dropped
-  pub node_discarded : {i d f : LowerCtx} {w₂ b₂ w b : List ℕ} → v.node ≡ N.Discarded → Enters v.ctx i false
+  pub node_discarded : {i d f : LowerCtx} {w₂ b₂ w b : List ℕ}
+      → ((r : ℕ) × (kind : MirPhandleTarget) × (v.node ≡ N.Dropped r kind)) ⊎ (v.node ≡ N.Discarded) → Enters v.ctx i false
       → LowersAt P.Root i d w₁ b₁ w₂ b₂ body → LeavesDropped d f v.ctx w₂ b₂ w b
       → LowersAt parent c f words bytes w b (λ p s. lower_node p parts span body s)
   unfolding lower_node emit
   node_discarded e en lo le =
       record {
         lowers = λ k p s r.
-            let h = placed_as_lem e k p s r in
-            rw (dropped_there (place_of p parts span s).place (emit (place_of p parts span s).reports s) h.0)
+            let h = dropped_there e k p s r in
+            rw (h.0 (emit (place_of p parts span s).reports s) refl)
             (le.leaves (with_place (record { at = parent; path = p }) k) _ _
             (enters_apart en lo (with_place (record { at = parent; path = p }) k) _ (λ t. absurd (not_both t refl)) h.1));
       }

@@ -27,7 +27,7 @@ use Rattle.resolving.specs.machine.Lowers.{Lowers}
 use Rattle.input.specs.machine.NameRead.{is_there}
 use Rattle.items.specs.machine.Opened.{OpensAt}
 use Rattle.items.specs.machine.PropertyMade.{is_top}
-use Rattle.items.specs.machine.NodePlaced.{drops, PlacedTo, Places, PlacesIn}
+use Rattle.items.specs.machine.NodePlaced.{PlacedTo, Places, PlacesIn}
 use Rattle.items.specs.declared.open_node.Opened.{Opened}
 use Rattle.items.specs.declared.dt_node.NodePlace.{NodePlace}
 use Rattle.items.specs.declared.dt_node.NodePlace.TheVariants as N
@@ -55,7 +55,13 @@ module _ (k : Context) (w b input text : List ℕ) (parts : Trees) (span : Span)
     subst (λ (u : State). Represents k d w b u) (reported_first ds l m s f)
         h.2,
   )
-  placed_after N.Discarded h = (ap (drops s.defs) (sym e) ∙ h.0, subst (λ (u : State). Represents k d w b u) (reported_first ds l m s f) h.1)
+  placed_after (N.Dropped r kind) h = (
+    sym e ∙ h.0,
+    h.1,
+    subst (λ (u : State). Represents k d w b u) (reported_first ds l m s f)
+        h.2,
+  )
+  placed_after N.Discarded h = (sym e ∙ h.0, subst (λ (u : State). Represents k d w b u) (reported_first ds l m s f) h.1)
   placed_after N.Nowhere h = (sym e ∙ h.0, subst (λ (u : State). Represents k d w b u) (reported_first ds l m s f) h.1)
 
 module _ {parent : PathAt} {c : LowerCtx} {words bytes w b input text : List ℕ} {parts : Trees} {span : Span} where

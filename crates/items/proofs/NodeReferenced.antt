@@ -1,7 +1,7 @@
 -- Where a node goes by its reference: to the path that it leads to, or aside.
 use Prim.Native.Nat.{ℕ}
 use mathlib.Core.Path.{◌≡◌, refl, sym, ap, subst, ◌∙◌}
-use mathlib.Core.Bool.{Bool, false, not, cond}
+use mathlib.Core.Bool.{Bool, false, cond}
 use mathlib.Core.List.{List, []}
 use mathlib.Core.Option.{some, none}
 use native.Mathlib.Omega.{arith}
@@ -171,7 +171,7 @@ pub place_missing : (c : LowerCtx) (words bytes : List ℕ) (v : Result Led Miss
     → PlacesIn parent c words bytes w b input text parts span
     (λ p s. by_resolution (record_at input text reference) (target_made kind (label_at input text reference) (path_at input text reference))
     s.defs (resolve (target_made kind (label_at input text reference) (path_at input text reference)) s.binds s.defs))
-    (record { node = cond keeps (N.Aside reference kind) N.Discarded; ctx = d })
+    (record { node = cond keeps (N.Aside reference kind) (N.Dropped reference kind); ctx = d })
 unfolding record_at
 place_missing c words bytes v m {parent} {keeps = keeps} input text reference kind bound g on keep re =
     let l = label_at input text reference in
@@ -183,7 +183,7 @@ place_missing c words bytes v m {parent} {keeps = keeps} input text reference ki
           let e = in_hand c words bytes (target_made kind l path) l path v bound g (with_place (record { at = parent; path = p }) k) s r z ∙ e₁ in
           let kept = sym (keep ∙ ap sets_overlay (represents_defs r z)) in
           let told = re.reports (with_place (record { at = parent; path = p }) k) s x.0 x.1 r z bound e₁ in
-          by_test keeps (λ y. rw (e, y) (refl, kept ∙ y, told)) (λ y. rw (e, y) (ap not (kept ∙ y), told));
+          by_test keeps (λ y. rw (e, y) (refl, kept ∙ y, told)) (λ y. rw (e, y) (refl, kept ∙ y, told));
     }
 
 -- a reference by what it was read as

@@ -36,13 +36,14 @@ use paths_numbers::phandle::MirPhandleTarget;
 use queries::mir::sets_overlay_in;
 use resolving::resolve::{report_unresolved, resolve_phandle};
 
-// Where a node goes before its body is lowered: to the place of its path; to a log of its own that is
-// kept for the reference of a record, of this kind; to a log of its own that is dropped; or nowhere, and
-// then nothing below is lowered.
+// Where a node goes before its body is lowered: to the place of its path; to a log of its own for the
+// reference of a record, of this kind, which is kept, or which is dropped; to a log of its own that is
+// dropped, with no reference; or nowhere, and then nothing below is lowered.
 #[derive(Clone, Copy, Debug, PartialEq, Eq)]
 pub enum NodePlace {
     At(PathAt),
     Aside(u32, MirPhandleTarget),
+    Dropped(u32, MirPhandleTarget),
     Discarded,
     Nowhere,
 }
@@ -129,7 +130,7 @@ fn place_resolved(
             let node = if keeps {
                 NodePlace::Aside(reference, kind)
             } else {
-                NodePlace::Discarded
+                NodePlace::Dropped(reference, kind)
             };
             PlacedNode { node, ctx: told }
         }

@@ -102,7 +102,7 @@ fn lower_dt_node(
                 words, text, number, reference, kind, out, bytes, apart, made,
             )
         }
-        NodePlace::Discarded => {
+        NodePlace::Dropped(..) | NodePlace::Discarded => {
             let inner = made.enter(false);
             let apart = lower_items(body, PathAt::Root, deeper, out, bytes, inner, level);
             apart.leave_dropped(out, bytes, made)

@@ -1,16 +1,16 @@
 -- Where the code puts a node before its body is lowered, and what the log says then.
-use Rattle.std.specs.Prelude.{ℕ, ◌≡◌, Bool, true, false, not, List, Result}
+use Rattle.std.specs.Prelude.{ℕ, ◌≡◌, true, false, List, Result}
 use Rattle.paths_numbers.specs.meaning.Text.{is_empty}
 use Rattle.making.specs.declared.ctx.LowerCtx.{LowerCtx}
 use Rattle.making.specs.declared.place.PathAt.{PathAt}
-use Rattle.definition_log.specs.meaning.Contents.{Span, Def}
+use Rattle.definition_log.specs.meaning.Contents.{Span}
 use Rattle.definition_log.specs.machine.Parts.{target_made}
 use Rattle.making.specs.meaning.State.{State, define, emit}
 use Rattle.making.specs.machine.Represents.{Context, with_place, Represents}
 use Rattle.queries.specs.meaning.Kind.{sets_overlay}
 use Rattle.input.specs.meaning.Tree.{Trees}
 use Rattle.resolving.specs.meaning.Resolve.{reaches}
-use Rattle.items.specs.meaning.Lower.{at, aside, discarded, nowhere, Place, Placed, opened}
+use Rattle.items.specs.meaning.Lower.{at, aside, discarded, nowhere, Placed, opened}
 use Rattle.input.specs.meaning.Input.{span_at}
 use Rattle.input.specs.machine.PhandleRead.{label_at, path_at}
 use Rattle.input.specs.machine.OfRecord.{parts_of, span_in}
@@ -25,13 +25,6 @@ use Rattle.items.specs.declared.dt_node.NodePlace.TheVariants as N
 use Rattle.items.specs.declared.dt_node.PlacedNode.{PlacedNode}
 use Rattle.items.specs.declared.open_node.Opened.{Opened}
 
--- whether a body is dropped that goes there, where the log in hand says these definitions
-abbrev pub drops : List Def → Place → Bool
-drops defs (aside t ref_span) = not (sets_overlay defs)
-drops defs discarded = true
-drops defs (at p) = false
-drops defs nowhere = false
-
 -- a log that said s: what is reported is made, and a node that goes to a path is opened there
 abbrev pub PlacedTo : Context → List ℕ → List ℕ → List ℕ → List ℕ → Trees → Span → State → LowerCtx → Placed → NodePlace → Type 0
 PlacedTo k w b input text parts span s d l (N.At place) =
@@ -40,7 +33,10 @@ PlacedTo k w b input text parts span s d l (N.At place) =
 PlacedTo k w b input text parts span s d l (N.Aside r kind) =
     (l.place ≡ aside (target_made kind (label_at input text r) (path_at input text r)) (span_at input r)) × (sets_overlay s.defs ≡ true)
     × Represents k d w b (emit l.reports s)
-PlacedTo k w b input text parts span s d l N.Discarded = (drops s.defs l.place ≡ true) × Represents k d w b (emit l.reports s)
+PlacedTo k w b input text parts span s d l (N.Dropped r kind) =
+    (l.place ≡ aside (target_made kind (label_at input text r) (path_at input text r)) (span_at input r)) × (sets_overlay s.defs ≡ false)
+    × Represents k d w b (emit l.reports s)
+PlacedTo k w b input text parts span s d l N.Discarded = (l.place ≡ discarded) × Represents k d w b (emit l.reports s)
 PlacedTo k w b input text parts span s d l N.Nowhere = (l.place ≡ nowhere) × Represents k d w b (emit l.reports s)
 
 -- a node that is opened, and one that goes nowhere

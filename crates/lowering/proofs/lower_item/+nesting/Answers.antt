@@ -38,8 +38,8 @@ lower_dt_node-lower_items-apart-requires t c =
       (rw (b.input, b.next) (contents_shallow c.args.node c.args.nesting h), rw (b.input, b.next) (body_good _ _ _ c.requires.good)),
     )
 
-pub lower_dt_node-lower_items-apart-requires-in-Discarded : goal.lower_dt_node-lower_items-apart-requires-in-Discarded
-lower_dt_node-lower_items-apart-requires-in-Discarded t c =
+pub lower_dt_node-lower_items-apart-requires-in-Dropped : goal.lower_dt_node-lower_items-apart-requires-in-Dropped
+lower_dt_node-lower_items-apart-requires-in-Dropped t c =
     let h = c.requires.shallow in
     let b = c.contents-body.ensures in (
       omega (arith, some_nesting c.args.node c.args.nesting h),
@@ -63,14 +63,14 @@ lower_dt_node-returns-in-Aside t c = node_aside
     (rw (c.contents-body.ensures.input, c.contents-body.ensures.next) at c.lower_items-apart.ensures)
     c.settle_aside.ensures
 
-pub lower_dt_node-returns-in-Discarded : goal.lower_dt_node-returns-in-Discarded
-lower_dt_node-returns-in-Discarded t c = node_discarded
+pub lower_dt_node-returns-in-Dropped : goal.lower_dt_node-returns-in-Dropped
+lower_dt_node-returns-in-Dropped t c = node_discarded
     (λ q u. lower_items c.args.level (contents_of c.args.node) q u)
     c.if-ctx.false
     c.place_node-placed.ensures
-    c.in-Discarded.is
-    c.enter-inner-in-Discarded.ensures
-    (rw (c.contents-body.ensures.input, c.contents-body.ensures.next) at c.lower_items-apart-in-Discarded.ensures)
+    c.in-Dropped.is
+    c.enter-inner-in-Dropped.ensures
+    (rw (c.contents-body.ensures.input, c.contents-body.ensures.next) at c.lower_items-apart-in-Dropped.ensures)
     c.leave_dropped.ensures
 
 pub lower_dt_node-returns-in-Nowhere : goal.lower_dt_node-returns-in-Nowhere
