@@ -1,14 +1,14 @@
 -- Powers of 100, and the two digits of a byte.
 use Prim.Native.Nat.{ℕ, zero, suc, ◌+◌, ◌-◌, ◌*◌, ◌/◌, ◌%◌, ◌^◌, ◌≤◌, ◌<◌}
-use mathlib.Core.Path.{◌≡◌, refl, ap, ap₂, ◌∙◌}
+use mathlib.Core.Path.{◌≡◌, refl, sym, ap, ap₂, ◌∙◌}
 use mathlib.Core.Bool.{Bool, true, false, not, cond}
 use native.Mathlib.Nat.{mod-lt, div-add-mod', add-zero, add-suc, pow-suc}
 use native.Mathlib.Numerals.{add-one}
 use native.Mathlib.Omega.{arith}
-use borrow.Author.Tests.{leb-true, le-leb}
+use borrow.Author.Tests.{leb-true, le-leb, ltb-true, ltb-false, lt-ltb, le-ltb, ne_eqb}
 use lib.Arith.{digits_div, digits_mod}
-use lib.Dec.{eqb, leb, lit<}
-use Rattle.paths_numbers.proofs.Texts.{both}
+use lib.Dec.{eqb, leb, ltb, lit<}
+use Rattle.paths_numbers.proofs.Texts.{both, by_test}
 use Rattle.boxes.specs.meaning.Box.{is_packed, is_length, two_digits, pack, hundreds}
 
 pub hundreds_pos : (k : ℕ) → 0 < hundreds k
@@ -90,3 +90,28 @@ length_most k e = leb-true k 8 (both (not (eqb k 0)) (leb k 8) (turned (eqb k 0)
     turned : (t : Bool) → cond t false (leb k 8) ≡ true → cond (not t) (leb k 8) false ≡ true
     turned true h = h
     turned false h = h
+
+-- a number fits so many bytes if it fits them without its last two digits and without the last byte
+pub fits_less : (n k : ℕ) → 0 < k → ltb n (hundreds k) ≡ ltb (n / 100) (hundreds (k - 1))
+fits_less n k p = by_test (ltb (n / 100) (hundreds (k - 1))) good bad
+  where
+    more : hundreds k ≡ hundreds (k - 1) * 100
+    more = let e : k - 1 + 1 ≡ k = omega arith in sym (ap hundreds e) ∙ grows (k - 1)
+
+    good : ltb (n / 100) (hundreds (k - 1)) ≡ true → ltb n (hundreds k) ≡ ltb (n / 100) (hundreds (k - 1))
+    good t = lt-ltb n (hundreds k) (omega (arith, ltb-true (n / 100) (hundreds (k - 1)) t, more)) ∙ sym t
+
+    bad : ltb (n / 100) (hundreds (k - 1)) ≡ false → ltb n (hundreds k) ≡ ltb (n / 100) (hundreds (k - 1))
+    bad t = le-ltb n (hundreds k) (omega (arith, ltb-false (n / 100) (hundreds (k - 1)) t, more)) ∙ sym t
+
+-- 0 fits any bytes, and nothing else fits none
+pub zero_fits : (n k : ℕ) → n ≡ 0 → ltb n (hundreds k) ≡ true
+zero_fits n k e = lt-ltb n (hundreds k) (omega (arith, hundreds_pos k))
+
+pub fits_none : (n k : ℕ) → k ≤ 0 → ltb n (hundreds k) ≡ eqb n 0
+unfolding hundreds
+fits_none n k h = let z : k ≡ 0 = omega arith in ap (λ (j : ℕ). ltb n (hundreds j)) z ∙ below_one n
+  where
+    below_one : (m : ℕ) → ltb m 1 ≡ eqb m 0
+    below_one zero = refl
+    below_one (suc m) = le-ltb (suc m) 1 (omega arith) ∙ sym (ne_eqb (suc m) 0 (λ (e : suc m ≡ 0). omega arith))

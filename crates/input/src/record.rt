@@ -4,7 +4,7 @@ ghost use Rattle.input.specs.meaning.Tree.{has};
 ghost use Rattle.input.specs.meaning.Input.{field, kind_at, next_at, child_at, w_at, second_at, number_at, span_at, text_at};
 ghost use Rattle.input.specs.machine.ChainLeft.{trees_over};
 ghost use Rattle.definition_log.specs.machine.Parts.{meant};
-ghost use Rattle.input.specs.machine.Read.{FirstOf};
+ghost use Rattle.input.specs.machine.Read.{after_at, FirstOf};
 ghost use Rattle.input.specs.machine.OfRecord.{kind_in, span_in, text_in};
 
 use crate::layout;
@@ -32,6 +32,16 @@ pub fn next_at(words: &[u32], r: u32) -> u32
     ensures { result ≡ next_at words.now r }
 {
     field(words, r, layout::NEXT)
+}
+
+// The record that follows in its chain, 0 behind the last and behind none.
+pub fn after(words: &[u32], r: u32) -> u32
+    ensures { result ≡ after_at words.now r }
+{
+    if r == 0 {
+        return 0;
+    }
+    next_at(words, r)
 }
 
 // The first of a record's children, 0 where it has none.

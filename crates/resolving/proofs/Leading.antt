@@ -374,10 +374,9 @@ module _ {v : Result Led Missing} {l p : List ℕ} {span : Span} {c d : LowerCtx
               rw (t, ← x, ← y, ← g k s h n i) (f.steps k s h n);
         }
 
--- no report is asked of one that leads somewhere
-reports_never : {v : Result Led Missing} {l p : List ℕ} {span : Span} {c : LowerCtx} {words bytes q : List ℕ}
-    → resolution words bytes l p v ≡ reaches q → ReportsMissing v l p span c c words bytes words bytes
-reports_never r = record { reports = λ k s code text h n i e. let z : ◌≡◌ {A = ℕ} 0 1 = cc in absurd (omega arith) }
+  -- no report is asked of one that leads somewhere
+  pub reports_never : (q : List ℕ) → resolution words bytes l p v ≡ reaches q → ReportsMissing v l p span c d words bytes w b
+  reports_never q r = record { reports = λ k s code text h n i e. let z : ◌≡◌ {A = ℕ} 0 1 = cc in absurd (omega arith) }
 
 -- the text of a path below a binding's
 pub below_text : {k : Context} {c : LowerCtx} {words bytes : List ℕ} {s : State} (r : ℕ) {l : List ℕ} (p : List ℕ)
@@ -415,7 +414,7 @@ module _ {v : Result Led Missing} {l p : List ℕ} {span : LogSpan} {c d : Lower
 module _ {v : Result Led Missing} {l p : List ℕ} {span : Span} {c : LowerCtx} {words bytes : List ℕ} where
   pub missing_none : (to : Led) → v ≡ Ok to → ReportsMissing v l p span c c words bytes words bytes
   unfolding resolution
-  missing_none (R.Bound r) e = rw e (reports_never refl)
-  missing_none (R.BoundPath r) e = rw e (reports_never refl)
-  missing_none R.AtPath e = rw e (reports_never refl)
-  missing_none (R.Node r) e = rw e (reports_never refl)
+  missing_none (R.Bound r) e = rw e (reports_never _ refl)
+  missing_none (R.BoundPath r) e = rw e (reports_never _ refl)
+  missing_none R.AtPath e = rw e (reports_never _ refl)
+  missing_none (R.Node r) e = rw e (reports_never _ refl)

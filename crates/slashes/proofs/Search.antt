@@ -7,11 +7,13 @@ use Rattle.std.proofs.lemmas.Iterator.Adapters.{position_from-zero}
 use Rattle.std.specs.Prelude.{Option, Some, None, option_map, position}
 use Rattle.std.specs.List.{position_from}
 use mathlib.Core.List.{List, [], ◌∷◌, ◌++◌, map}
+use native.Mathlib.Numerals.{add-one}
 use native.Mathlib.Omega.{arith}
+use borrow.Author.Tests.{eq-eqb, ne_eqb}
 use lib.Count.{count_trailing_zeros}
 use lib.Dec.{eqb}
-use lib.ListN.{length, take, drop, take-append-drop, length-drop, drop_of_length-le}
-use lib.Seq.{drop-drop, length-take-le}
+use lib.ListN.{length, take, drop, get_or, take-append-drop, length-drop, drop_of_length-le}
+use lib.Seq.{drop-cons, drop-drop, length-take-le}
 use Rattle.slashes.specs.meaning.Slash.{slash, first_from, next_slash}
 use Rattle.slashes.specs.machine.Word.{Loaded, Marked, word, mark_of}
 use Rattle.slashes.proofs.Zeros.{before, digits_of, zeros_before}
@@ -50,6 +52,16 @@ module _ (s : List ℕ) (i n : ℕ) where
   block_missed e h =
       ap (first_from i) (sym (take-append-drop n (drop i s))) ∙ past_block (take n (drop i s)) (drop n (drop i s)) i (omega arith)
       ∙ ap (λ (k : ℕ). first_from (i + k) (drop n (drop i s))) e ∙ ap (first_from (i + n)) (drop-drop n i s)
+
+-- at the first byte, or behind it
+module _ (s : List ℕ) (i : ℕ) where
+  pub here : i < length s → get_or s i 0 ≡ slash → next_slash s i ≡ Some i
+  unfolding next_slash first_from
+  here h e = rw (drop-cons s i 0 h) (simp (eq-eqb _ _ e))
+
+  pub later : i < length s → (get_or s i 0 ≡ slash → ⊥) → next_slash s i ≡ next_slash s (i + 1)
+  unfolding next_slash first_from
+  later h e = rw (drop-cons s i 0 h, add-one) (simp (ne_eqb _ _ e))
 
 -- the search a byte at a time, and behind the end
 by_position : (s : List ℕ) (i j : ℕ) → first_from (i + j) s ≡ option_map (λ k. i + k) (position_from (λ b. b == slash) j s)

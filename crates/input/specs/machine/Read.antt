@@ -1,13 +1,17 @@
 -- What the reading functions answer, as the trees and texts that it stands for.
-use Rattle.std.specs.Prelude.{ℕ, ◌≡◌, ◌<◌, List, Some, None}
+use Rattle.std.specs.Prelude.{ℕ, ◌≡◌, ◌<◌, cond, List, Some, None, eqb}
 use Rattle.std.specs.Prelude.{Option as Maybe}
 use Rattle.std.specs.Option.{ForSome}
 use Rattle.std.proofs.Math.Option.{Option, some, none}
 use Rattle.input.specs.meaning.Tree.{Tree, first_of}
-use Rattle.input.specs.meaning.Input.{record_count, kind_at}
+use Rattle.input.specs.meaning.Input.{record_count, kind_at, next_at}
 use Rattle.input.specs.machine.At.{record_at}
 use Rattle.input.specs.machine.ChainLeft.{trees_over}
 use Rattle.input.specs.declared.linked.Chain.{Chain}
+
+-- the record behind r in its chain, 0 behind none
+abbrev pub after_at : List ℕ → ℕ → ℕ
+after_at words r = cond (eqb r 0) 0 (next_at words r)
 
 -- the tree of a record, none of none
 abbrev pub optional : List ℕ → List ℕ → Maybe ℕ → Option Tree
