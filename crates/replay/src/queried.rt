@@ -2,9 +2,8 @@
 // definition's place in the main log, from 0.
 use crate::tally::Tally;
 use definition_log::answer::{Numbers, Refusal};
-use definition_log::chain::chain;
 use definition_log::layout;
-use definition_log::record::{Log, log_count, out_field};
+use definition_log::record::{Log, log_count, next_of, out_field};
 use queries::query::{contains_node, history, iter_live_defs_under};
 use std::io;
 
@@ -54,15 +53,16 @@ fn places<R: Print>(
     Ok(())
 }
 
-// A definition's place in the main log; of 0, which ends the chain, the place of that end; else a number behind the last place.
+// A definition's place in the main log, or a number behind the last place.
+// kept: a walk along any links, and no `chain`: a list may name what ends it, and what is left of an older log may lead anywhere.
 fn place_of(out: &[u32], number: u32) -> u32 {
-    let first = out_field(out, 0, layout::FIRST_DEFINITION);
-    let place = match number {
-        0 => Some(chain(out, first).count()),
-        _ => chain(out, first).position(|r| r == number),
-    };
-    match place {
-        Some(place) => u32::try_from(place).unwrap_or(u32::MAX),
-        None => log_count(out),
+    let most = log_count(out);
+    let mut r = out_field(out, 0, layout::FIRST_DEFINITION);
+    for place in 0..most {
+        if r == number {
+            return place;
+        }
+        r = next_of(out, r);
     }
+    most
 }
